@@ -1,0 +1,12 @@
+-- `golay::table::patterns` meets its contract: the constant is the list whose rule is proved in proofs/Rule.antt.
+-- Assumes nothing.
+use Rattle.golay.proofs.Rule.{patterns, patterns-right}
+use Rattle.golay.proofs.table.patterns.Statement.{statement}
+use Rattle.golay.proofs.table.patterns.Tie as tie
+
+returns : tie.Need-returns
+unfolding patterns
+returns c = patterns-right
+
+pub patterns-spec : {M : Type 1} → statement M
+patterns-spec = tie.close (tie.spec returns)

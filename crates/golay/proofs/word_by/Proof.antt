@@ -1,0 +1,29 @@
+use borrow.Author.Needs.{needs}
+use Rattle.golay.proofs.word_by.Statement.{statement}
+use Rattle.golay.proofs.word_by.Tie as tie
+use Rattle.golay.proofs.word_by.Reads as reads
+use Rattle.golay.proofs.word_by.Lts as lts
+use Rattle.golay.proofs.code.corrected.Reads as corrected-reads
+use Rattle.golay.proofs.code.data_word.Reads as data-word-reads
+
+corrected-requires : tie.Need-corrected-requires
+corrected-requires c κs = search needs
+
+data-word-requires : tie.Need-data-word-requires
+data-word-requires c κs = search needs
+
+returns : tie.Need-returns
+returns c = ?
+
+cast-t10 : tie.Need-cast-t10
+cast-t10 c = search needs
+
+cast-t11 : tie.Need-cast-t11
+cast-t11 c = search needs
+
+returns-2 : tie.Need-returns-2
+returns-2 c = ?
+
+pub word-by-spec : {M : Type 1} → statement M
+word-by-spec =
+    tie.close (tie.spec corrected-requires data-word-requires returns cast-t10 cast-t11 returns-2)

@@ -1,0 +1,22 @@
+use borrow.Author.Needs.{needs}
+use Rattle.golay.proofs.write_word.Statement.{statement}
+use Rattle.golay.proofs.write_word.Tie as tie
+use Rattle.golay.proofs.write_word.Reads as reads
+use Rattle.golay.proofs.write_word.Lts as lts
+use Rattle.golay.proofs.code.data_word.Reads as data-word-reads
+use Rattle.golay.proofs.table.checks.Reads as checks-reads
+
+returns : tie.Need-returns
+returns c = ?
+
+checks-requires : tie.Need-checks-requires
+checks-requires c κs = search needs
+
+data-word-requires : tie.Need-data-word-requires
+data-word-requires c κs = search needs
+
+returns-2 : tie.Need-returns-2
+returns-2 c = ?
+
+pub write-word-spec : {M : Type 1} → statement M
+write-word-spec = tie.close (tie.spec returns checks-requires data-word-requires returns-2)

@@ -1,0 +1,63 @@
+// The packet image (document 01, section 1; ETS 300 352, 4.3.6): its header number, its 91 bytes, its spare bit, and an
+// image made of a header number and 91 bytes. It knows no code and no state.
+//
+// unpack   the 728 bits after the header, set out one by one, and the bytes they make
+ghost use mathlib.Core.Path.{_≡_};
+ghost use Prim.Native.Nat.{_^_, _<_};
+ghost use lib.ListN.{length};
+ghost use Rattle.image.specs.Image.{headerOf, bytesOf, spareOf, imageOf};
+
+mod unpack;
+
+// Sizes of a packet, in bytes and bits.
+pub struct Packet {}
+
+impl Packet {
+    pub const IMAGE: usize = 94;
+    pub const HEADER_BITS: usize = 23;
+    pub const BYTES: usize = 91;
+    pub const BITS: usize = 728;
+}
+
+// The header's 23 bits: two bytes and seven bits of the third.
+pub fn header(image: &[u8]) -> u32
+    requires { ⌜ length (now image) ≡ 94 ⌝ }
+    ensures { λ r. ⌜ r ≡ headerOf (now (image .entry)) ⌝ }
+{
+    image[0] as u32 | (image[1] as u32) << 8 | (image[2] as u32 & 127) << 16
+}
+
+// Bit 751, which must be 0.
+pub fn spare(image: &[u8]) -> u8
+    requires { ⌜ length (now image) ≡ 94 ⌝ }
+    ensures { λ r. ⌜ r ≡ spareOf (now (image .entry)) ⌝ }
+{
+    image[93] >> 7
+}
+
+// The type byte and the 90 useful bytes.
+pub fn bytes(image: &[u8]) -> [u8; 91]
+    requires { ⌜ length (now image) ≡ 94 ⌝ }
+    ensures { λ r. ⌜ r ≡ bytesOf (now (image .entry)) ⌝ }
+{
+    let bits = unpack::set_out(image);
+    unpack::gathered(&bits)
+}
+
+// The image of a header and 91 bytes.
+pub fn image(header: u32, bytes: &[u8; 91]) -> [u8; 94]
+    requires { ⌜ header < 2 ^ 23 ⌝ }
+    ensures { λ r. ⌜ r ≡ imageOf header (now (bytes .entry)) ⌝ }
+{
+    let mut out = [0u8; 94];
+    out[0] = (header & 255) as u8;
+    out[1] = (header >> 8 & 255) as u8;
+    out[2] = (header >> 16) as u8 | (bytes[0] & 1) << 7;
+    let mut j = 0;
+    while j < 90 {
+        out[j + 3] = bytes[j] >> 1 | (bytes[j + 1] & 1) << 7;
+        j += 1;
+    }
+    out[93] = bytes[90] >> 1;
+    out
+}

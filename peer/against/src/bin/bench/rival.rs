@@ -1,0 +1,26 @@
+//! `second::fast` in the shape of the library's calls: answers go to lent places, as C wants it. Otherwise the shape of
+//! the call would be measured and not the work. Called through a pointer, it cannot be inlined, as the library cannot.
+
+use second::fast;
+use second::image::USEFUL;
+
+pub const READ_WORD: fn(u32, &mut u16, &mut u8) -> u8 = read_word;
+pub const RECEIVED: fn(bool, &[u8], &mut u8, &mut u8, &mut [u8; USEFUL]) -> u8 = received;
+
+fn read_word(n: u32, information: &mut u16, flips: &mut u8) -> u8 {
+    let number;
+    (number, *information, *flips) = fast::read_word(n);
+    number
+}
+
+fn received(
+    protected: bool,
+    image: &[u8],
+    place: &mut u8,
+    index: &mut u8,
+    bytes: &mut [u8; USEFUL],
+) -> u8 {
+    let number;
+    (number, *place, *index) = fast::received(protected, image, bytes);
+    number
+}

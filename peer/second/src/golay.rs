@@ -1,0 +1,119 @@
+//! The (23,12) code of packet headers (4.3.6.1.3) and the (24,12) code of protected data (8.3.2, 9.5.2).
+//!
+//! The first bit sent is the highest power of x, so a row of bits in sending order is already a row of coefficients
+//! with the highest power first: nothing has to be turned round.
+
+use crate::bits;
+use crate::division::remainder;
+use crate::numbers::{DONE, TOO_LARGE, WORD_UNREADABLE};
+use std::sync::OnceLock;
+
+/// The powers of x in G(x) = x^11 + x^10 + x^6 + x^5 + x^4 + x^2 + 1, as the standard prints it.
+const GENERATOR: [usize; 7] = [11, 10, 6, 5, 4, 2, 0];
+const ADDRESS_BITS: usize = 10;
+const INDEX_BITS: usize = 2;
+const INFORMATION_BITS: usize = ADDRESS_BITS + INDEX_BITS;
+const SUFFIX_BITS: usize = 11;
+const WORD23_BITS: usize = INFORMATION_BITS + SUFFIX_BITS;
+const WORD24_BITS: usize = WORD23_BITS + 1;
+/// Both codes put right up to three flips.
+const MOST_FLIPS: u8 = 3;
+
+/// The header word of twelve information bits: M(x) = x^11 m(x) + r(x).
+pub fn word23(information: u32) -> u32 {
+    bits::to_number(&row23(information))
+}
+
+/// The same with a 24th bit that makes the count of ones odd.
+pub fn word24(information: u32) -> u32 {
+    let mut row = row23(information);
+    let even = bits::ones(&row).is_multiple_of(2);
+    row.push(even);
+    bits::to_number(&row)
+}
+
+fn row23(information: u32) -> Vec<bool> {
+    assert!(fits(information, INFORMATION_BITS), "twelve bits");
+    let mut row = bits::of_number(information, INFORMATION_BITS);
+    let mut raised = row.clone();
+    raised.extend([false; SUFFIX_BITS]);
+    row.extend(remainder(&raised, &generator()));
+    row
+}
+
+fn generator() -> Vec<bool> {
+    let powers = (0..=SUFFIX_BITS).rev();
+    powers.map(|power| GENERATOR.contains(&power)).collect()
+}
+
+/// Reads a header as the word nearest to it: (number, address, index, flips).
+pub fn read_header(n: u32) -> (u8, u16, u8, u8) {
+    if !fits(n, WORD23_BITS) {
+        return (TOO_LARGE, 0, 0, 0);
+    }
+    let (information, flips) = nearest(words23(), n);
+    let row = bits::of_number(information, INFORMATION_BITS);
+    let (address, index) = row.split_at(ADDRESS_BITS);
+    let address = bits::to_number(address) as u16;
+    let index = bits::to_number(index) as u8;
+    (DONE, address, index, flips)
+}
+
+/// The header of an address and an index: (number, header).
+pub fn write_header(address: u32, index: u32) -> (u8, u32) {
+    if !fits(address, ADDRESS_BITS) || !fits(index, INDEX_BITS) {
+        return (TOO_LARGE, 0);
+    }
+    let mut row = bits::of_number(address, ADDRESS_BITS);
+    row.extend(bits::of_number(index, INDEX_BITS));
+    (DONE, word23(bits::to_number(&row)))
+}
+
+/// Reads 24 bits as the word within three flips, if there is one: (number, information, flips).
+pub fn read_word(n: u32) -> (u8, u16, u8) {
+    if !fits(n, WORD24_BITS) {
+        return (TOO_LARGE, 0, 0);
+    }
+    let (information, flips) = nearest(words24(), n);
+    if flips > MOST_FLIPS {
+        return (WORD_UNREADABLE, 0, 0);
+    }
+    (DONE, information as u16, flips)
+}
+
+/// The (24,12) word of an information: (number, word).
+pub fn write_word(information: u32) -> (u8, u32) {
+    if !fits(information, INFORMATION_BITS) {
+        return (TOO_LARGE, 0);
+    }
+    (DONE, word24(information))
+}
+
+fn fits(n: u32, count: usize) -> bool {
+    n >> count == 0
+}
+
+/// The information of the word with the fewest flips from `n`, and these flips.
+fn nearest(words: &[u32], n: u32) -> (u32, u8) {
+    let flips = |word: u32| (word ^ n).count_ones();
+    let all = (0u32..).zip(words);
+    let (information, &word) = all
+        .min_by_key(|&(_, &word)| flips(word))
+        .expect("there are words");
+    (information, flips(word) as u8)
+}
+
+/// All header words by their information. Kept, because every reading looks at all of them.
+fn words23() -> &'static [u32] {
+    static WORDS: OnceLock<Vec<u32>> = OnceLock::new();
+    WORDS.get_or_init(|| all(word23))
+}
+
+fn words24() -> &'static [u32] {
+    static WORDS: OnceLock<Vec<u32>> = OnceLock::new();
+    WORDS.get_or_init(|| all(word24))
+}
+
+fn all(word: fn(u32) -> u32) -> Vec<u32> {
+    (0..1 << INFORMATION_BITS).map(word).collect()
+}
