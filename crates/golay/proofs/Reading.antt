@@ -67,6 +67,12 @@ nearest23-lt n h =
     subst (λ (x : ℕ). x < 4096) (sym (corrected-is n _ h (patterns-right .each (remainder n) (remainder-small n h))))
     (mod-lt (bitXor n (getD patterns (remainder n) 0)) (lit< tt))
 
+-- what leaves no remainder is its own nearest word
+pub clean-nearest : (n : ℕ) → remainder n ≡ 0 → n ≡ word23 (nearest word23 n)
+clean-nearest n e =
+    none-word n e
+    ∙ ap word23 (sym (nearest-is word23 word23-apart n (n % 2 ^ 12) (mod-lt n (lit< tt)) (omega (arith, ap (λ (x : ℕ). flips x n) (none-word n e), flips-same n))))
+
 -- ---- 24 bits
 
 module _ (n : ℕ) where

@@ -3,9 +3,10 @@
 // code    what the calls are made of: check bits, remainder, the word nearest to a number
 // table   the 2,048 error patterns, one for each remainder
 ghost use mathlib.Core.Path.{_≡_};
-ghost use Prim.Native.Nat.{_^_, _<_};
+ghost use Prim.Native.Nat.{_^_, _<_, _≤_};
+ghost use Rattle.bits.specs.Bits.{flips};
 ghost use Rattle.golay.specs.Code.{word23, nearest, Patterns, Checks};
-ghost use Rattle.golay.specs.Bare.{headerRead, headerWritten, wordRead, wordWritten, typeRead, typeWritten};
+ghost use Rattle.golay.specs.Bare.{headerRead, headerWritten, wordRead, wordWritten, typeRead, typeAs, typeWritten};
 
 pub mod code;
 pub mod table;
@@ -181,5 +182,69 @@ pub fn write_word(information: u32) -> Written
     Written {
         number: 0,
         value: code::data_word(&checks, information),
+    }
+}
+
+// In how many bits two bytes differ.
+fn turned(value: u8, byte: u8) -> u32
+    ensures { λ r. ⌜ r ≡ flips value byte ⌝ }
+{
+    u8::count_ones(value ^ byte)
+}
+
+// 28: no type lies within two flips.
+pub fn read_type(byte: u8) -> TypeByte
+    ensures { λ r. ⌜ r ≡ typeRead byte ⌝ }
+{
+    let data = turned(TypeByte::DATA, byte);
+    if data <= TypeByte::CORRECTED {
+        return type_of(TypeByte::DATA, data);
+    }
+    let control = turned(TypeByte::CONTROL, byte);
+    if control <= TypeByte::CORRECTED {
+        return type_of(TypeByte::CONTROL, control);
+    }
+    let reserved = turned(TypeByte::RESERVED, byte);
+    if reserved <= TypeByte::CORRECTED {
+        return type_of(TypeByte::RESERVED, reserved);
+    }
+    let scrambled = turned(TypeByte::SCRAMBLED, byte);
+    if scrambled <= TypeByte::CORRECTED {
+        return type_of(TypeByte::SCRAMBLED, scrambled);
+    }
+    TypeByte {
+        number: 28,
+        value: 0,
+        flips: 0,
+    }
+}
+
+fn type_of(value: u8, flips: u32) -> TypeByte
+    requires { ⌜ flips ≤ 2 ⌝ }
+    ensures { λ r. ⌜ r ≡ typeAs value flips ⌝ }
+{
+    TypeByte {
+        number: 0,
+        value,
+        flips: flips as u8,
+    }
+}
+
+// 28: not one of the four values; nothing is corrected on writing.
+pub fn write_type(byte: u8) -> Written
+    ensures { λ r. ⌜ r ≡ typeWritten byte ⌝ }
+{
+    let open = (TypeByte::DATA == byte) | (TypeByte::CONTROL == byte);
+    let known = open | (TypeByte::RESERVED == byte) | (TypeByte::SCRAMBLED == byte);
+    if known {
+        Written {
+            number: 0,
+            value: byte as u32,
+        }
+    } else {
+        Written {
+            number: 28,
+            value: 0,
+        }
     }
 }

@@ -1,3 +1,7 @@
+use mathlib.Core.Path.{sym, _∙_}
+use native.Mathlib.Omega.{arith}
+use Rattle.golay.proofs.Bare.{header-large}
+use Rattle.golay.proofs.Reading.{clean-nearest}
 use borrow.Author.Needs.{needs}
 use Rattle.golay.proofs.read_header.Statement.{statement}
 use Rattle.golay.proofs.read_header.Tie as tie
@@ -10,7 +14,7 @@ use Rattle.golay.proofs.table.checks.Reads as checks-reads
 use Rattle.golay.proofs.table.patterns.Reads as patterns-reads
 
 returns : tie.Need-returns
-returns c = ?
+returns c = sym (header-large (c .before .args .n) (c .if1 .taken))
 
 checks-requires : tie.Need-checks-requires
 checks-requires c κs = search needs
@@ -19,7 +23,7 @@ remainder-requires : tie.Need-remainder-requires
 remainder-requires c κs = search needs
 
 header-of-requires : tie.Need-header-of-requires
-header-of-requires c κs = ?
+header-of-requires c κs = (c .before .before .before .before .if1 .left, clean-nearest (c .before .before .before .before .before .args .n) (sym (c .before .remainder .ensures) ∙ c .if2 .taken))
 
 returns-2 : tie.Need-returns-2
 returns-2 c = search needs

@@ -1,3 +1,6 @@
+use mathlib.Core.Path.{sym, _∙_}
+use native.Mathlib.Omega.{arith}
+use Rattle.golay.proofs.Bare.{word-large, word-clean}
 use borrow.Author.Needs.{needs}
 use Rattle.golay.proofs.read_word.Statement.{statement}
 use Rattle.golay.proofs.read_word.Tie as tie
@@ -9,7 +12,7 @@ use Rattle.golay.proofs.table.patterns.Reads as patterns-reads
 use Rattle.golay.proofs.word_by.Reads as word-by-reads
 
 returns : tie.Need-returns
-returns c = ?
+returns c = sym (word-large (c .before .args .n) (c .if1 .taken))
 
 checks-requires : tie.Need-checks-requires
 checks-requires c κs = search needs
@@ -21,7 +24,7 @@ cast-t10 : tie.Need-cast-t10
 cast-t10 c = search needs
 
 returns-2 : tie.Need-returns-2
-returns-2 c = ?
+returns-2 c = sym (word-clean (c .before .before .before .before .before .args .n) (c .before .before .before .before .if1 .left) (sym (c .before .check .ensures) ∙ c .if2 .taken))
 
 patterns-requires : tie.Need-patterns-requires
 patterns-requires c κs = search needs

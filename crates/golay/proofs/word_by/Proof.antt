@@ -1,3 +1,5 @@
+use mathlib.Core.Path.{sym}
+use Rattle.golay.proofs.Bare.{word-far, word-by}
 use borrow.Author.Needs.{needs}
 use Rattle.golay.proofs.word_by.Statement.{statement}
 use Rattle.golay.proofs.word_by.Tie as tie
@@ -13,7 +15,7 @@ data-word-requires : tie.Need-data-word-requires
 data-word-requires c κs = search needs
 
 returns : tie.Need-returns
-returns c = ?
+returns c = sym (word-far (c .before .before .before .before .args .n) (c .before .before .corrected .result) (c .before .data-word .result) (c .before .before .before .before .pre .1 .1) (c .before .before .corrected .ensures) (c .before .data-word .ensures) (c .if1 .taken))
 
 cast-t10 : tie.Need-cast-t10
 cast-t10 c = search needs
@@ -22,7 +24,7 @@ cast-t11 : tie.Need-cast-t11
 cast-t11 c = search needs
 
 returns-2 : tie.Need-returns-2
-returns-2 c = ?
+returns-2 c = sym (word-by (c .before .before .before .before .args .n) (c .before .before .corrected .result) (c .before .data-word .result) (c .before .before .before .before .pre .1 .1) (c .before .before .corrected .ensures) (c .before .data-word .ensures) (c .if1 .left))
 
 pub word-by-spec : {M : Type 1} → statement M
 word-by-spec =

@@ -1,3 +1,6 @@
+use mathlib.Core.Path.{sym, ap, _∙_}
+use native.Mathlib.Omega.{arith}
+use Rattle.golay.proofs.Bare.{header-address, header-index, header-written}
 use borrow.Author.Needs.{needs}
 use Rattle.golay.proofs.write_header.Statement.{statement}
 use Rattle.golay.proofs.write_header.Tie as tie
@@ -7,10 +10,10 @@ use Rattle.golay.proofs.code.header_word.Reads as header-word-reads
 use Rattle.golay.proofs.table.checks.Reads as checks-reads
 
 returns : tie.Need-returns
-returns c = ?
+returns c = sym (header-address (c .before .args .address) (c .before .args .index) (omega arith))
 
 returns-2 : tie.Need-returns-2
-returns-2 c = ?
+returns-2 c = sym (header-index (c .before .before .args .address) (c .before .before .args .index) (omega arith) (omega arith))
 
 checks-requires : tie.Need-checks-requires
 checks-requires c κs = search needs
@@ -25,7 +28,7 @@ header-word-requires : tie.Need-header-word-requires
 header-word-requires c κs = search needs
 
 returns-3 : tie.Need-returns-3
-returns-3 c = ?
+returns-3 c = (λ j. record { number = 0; value = c .header-word .ensures j }) ∙ sym (header-written (c .before .before .before .before .before .args .address) (c .before .before .before .before .before .args .index) (omega arith) (omega arith))
 
 pub write-header-spec : {M : Type 1} → statement M
 write-header-spec =

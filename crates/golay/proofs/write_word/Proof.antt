@@ -1,3 +1,6 @@
+use mathlib.Core.Path.{sym, ap, _∙_}
+use native.Mathlib.Omega.{arith}
+use Rattle.golay.proofs.Bare.{word-much, word-written}
 use borrow.Author.Needs.{needs}
 use Rattle.golay.proofs.write_word.Statement.{statement}
 use Rattle.golay.proofs.write_word.Tie as tie
@@ -7,7 +10,7 @@ use Rattle.golay.proofs.code.data_word.Reads as data-word-reads
 use Rattle.golay.proofs.table.checks.Reads as checks-reads
 
 returns : tie.Need-returns
-returns c = ?
+returns c = sym (word-much (c .before .args .information) (c .if1 .taken))
 
 checks-requires : tie.Need-checks-requires
 checks-requires c κs = search needs
@@ -16,7 +19,7 @@ data-word-requires : tie.Need-data-word-requires
 data-word-requires c κs = search needs
 
 returns-2 : tie.Need-returns-2
-returns-2 c = ?
+returns-2 c = (λ j. record { number = 0; value = c .data-word .ensures j }) ∙ sym (word-written (c .before .before .before .before .args .information) (c .before .before .before .if1 .left))
 
 pub write-word-spec : {M : Type 1} → statement M
 write-word-spec = tie.close (tie.spec returns checks-requires data-word-requires returns-2)

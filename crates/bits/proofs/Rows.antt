@@ -1,0 +1,41 @@
+-- Laws of the orders of refusal: which row is hit, and that a call is refused exactly when a row holds.
+--
+--   refusal-hit, refusal-miss     the first row, by its test
+--   refused-holds, holds-refused  refused exactly when a row holds, where no row gives 0
+--
+-- Assumes nothing.
+use mathlib.Core.Path.{_≡_, refl, sym, ap, _∙_, subst}
+use mathlib.Core.Bool.{Bool, true, false, cond}
+use mathlib.Core.List.{List, [], _∷_}
+use mathlib.Core.Logic.{_⊎_, inl, inr}
+use Prim.Native.Nat.{ℕ, zero, suc, _<_}
+use Rattle.bits.specs.Rows.{Row, row, refusal, given}
+
+pub refusal-hit : (t : Bool) (n : ℕ) (rest : List Row) → t ≡ true → refusal (row t n ∷ rest) ≡ n
+unfolding refusal
+refusal-hit t n rest e = ap (λ (b : Bool). cond b n (refusal rest)) e
+
+pub refusal-miss : (t : Bool) (n : ℕ) (rest : List Row) → t ≡ false → refusal (row t n ∷ rest) ≡ refusal rest
+unfolding refusal
+refusal-miss t n rest e = ap (λ (b : Bool). cond b n (refusal rest)) e
+
+-- a row of the order holds, and none before it does
+pub data Holds : List Row → ℕ → Type 0 where
+  here : {n : ℕ} {rest : List Row} → Holds (row true n ∷ rest) n
+  later : {m n : ℕ} {rest : List Row} → Holds rest n → Holds (row false m ∷ rest) n
+
+pub holds-refused : {rows : List Row} {n : ℕ} → Holds rows n → refusal rows ≡ n
+unfolding refusal
+holds-refused here = refl
+holds-refused (later h) = holds-refused h
+
+-- "exactly when a row in its order holds, and with the first such; otherwise it is accepted"
+pub refused-exactly : (rows : List Row) → Holds rows (refusal rows) ⊎ (refusal rows ≡ 0)
+unfolding refusal
+refused-exactly [] = inr refl
+refused-exactly (row true n ∷ rest) = inl here
+refused-exactly (row false n ∷ rest) = go (refused-exactly rest)
+  where
+    go : Holds rest (refusal rest) ⊎ (refusal rest ≡ 0) → Holds (row false n ∷ rest) (refusal rest) ⊎ (refusal rest ≡ 0)
+    go (inl h) = inl (later h)
+    go (inr e) = inr e
