@@ -1,3 +1,6 @@
+pub mod Determined
 pub mod Every
 pub mod Flips
 pub mod Rows
+pub mod Runs
+pub mod Storing

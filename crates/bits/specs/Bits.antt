@@ -6,11 +6,12 @@
 --   number bs      the number that a run of bits is
 --   sent w ns      numbers of w bits each, sent one after the other
 --   taken w k bs   the first k numbers of w bits each in a run of bits
+--   blank n        n bytes of 0
 use Prim.Native.Nat.{ℕ, zero, suc, _+_, _*_, _/_, _%_}
 use mathlib.Core.List.{List, [], _∷_, _++_}
 use lib.Bits.{bitXor}
 use lib.Count.{ones}
-use lib.ListN.{take, drop}
+use lib.ListN.{take, drop, replicate}
 
 unfoldable pub flips : ℕ → ℕ → ℕ
 flips a b = ones (bitXor a b)
@@ -30,3 +31,6 @@ sent w (n ∷ ns) = bitsOf w n ++ sent w ns
 unfoldable pub taken : ℕ → ℕ → List ℕ → List ℕ
 taken w zero bs = []
 taken w (suc k) bs = number (take w bs) ∷ taken w k (drop w bs)
+
+unfoldable pub blank : ℕ → List ℕ
+blank n = replicate n 0

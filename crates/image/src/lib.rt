@@ -1,7 +1,7 @@
 // The packet image (document 01, section 1; ETS 300 352, 4.3.6): its header number, its 91 bytes, its spare bit, and an
 // image made of a header number and 91 bytes. It knows no code and no state.
 //
-// unpack   the 728 bits after the header, set out one by one, and the bytes they make
+// unpack   the 91 bytes, by way of the single bits
 ghost use mathlib.Core.Path.{_≡_};
 ghost use Prim.Native.Nat.{_^_, _<_};
 ghost use lib.ListN.{length};
@@ -14,8 +14,11 @@ pub struct Packet {}
 
 impl Packet {
     pub const IMAGE: usize = 94;
+
     pub const HEADER_BITS: usize = 23;
+
     pub const BYTES: usize = 91;
+
     pub const BITS: usize = 728;
 }
 
@@ -40,8 +43,7 @@ pub fn bytes(image: &[u8]) -> [u8; 91]
     requires { ⌜ length (now image) ≡ 94 ⌝ }
     ensures { λ r. ⌜ r ≡ bytesOf (now (image .entry)) ⌝ }
 {
-    let bits = unpack::set_out(image);
-    unpack::gathered(&bits)
+    unpack::bytes(image)
 }
 
 // The image of a header and 91 bytes.
@@ -49,15 +51,24 @@ pub fn image(header: u32, bytes: &[u8; 91]) -> [u8; 94]
     requires { ⌜ header < 2 ^ 23 ⌝ }
     ensures { λ r. ⌜ r ≡ imageOf header (now (bytes .entry)) ⌝ }
 {
+    made(header, *bytes)
+}
+
+// The same of bytes by value. Of an array that is lent the checker tells neither the length nor that its elements are
+// bytes; of one that is passed it tells both.
+fn made(header: u32, bytes: [u8; 91]) -> [u8; 94]
+    requires { ⌜ header < 2 ^ 23 ⌝ }
+    ensures { λ r. ⌜ r ≡ imageOf header bytes ⌝ }
+{
     let mut out = [0u8; 94];
     out[0] = (header & 255) as u8;
     out[1] = (header >> 8 & 255) as u8;
     out[2] = (header >> 16) as u8 | (bytes[0] & 1) << 7;
     let mut j = 0;
-    while j < 90 {
+    while j + 1 < Packet::BYTES {
         out[j + 3] = bytes[j] >> 1 | (bytes[j + 1] & 1) << 7;
         j += 1;
     }
-    out[93] = bytes[90] >> 1;
+    out[j + 3] = bytes[j] >> 1;
     out
 }

@@ -1,0 +1,159 @@
+-- The bare calls case by case: what each definition of specs/Bare.antt comes to where a row holds and where none does.
+--
+--   header-large, header-small, header-word    33; read as the nearest word
+--   header-address, header-index, header-written
+--   word-large, word-none, word-near, word-clean, word-far, word-by
+--   word-much, word-written
+--
+-- Assumes nothing.
+use mathlib.Core.Path.{_≡_, refl, sym, ap, ap₂, _∙_, subst}
+use mathlib.Core.Bool.{Bool, true, false}
+use mathlib.Core.List.{List, [], _∷_}
+use Prim.Native.Nat.{ℕ, _+_, _*_, _/_, _%_, _^_, _≤_, _<_}
+use native.Mathlib.Omega.{arith}
+use borrow.Author.Tests.{le-leb, lt-leb, lt-ltb, le-ltb}
+use lib.Bits.{bitXor, xor-comm}
+use lib.Count.{ones}
+use lib.Dec.{leb, ltb}
+use Rattle.bits.specs.Bits.{flips}
+use Rattle.bits.specs.Rows.{row, refusal, given}
+use Rattle.bits.proofs.Flips.{flips-same}
+use Rattle.bits.proofs.Rows.{refusal-hit, refusal-miss}
+use Rattle.bare.specs.Bare.{headerRead, headerWritten, wordRead, wordWritten}
+use Rattle.golay.specs.Code.{word23, word24, check, nearest}
+use Rattle.bare.specs.declared.Header.{Header}
+use Rattle.bare.specs.declared.Word.{Word}
+use Rattle.bare.specs.declared.Written.{Written}
+use Rattle.golay.proofs.Reading.{check-word24, nearest23-lt, nearest24-is, nearest24-none}
+use Rattle.golay.proofs.Words.{word23-first}
+
+-- ---- headers
+
+unfoldable pub headerAs : ℕ → ℕ → ℕ → Header
+headerAs answer i n = record {
+  number = answer;
+  address = given answer (i % 1024);
+  index = given answer (i / 1024);
+  flips = given answer (flips (word23 i) n)
+}
+
+header-answer : (n k : ℕ) → refusal (row (leb (2 ^ 23) n) 33 ∷ []) ≡ k → headerRead n ≡ headerAs k (nearest word23 n) n
+unfolding headerRead headerAs
+header-answer n k e = ap (λ (x : ℕ). headerAs x (nearest word23 n) n) e
+
+pub header-large : (n : ℕ) → 2 ^ 23 ≤ n → headerRead n ≡ record { number = 33; address = 0; index = 0; flips = 0 }
+unfolding headerAs given
+header-large n h = header-answer n 33 (refusal-hit (leb (2 ^ 23) n) 33 [] (le-leb (2 ^ 23) n h))
+
+-- below it the answer is 0, and the values are those of the nearest word
+pub header-small : (n : ℕ) → n < 2 ^ 23 → headerRead n ≡ headerAs 0 (nearest word23 n) n
+unfolding refusal
+header-small n h = header-answer n 0 (refusal-miss (leb (2 ^ 23) n) 33 [] (lt-leb (2 ^ 23) n h))
+
+-- the values from the nearest word itself
+pub header-word : (n w : ℕ) → n < 2 ^ 23 → w ≡ word23 (nearest word23 n)
+    → headerRead n ≡ record { number = 0; address = w % 1024; index = w / 1024 % 4; flips = ones (bitXor n w) }
+unfolding headerAs given flips
+header-word n w h e =
+    header-small n h ∙ (λ i. record { number = 0; address = address i; index = index i; flips = turned i })
+  where
+    information : nearest word23 n ≡ w % 2 ^ 12
+    information = sym (ap (λ (x : ℕ). x % 2 ^ 12) e ∙ word23-first (nearest word23 n) (nearest23-lt n h))
+    address : nearest word23 n % 1024 ≡ w % 1024
+    address = omega (arith, information)
+    index : nearest word23 n / 1024 ≡ w / 1024 % 4
+    index = omega (arith, information)
+    turned : ones (bitXor (word23 (nearest word23 n)) n) ≡ ones (bitXor n w)
+    turned = ap (λ (x : ℕ). ones (bitXor x n)) (sym e) ∙ ap ones (xor-comm w n)
+
+writtenAs : ℕ → ℕ → Written
+writtenAs answer v = record { number = answer; value = given answer v }
+
+header-written-answer : (a i k : ℕ) → refusal (row (ltb 1023 a) 33 ∷ row (ltb 3 i) 33 ∷ []) ≡ k
+    → headerWritten a i ≡ record { number = k; value = given k (word23 (a + 1024 * i)) }
+unfolding headerWritten writtenAs
+header-written-answer a i k e = ap (λ (x : ℕ). writtenAs x (word23 (a + 1024 * i))) e
+
+pub header-address : (a i : ℕ) → 1023 < a → headerWritten a i ≡ record { number = 33; value = 0 }
+unfolding given
+header-address a i h = header-written-answer a i 33 (refusal-hit (ltb 1023 a) 33 _ (lt-ltb 1023 a h))
+
+pub header-index : (a i : ℕ) → a ≤ 1023 → 3 < i → headerWritten a i ≡ record { number = 33; value = 0 }
+unfolding given
+header-index a i h l =
+    header-written-answer a i 33
+    (refusal-miss (ltb 1023 a) 33 (row (ltb 3 i) 33 ∷ []) (le-ltb 1023 a h) ∙ refusal-hit (ltb 3 i) 33 [] (lt-ltb 3 i l))
+
+pub header-written : (a i : ℕ) → a ≤ 1023 → i ≤ 3 → headerWritten a i ≡ record { number = 0; value = word23 (a + 1024 * i) }
+unfolding given refusal
+header-written a i h l =
+    header-written-answer a i 0
+    (refusal-miss (ltb 1023 a) 33 (row (ltb 3 i) 33 ∷ []) (le-ltb 1023 a h) ∙ refusal-miss (ltb 3 i) 33 [] (le-ltb 3 i l))
+
+-- ---- words
+
+wordAs : ℕ → ℕ → ℕ → Word
+wordAs answer i n = record { number = answer; information = given answer i; flips = given answer (flips (word24 i) n) }
+
+abbrev wordRows : ℕ → ℕ → ℕ
+wordRows n i = refusal (row (leb (2 ^ 24) n) 33 ∷ row (leb 4096 i) 31 ∷ [])
+
+word-answer : (n i k : ℕ) → nearest word24 n ≡ i → wordRows n i ≡ k
+    → wordRead n ≡ record { number = k; information = given k i; flips = given k (flips (word24 i) n) }
+unfolding wordRead wordAs
+word-answer n i k p e = ap (λ (x : ℕ). wordAs (wordRows n x) x n) p ∙ ap (λ (x : ℕ). wordAs x i n) e
+
+pub word-large : (n : ℕ) → 2 ^ 24 ≤ n → wordRead n ≡ record { number = 33; information = 0; flips = 0 }
+unfolding given
+word-large n h = word-answer n (nearest word24 n) 33 refl (refusal-hit (leb (2 ^ 24) n) 33 _ (le-leb (2 ^ 24) n h))
+
+pub word-none : (n : ℕ) → n < 2 ^ 24 → nearest word24 n ≡ 4096 → wordRead n ≡ record { number = 31; information = 0; flips = 0 }
+unfolding given refusal
+word-none n h e = word-answer n 4096 31 e (refusal-miss (leb (2 ^ 24) n) 33 (row (leb 4096 4096) 31 ∷ []) (lt-leb (2 ^ 24) n h))
+
+pub word-near : (n i : ℕ) → n < 2 ^ 24 → i < 4096 → flips (word24 i) n ≤ 3
+    → wordRead n ≡ record { number = 0; information = i; flips = flips (word24 i) n }
+unfolding given refusal
+word-near n i h l f =
+    word-answer n i 0 (nearest24-is n i l f)
+    (refusal-miss (leb (2 ^ 24) n) 33 (row (leb 4096 i) 31 ∷ []) (lt-leb (2 ^ 24) n h) ∙ refusal-miss (leb 4096 i) 31 [] (lt-leb 4096 i l))
+
+-- the check bits of its information: a word
+pub word-clean : (n : ℕ) → n < 2 ^ 24 → check (n % 4096) ≡ n / 4096 → wordRead n ≡ record { number = 0; information = n % 4096; flips = 0 }
+word-clean n h e =
+    word-near n (n % 4096) h (omega arith) (omega (arith, none))
+    ∙ (λ j. record { number = 0; information = n % 4096; flips = none j })
+  where
+    none : flips (word24 (n % 4096)) n ≡ 0
+    none =
+        ap (λ (x : ℕ). flips x n) (sym (check-word24 (n % 4096) (omega arith)) ∙ omega (arith, e)) ∙ flips-same n
+
+-- by the nearest word of the first 23 bits: its word of 24, if that lies within three flips, and otherwise none
+module _ (n near word : ℕ) (h : n < 2 ^ 24) (e : near ≡ word23 (nearest word23 (n % 2 ^ 23))) (w : word ≡ word24 (near % 4096)) where
+  information : near % 4096 ≡ nearest word23 (n % 2 ^ 23)
+  information = ap (λ (x : ℕ). x % 4096) e ∙ word23-first _ (nearest23-lt (n % 2 ^ 23) (omega arith))
+
+  turned : ones (bitXor n word) ≡ flips (word24 (near % 4096)) n
+  unfolding flips
+  turned = ap ones (xor-comm n word) ∙ ap (λ (x : ℕ). ones (bitXor x n)) w
+
+  pub word-far : 3 < ones (bitXor n word) → wordRead n ≡ record { number = 31; information = 0; flips = 0 }
+  word-far f =
+      word-none n h (nearest24-none n (subst (λ (k : ℕ). 3 < flips (word24 k) n) information (subst (λ (x : ℕ). 3 < x) turned f)))
+
+  pub word-by : ones (bitXor n word) ≤ 3 → wordRead n ≡ record { number = 0; information = near % 4096; flips = ones (bitXor n word) }
+  word-by f =
+      word-near n (near % 4096) h (omega arith) (subst (λ (x : ℕ). x ≤ 3) turned f)
+      ∙ (λ j. record { number = 0; information = near % 4096; flips = sym turned j })
+
+word-written-answer : (i k : ℕ) → refusal (row (leb 4096 i) 33 ∷ []) ≡ k → wordWritten i ≡ record { number = k; value = given k (word24 i) }
+unfolding wordWritten writtenAs
+word-written-answer i k e = ap (λ (x : ℕ). writtenAs x (word24 i)) e
+
+pub word-much : (i : ℕ) → 4096 ≤ i → wordWritten i ≡ record { number = 33; value = 0 }
+unfolding given
+word-much i h = word-written-answer i 33 (refusal-hit (leb 4096 i) 33 [] (le-leb 4096 i h))
+
+pub word-written : (i : ℕ) → i < 4096 → wordWritten i ≡ record { number = 0; value = word24 i }
+unfolding given refusal
+word-written i h = word-written-answer i 0 (refusal-miss (leb 4096 i) 33 [] (lt-leb 4096 i h))

@@ -1,0 +1,5 @@
+pub mod Bare
+pub mod Determined
+pub mod Edges
+pub mod Theorems
+pub mod Types

@@ -1,0 +1,120 @@
+-- What the codes promise, stated of the definitions that the contracts cite.
+--
+--   header-exactly    each number of 23 bits lies within three flips of exactly one word, and is read as it
+--   header-flipped    a written header with at most three flips is read as it was written, with the number of flips
+--   word-exactly      a number of 24 bits is accepted exactly if a word lies within three flips, and is read as it
+--   word-flipped      a written word with at most three flips is read as it was written, with the number of flips
+--   word-four         with four it is refused
+--   header-back, word-back    reading what was written gives it back
+--
+-- Assumes nothing.
+use mathlib.Core.Path.{_≡_, refl, sym, ap, _∙_, subst}
+use Prim.Native.Nat.{ℕ, _+_, _*_, _/_, _%_, _^_, _≤_, _<_}
+use native.Mathlib.Omega.{arith}
+use native.Mathlib.Decide.{decLt}
+use lib.Bits.{bitXor, xor-lt, xor-zero-r}
+use lib.Count.{ones}
+use mathlib.Core.Logic.{_↔_}
+use Rattle.bits.specs.Bits.{flips}
+use Rattle.bits.specs.Rows.{given}
+use Rattle.bits.proofs.Flips.{flips-of, ones-zero}
+use Rattle.bare.specs.Bare.{headerRead, headerWritten, wordRead, wordWritten}
+use Rattle.golay.specs.Code.{word23, word24, nearest}
+use Rattle.bare.specs.declared.Word.{Word}
+use Rattle.bare.specs.declared.Written.{Written}
+use Rattle.bare.proofs.Bare.{headerAs, header-small, header-written, word-near, word-none, word-written}
+use Rattle.golay.proofs.Nearest.{nearest-near, nearest-le, nearest-one, nearest-read, nearest-far}
+use Rattle.golay.proofs.Reading.{nearest23-lt}
+use Rattle.golay.proofs.Words.{word23-apart, word23-lt, word24-apart, word24-lt}
+
+-- ---- 23 bits
+
+-- the one word that a number of 23 bits is read as
+pub record ReadAs (n i : ℕ) : Type 0 where
+  pub information : i < 4096
+  pub near : flips (word23 i) n ≤ 3
+  pub only : (j : ℕ) → j < 4096 → flips (word23 j) n ≤ 3 → j ≡ i
+  pub reads : headerRead n ≡ record { number = 0; address = i % 1024; index = i / 1024; flips = flips (word23 i) n }
+
+pub header-reads : (n i : ℕ) → n < 2 ^ 23 → nearest word23 n ≡ i
+    → headerRead n ≡ record { number = 0; address = i % 1024; index = i / 1024; flips = flips (word23 i) n }
+unfolding headerAs given
+header-reads n i h e = header-small n h ∙ ap (λ (x : ℕ). headerAs 0 x n) e
+
+pub header-exactly : (n : ℕ) → n < 2 ^ 23 → ReadAs n (nearest word23 n)
+header-exactly n h =
+    let l = nearest23-lt n h in
+    let f = nearest-near word23 n l in
+    record {
+      information = l;
+      near = f;
+      only = λ j hj fj. nearest-one word23 word23-apart n j (nearest word23 n) hj l fj f;
+      reads = header-reads n (nearest word23 n) h refl
+    }
+
+pub header-flipped : (a i e : ℕ) → a ≤ 1023 → i ≤ 3 → e < 2 ^ 23 → ones e ≤ 3
+    → headerRead (bitXor (headerWritten a i .value) e) ≡ record { number = 0; address = a; index = i; flips = ones e }
+header-flipped a i e ha hi he few =
+    ap (λ (w : Written). headerRead (bitXor (w .value) e)) (header-written a i ha hi)
+    ∙ header-reads (bitXor (word23 (a + 1024 * i)) e) (a + 1024 * i)
+      (xor-lt 23 (word23 (a + 1024 * i)) e (word23-lt (a + 1024 * i) (omega arith)) he)
+      (nearest-read word23 word23-apart (a + 1024 * i) e (omega arith) few)
+    ∙ (λ j. record { number = 0; address = address j; index = index j; flips = flips-of (word23 (a + 1024 * i)) e j })
+  where
+    address : (a + 1024 * i) % 1024 ≡ a
+    address = omega arith
+    index : (a + 1024 * i) / 1024 ≡ i
+    index = omega arith
+
+pub header-back : (a i : ℕ) → a ≤ 1023 → i ≤ 3
+    → headerRead (headerWritten a i .value) ≡ record { number = 0; address = a; index = i; flips = 0 }
+header-back a i ha hi =
+    ap headerRead (sym (xor-zero-r (headerWritten a i .value)))
+    ∙ header-flipped a i 0 ha hi (omega arith) (omega (arith, ones-zero))
+    ∙ (λ j. record { number = 0; address = a; index = i; flips = ones-zero j })
+
+-- ---- 24 bits
+
+eight-seven : (i j : ℕ) → i < 4096 → j < 4096 → (i ≡ j → ⊥) → 7 ≤ flips (word24 i) (word24 j)
+eight-seven i j hi hj ne = omega (arith, word24-apart i j hi hj ne)
+
+-- a word lies within three flips of n
+pub record Near (n i : ℕ) : Type 0 where
+  pub information : i < 4096
+  pub near : flips (word24 i) n ≤ 3
+
+-- and it is the one that n is read as
+pub word-read : (n i : ℕ) → n < 2 ^ 24 → Near n i
+    → wordRead n ≡ record { number = 0; information = i; flips = flips (word24 i) n }
+word-read n i h near = word-near n i h (near .information) (near .near)
+
+pub word-exactly : (n : ℕ) → n < 2 ^ 24 → (wordRead n .number ≡ 0) ↔ ((i : ℕ) × Near n i)
+word-exactly n h = (
+  λ e. there e (decLt (nearest word24 n) 4096),
+  λ near. ap (λ (w : Word). w .number) (word-read n (near .0) h (near .1)),
+)
+  where
+    there : wordRead n .number ≡ 0 → Dec (nearest word24 n < 4096) → (i : ℕ) × Near n i
+    there e (yes l) = (nearest word24 n, record { information = l; near = nearest-near word24 n l })
+    there e (no l) =
+        absurd (omega (arith, e, ap (λ (w : Word). w .number) (word-none n h (omega (arith, nearest-le word24 n)))))
+
+pub word-flipped : (i e : ℕ) → i < 4096 → e < 2 ^ 24 → ones e ≤ 3
+    → wordRead (bitXor (wordWritten i .value) e) ≡ record { number = 0; information = i; flips = ones e }
+word-flipped i e h he few =
+    ap (λ (w : Written). wordRead (bitXor (w .value) e)) (word-written i h)
+    ∙ word-near (bitXor (word24 i) e) i (xor-lt 24 (word24 i) e (word24-lt i h) he) h (omega (arith, flips-of (word24 i) e))
+    ∙ (λ j. record { number = 0; information = i; flips = flips-of (word24 i) e j })
+
+pub word-four : (i e : ℕ) → i < 4096 → e < 2 ^ 24 → ones e ≡ 4
+    → wordRead (bitXor (wordWritten i .value) e) ≡ record { number = 31; information = 0; flips = 0 }
+word-four i e h he four =
+    ap (λ (w : Written). wordRead (bitXor (w .value) e)) (word-written i h)
+    ∙ word-none (bitXor (word24 i) e) (xor-lt 24 (word24 i) e (word24-lt i h) he)
+      (nearest-far word24 eight-seven word24-apart (bitXor (word24 i) e) i h (flips-of (word24 i) e ∙ four))
+
+pub word-back : (i : ℕ) → i < 4096 → wordRead (wordWritten i .value) ≡ record { number = 0; information = i; flips = 0 }
+word-back i h =
+    ap wordRead (sym (xor-zero-r (wordWritten i .value)))
+    ∙ word-flipped i 0 h (omega arith) (omega (arith, ones-zero))
+    ∙ (λ j. record { number = 0; information = i; flips = ones-zero j })

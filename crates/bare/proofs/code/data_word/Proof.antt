@@ -1,0 +1,23 @@
+use native.Mathlib.Omega.{arith}
+use Rattle.golay.proofs.Reading.{check-lt, check-word24}
+use borrow.Author.Needs.{needs}
+use Rattle.bare.proofs.code.data_word.Statement.{statement}
+use Rattle.bare.proofs.code.data_word.Tie as tie
+use Rattle.bare.proofs.code.data_word.Reads as reads
+use Rattle.bare.proofs.code.data_word.Lts as lts
+use Rattle.bare.proofs.code.check.Reads as check-reads
+
+check-requires : tie.Need-check-requires
+check-requires c κs = search needs
+
+mul-result : tie.Need-mul-result
+mul-result c = omega (arith, check-lt (c .before .args .i) (c .before .pre .1))
+
+add-result : tie.Need-add-result
+add-result c = omega (arith, check-lt (c .before .args .i) (c .before .pre .1))
+
+returns : tie.Need-returns
+returns c = omega (arith, check-word24 (c .before .args .i) (c .before .pre .1))
+
+pub data-word-spec : {M : Type 1} → statement M
+data-word-spec = tie.close (tie.spec check-requires mul-result add-result returns)

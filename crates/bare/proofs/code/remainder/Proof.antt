@@ -1,0 +1,19 @@
+use Rattle.golay.proofs.Reading.{check-divides}
+use mathlib.Core.Path.{ap, _∙_}
+use Prim.Native.Nat.{ℕ, _/_, _%_}
+use lib.Bits.{bitXor}
+use borrow.Author.Needs.{needs}
+use Rattle.bare.proofs.code.remainder.Statement.{statement}
+use Rattle.bare.proofs.code.remainder.Tie as tie
+use Rattle.bare.proofs.code.remainder.Reads as reads
+use Rattle.bare.proofs.code.remainder.Lts as lts
+use Rattle.bare.proofs.code.check.Reads as check-reads
+
+check-requires : tie.Need-check-requires
+check-requires c κs = search needs
+
+returns : tie.Need-returns
+returns c = ap (λ (x : ℕ). bitXor (x % 2048) (c .before .args .n / 4096)) (c .check .ensures) ∙ check-divides (c .before .args .n)
+
+pub remainder-spec : {M : Type 1} → statement M
+remainder-spec = tie.close (tie.spec check-requires returns)

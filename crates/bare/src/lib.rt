@@ -1,0 +1,248 @@
+// The codes of ETS 300 352 as bare calls: numbers in, a number and values out. Every number is answered.
+//
+// code    what the calls are made of: check bits, remainder, the word nearest to a number
+ghost use mathlib.Core.Path.{_≡_};
+ghost use Prim.Native.Nat.{_^_, _<_, _≤_};
+ghost use Rattle.bits.specs.Bits.{flips};
+ghost use Rattle.golay.specs.Code.{word23, nearest, Patterns, Checks};
+ghost use Rattle.bare.specs.Bare.{headerRead, headerWritten, wordRead, wordWritten, typeRead, typeAs, typeWritten};
+
+pub mod code;
+
+// A header of 23 bits as it is read: number 0 or 33, address, index, and how many bits were flipped.
+pub struct Header {
+    pub number: u8,
+    pub address: u16,
+    pub index: u8,
+    pub flips: u8,
+}
+
+// A word of 24 bits as it is read: number 0, 31 or 33, its twelve bits of information, its flips.
+pub struct Word {
+    pub number: u8,
+    pub information: u16,
+    pub flips: u8,
+}
+
+// A type byte as it is read: number 0 or 28, one of the four values, its flips.
+pub struct TypeByte {
+    pub number: u8,
+    pub value: u8,
+    pub flips: u8,
+}
+
+// What a bare writing gives: its number and the header, word or type.
+pub struct Written {
+    pub number: u8,
+    pub value: u32,
+}
+
+impl Header {
+    // How many headers, addresses and indices there are (4.3.6.1), and the number of a refusal for want of bits.
+    pub const NUMBERS: u32 = 8388608;
+    pub const ADDRESSES: u32 = 1024;
+    pub const INDICES: u32 = 4;
+}
+
+impl Word {
+    // How many numbers of 24 bits there are, how many informations, and how many flips are corrected.
+    pub const NUMBERS: u32 = 16777216;
+    pub const INFORMATIONS: u32 = 4096;
+    pub const CORRECTED: u32 = 3;
+}
+
+impl TypeByte {
+    // 7.4.2.3, and the house rule on flips.
+    pub const DATA: u8 = 0x00;
+    pub const CONTROL: u8 = 0x3F;
+    pub const RESERVED: u8 = 0xC7;
+    pub const SCRAMBLED: u8 = 0xF8;
+    pub const CORRECTED: u32 = 2;
+}
+
+// 33: a header of 2^23 or more. Below it none is refused.
+pub fn read_header(n: u32) -> Header
+    ensures { λ r. ⌜ r ≡ headerRead n ⌝ }
+{
+    if Header::NUMBERS <= n {
+        return Header {
+            number: 33,
+            address: 0,
+            index: 0,
+            flips: 0,
+        };
+    }
+    let checks = lookup::checks();
+    if code::remainder(&checks, n) == 0 {
+        return header_of(n, n);
+    }
+    let patterns = lookup::patterns();
+    header_of(n, code::corrected(&checks, &patterns, n))
+}
+
+// The header that 23 bits are read as, once the nearest word is known.
+pub fn header_of(n: u32, word: u32) -> Header
+    requires { ⌜ n < 2 ^ 23 ⌝ }
+    requires { ⌜ word ≡ word23 (nearest word23 n) ⌝ }
+    ensures { λ r. ⌜ r ≡ headerRead n ⌝ }
+{
+    Header {
+        number: 0,
+        address: (word % Header::ADDRESSES) as u16,
+        index: (word / Header::ADDRESSES % Header::INDICES) as u8,
+        flips: u32::count_ones(n ^ word) as u8,
+    }
+}
+
+// 33: an address above 1,023, an index above 3.
+pub fn write_header(address: u32, index: u32) -> Written
+    ensures { λ r. ⌜ r ≡ headerWritten address index ⌝ }
+{
+    if Header::ADDRESSES <= address {
+        return Written {
+            number: 33,
+            value: 0,
+        };
+    }
+    if Header::INDICES <= index {
+        return Written {
+            number: 33,
+            value: 0,
+        };
+    }
+    let checks = lookup::checks();
+    Written {
+        number: 0,
+        value: code::header_word(&checks, address + Header::ADDRESSES * index),
+    }
+}
+
+// 33: a word of 2^24 or more; 31: no word lies within three flips.
+pub fn read_word(n: u32) -> Word
+    ensures { λ r. ⌜ r ≡ wordRead n ⌝ }
+{
+    if Word::NUMBERS <= n {
+        return Word {
+            number: 33,
+            information: 0,
+            flips: 0,
+        };
+    }
+    let checks = lookup::checks();
+    let i = n % Word::INFORMATIONS;
+    if code::check(&checks, i) == n / Word::INFORMATIONS {
+        return Word {
+            number: 0,
+            information: i as u16,
+            flips: 0,
+        };
+    }
+    let patterns = lookup::patterns();
+    word_by(&checks, &patterns, n)
+}
+
+// The word that 24 bits are read as, by lent tables.
+pub fn word_by(checks: &[u16; 128], patterns: &[u32], n: u32) -> Word
+    requires { ⌜ Checks (now checks) ⌝ }
+    requires { ⌜ Patterns (now patterns) ⌝ }
+    requires { ⌜ n < 2 ^ 24 ⌝ }
+    ensures { λ r. ⌜ r ≡ wordRead n ⌝ }
+{
+    let near = code::corrected(checks, patterns, n % Header::NUMBERS);
+    let i = near % Word::INFORMATIONS;
+    let word = code::data_word(checks, i);
+    let flips = u32::count_ones(n ^ word);
+    if Word::CORRECTED < flips {
+        return Word {
+            number: 31,
+            information: 0,
+            flips: 0,
+        };
+    }
+    Word {
+        number: 0,
+        information: i as u16,
+        flips: flips as u8,
+    }
+}
+
+// 33: an information of 4,096 or more.
+pub fn write_word(information: u32) -> Written
+    ensures { λ r. ⌜ r ≡ wordWritten information ⌝ }
+{
+    if Word::INFORMATIONS <= information {
+        return Written {
+            number: 33,
+            value: 0,
+        };
+    }
+    let checks = lookup::checks();
+    Written {
+        number: 0,
+        value: code::data_word(&checks, information),
+    }
+}
+
+// In how many bits two bytes differ.
+fn turned(value: u8, byte: u8) -> u32
+    ensures { λ r. ⌜ r ≡ flips value byte ⌝ }
+{
+    u8::count_ones(value ^ byte)
+}
+
+// 28: no type lies within two flips.
+pub fn read_type(byte: u8) -> TypeByte
+    ensures { λ r. ⌜ r ≡ typeRead byte ⌝ }
+{
+    let data = turned(TypeByte::DATA, byte);
+    if data <= TypeByte::CORRECTED {
+        return type_of(TypeByte::DATA, data);
+    }
+    let control = turned(TypeByte::CONTROL, byte);
+    if control <= TypeByte::CORRECTED {
+        return type_of(TypeByte::CONTROL, control);
+    }
+    let reserved = turned(TypeByte::RESERVED, byte);
+    if reserved <= TypeByte::CORRECTED {
+        return type_of(TypeByte::RESERVED, reserved);
+    }
+    let scrambled = turned(TypeByte::SCRAMBLED, byte);
+    if scrambled <= TypeByte::CORRECTED {
+        return type_of(TypeByte::SCRAMBLED, scrambled);
+    }
+    TypeByte {
+        number: 28,
+        value: 0,
+        flips: 0,
+    }
+}
+
+fn type_of(value: u8, flips: u32) -> TypeByte
+    requires { ⌜ flips ≤ 2 ⌝ }
+    ensures { λ r. ⌜ r ≡ typeAs value flips ⌝ }
+{
+    TypeByte {
+        number: 0,
+        value,
+        flips: flips as u8,
+    }
+}
+
+// 28: not one of the four values; nothing is corrected on writing.
+pub fn write_type(byte: u8) -> Written
+    ensures { λ r. ⌜ r ≡ typeWritten byte ⌝ }
+{
+    let open = (TypeByte::DATA == byte) | (TypeByte::CONTROL == byte);
+    let known = open | (TypeByte::RESERVED == byte) | (TypeByte::SCRAMBLED == byte);
+    if known {
+        Written {
+            number: 0,
+            value: byte as u32,
+        }
+    } else {
+        Written {
+            number: 28,
+            value: 0,
+        }
+    }
+}

@@ -1,0 +1,22 @@
+-- Filling a list from its front, as a loop does that stores one value after the other.
+--
+--   stored     a list that agrees with another up to a place agrees one further after the right store there
+--   agreed     two lists that agree up to their common length are equal
+--
+-- Assumes nothing.
+use mathlib.Core.Path.{_≡_, sym, ap, ap₂, _∙_}
+use mathlib.Core.List.{List, [], _∷_, _++_}
+use Prim.Native.Nat.{ℕ, suc, _≤_, _<_}
+use native.Mathlib.Omega.{arith}
+use lib.ListN.{length, take, getD, set}
+use lib.Seq.{take-suc, take-suc-set, take-all}
+
+pub stored : (out target : List ℕ) (j n v : ℕ) → take j out ≡ take j target → j < length out → j < length target
+    → n ≡ suc j → v ≡ getD target j 0 → take n (set out j v) ≡ take n target
+stored out target j n v e ho ht en ev =
+    ap (λ (x : ℕ). take x (set out j v)) en ∙ take-suc-set out j v ho
+    ∙ ap₂ (λ (xs : List ℕ) (x : ℕ). xs ++ (x ∷ [])) e ev
+    ∙ sym (take-suc target j 0 ht) ∙ ap (λ (x : ℕ). take x target) (sym en)
+
+pub agreed : (xs ys : List ℕ) (n k : ℕ) → take k xs ≡ take k ys → length xs ≡ n → length ys ≡ n → n ≤ k → xs ≡ ys
+agreed xs ys n k e lx ly h = sym (take-all k xs (omega arith)) ∙ e ∙ take-all k ys (omega arith)

@@ -1,0 +1,109 @@
+-- What shifts and masks gather: the code's expressions are the numbers of the definitions.
+--
+--   stored, agreed     a list that agrees with another up to a place agrees one further after the right store there, and
+--                      is the other in the end
+--   header-gathered, spare-gathered        the header and the spare bit of an image's bytes
+--   first-three, next-byte, last-byte      an image's bytes from the header and the 91 bytes
+--
+-- Assumes nothing.
+use mathlib.Core.Path.{_≡_, refl, sym, ap, ap₂, _∙_}
+use mathlib.Core.List.{List, [], _∷_, _++_}
+use Prim.Native.Nat.{ℕ, suc, _+_, _*_, _/_, _%_, _^_, _≤_, _<_}
+use native.Mathlib.Omega.{arith}
+use native.Mathlib.Nat.{mod-lt}
+use native.Mathlib.Numerals.{add-one}
+use lib.Bits.{bitAnd, bitOr, and-mask}
+use lib.Dec.{lit<, lit≤}
+use lib.ListN.{length, take, drop, getD, set, drop-of-length-le, List·getD-eq-default}
+use lib.Seq.{take-suc, take-suc-set, take-all, drop-drop, drop-append-le}
+use Rattle.bits.specs.Bits.{bitsOf, number, sent}
+use Rattle.bits.proofs.Runs.{Below, below-cat, bitsOf-length, number-bits-small, number-cat, number-ends, number-take, number-drop, number-at, digit, sent-below, sent-drop, sent-length, taken-at, or-above}
+use Rattle.image.specs.Image.{headerOf, spareOf, imageOf}
+use Rattle.image.proofs.Laws.{image-length, run, spare-below, run-below, run-rest}
+
+-- ---- of an image
+
+module _ (s : List ℕ) (h : Below 256 s) where
+  pub header-gathered :
+      bitOr (bitOr (getD s 0 0) ((getD s 1 0 * 256) % 4294967296)) ((bitAnd (getD s 2 0) 127 * 65536) % 4294967296) ≡ headerOf s
+  unfolding headerOf
+  header-gathered =
+      ap₂ (λ (x y : ℕ). bitOr x ((y * 65536) % 4294967296))
+      (or-above 8 8 32 (getD s 0 0) (getD s 1 0) (h 0) (h 1) (lit≤ tt)) (and-mask (getD s 2 0) 7)
+      ∙ or-above 7 16 32 (getD s 0 0 + 256 * getD s 1 0) (getD s 2 0 % 128) (omega (arith, h 0, h 1)) (mod-lt (getD s 2 0) (lit< tt)) (lit≤ tt)
+      ∙ omega (arith, h 0, h 1, h 2, number-take 23 (sent 8 s) (sent-below 8 s), number-at 8 0 s h, number-at 8 1 s h, number-at 8 2 s h)
+
+  pub spare-gathered : length s ≡ 94 → getD s 93 0 / 128 ≡ spareOf s
+  unfolding spareOf sent number
+  spare-gathered l =
+      omega (
+        arith,
+        h 93,
+        number-at 8 93 s h,
+        ap (λ (x : List ℕ). number (sent 8 x)) (drop-of-length-le s {i = 94} (omega arith)),
+        number-drop 7 (sent 8 (drop 93 s)) (sent-below 8 (drop 93 s)),
+        ap (λ (x : List ℕ). number (drop 7 x)) (sent-drop 8 93 s),
+        ap number (drop-drop 7 744 (sent 8 s)),
+      )
+
+-- ---- of a header and bytes
+
+one-above : (a n : ℕ) → a < 128 → bitOr a ((bitAnd n 1 * 128) % 256) ≡ a + 128 * (n % 2)
+one-above a n h =
+    ap (λ (x : ℕ). bitOr a ((x * 128) % 256)) (and-mask n 1) ∙ or-above 1 7 8 a (n % 2) h (mod-lt n (lit< tt)) (lit≤ tt)
+
+module _ (h : ℕ) (bs : List ℕ) (s : h < 2 ^ 23) (b : Below 256 bs) where
+  number-run : number (run h bs) ≡ h + 8388608 * number (sent 8 bs)
+  number-run =
+      number-cat (bitsOf 23 h) (sent 8 bs ++ (0 ∷ []))
+      ∙ ap₂ (λ (x y : ℕ). x + y) (number-bits-small 23 h s)
+      (ap₂ (λ (x y : ℕ). 2 ^ x * y) (bitsOf-length 23 h) (number-ends (sent 8 bs)))
+
+  image-digit : (j : ℕ) → j < 94 → getD (imageOf h bs) j 0 ≡ number (take 8 (drop (j * 8) (run h bs)))
+  unfolding imageOf
+  image-digit j l = taken-at 8 94 j (run h bs) l
+
+  first-byte : bitAnd h 255 ≡ getD (imageOf h bs) 0 0
+  first-byte = and-mask h 8 ∙ omega (arith, image-digit 0 (lit< tt), digit 8 0 (run h bs) (run-below h bs), number-run)
+
+  second-byte : bitAnd (h / 256) 255 ≡ getD (imageOf h bs) 1 0
+  second-byte = and-mask (h / 256) 8 ∙ omega (arith, image-digit 1 (lit< tt), digit 8 8 (run h bs) (run-below h bs), number-run)
+
+  third-byte : bitOr (h / 65536) ((bitAnd (getD bs 0 0) 1 * 128) % 256) ≡ getD (imageOf h bs) 2 0
+  third-byte =
+      one-above (h / 65536) (getD bs 0 0) (omega arith)
+      ∙ omega (arith, image-digit 2 (lit< tt), digit 8 16 (run h bs) (run-below h bs), number-run, number-at 8 0 bs b)
+
+  pub first-three :
+      bitAnd h 255 ∷ bitAnd (h / 256) 255 ∷ bitOr (h / 65536) ((bitAnd (getD bs 0 0) 1 * 128) % 256) ∷ [] ≡ take 3 (imageOf h bs)
+  first-three =
+      let long = image-length h bs in
+      stored (bitAnd h 255 ∷ bitAnd (h / 256) 255 ∷ 0 ∷ []) (imageOf h bs) 2 3 _
+      (stored (bitAnd h 255 ∷ 0 ∷ 0 ∷ []) (imageOf h bs) 1 2 _
+      (stored (0 ∷ 0 ∷ 0 ∷ []) (imageOf h bs) 0 1 _ refl (lit< tt) (omega arith) refl first-byte)
+      (lit< tt) (omega arith) refl second-byte)
+      (lit< tt) (omega arith) refl third-byte
+
+  byte-at : length bs ≡ 91 → (j : ℕ) → j < 91 → getD bs j 0 / 2 + 128 * (getD bs (suc j) 0 % 2) ≡ getD (imageOf h bs) (j + 3) 0
+  byte-at l j hj =
+      let place : (j + 3) * 8 ≡ 23 + (j * 8 + 1) = omega arith in
+      sym
+      (image-digit (j + 3) (omega arith)
+      ∙ ap (λ (x : List ℕ). number (take 8 x))
+      (ap (λ (x : ℕ). drop x (run h bs)) place ∙ sym (drop-drop (j * 8 + 1) 23 (run h bs)) ∙ ap (drop (j * 8 + 1)) (run-rest h bs)
+      ∙ sym (drop-drop 1 (j * 8) (sent 8 bs ++ (0 ∷ [])))
+      ∙ ap (drop 1)
+      (drop-append-le (j * 8) (sent 8 bs) (0 ∷ []) (omega (arith, sent-length 8 bs))
+      ∙ ap (λ (x : List ℕ). x ++ (0 ∷ [])) (sent-drop 8 j bs)))
+      ∙ digit 8 1 (sent 8 (drop j bs) ++ (0 ∷ []))
+      (below-cat (sent 8 (drop j bs)) (0 ∷ []) (sent-below 8 (drop j bs)) spare-below)
+      ∙ omega (arith, b j, number-ends (sent 8 (drop j bs)), number-at 8 j bs b, number-at 8 (suc j) bs b))
+
+  pub next-byte : length bs ≡ 91 → (j : ℕ) → j < 91
+      → bitOr (getD bs j 0 / 2) ((bitAnd (getD bs (j + 1) 0) 1 * 128) % 256) ≡ getD (imageOf h bs) (j + 3) 0
+  next-byte l j hj =
+      one-above (getD bs j 0 / 2) (getD bs (j + 1) 0) (omega (arith, b j))
+      ∙ ap (λ (x : ℕ). getD bs j 0 / 2 + 128 * (getD bs x 0 % 2)) (add-one j) ∙ byte-at l j hj
+
+  pub last-byte : length bs ≡ 91 → (j : ℕ) → j ≡ 90 → getD bs j 0 / 2 ≡ getD (imageOf h bs) (j + 3) 0
+  last-byte l j e = omega (arith, byte-at l j (omega arith), List·getD-eq-default bs 0 {n = suc j} (omega arith))

@@ -1,0 +1,66 @@
+-- What a packet's type byte and data are read as, knowing no state (document 01, sections 1, 2 and 6), and the image that is
+-- written.
+--
+--   typeOf s, usefulOf s           the type that the first of the 91 bytes is read as, 256 where none; the 90 others
+--   receivedNumber protected s     20, 28, 29, 30, 31 in this order, otherwise 0
+--   receivedBytes protected s      the 90 useful bytes, or the 45 of protected data
+--   received protected s           number, place of the word that made it 31, index, bytes with 0 behind them
+--   written address index type useful     the image of a packet
+use mathlib.Core.Bool.{Bool, true, false, cond, not}
+use mathlib.Core.List.{List, [], _∷_, _++_}
+use Prim.Native.Nat.{ℕ, zero, suc, _+_, _-_, _*_}
+use lib.Dec.{leb, eqb, ltb}
+use lib.ListN.{length, getD, drop}
+use Rattle.bits.specs.Bits.{blank}
+use Rattle.bits.specs.Rows.{row, refusal, given}
+use Rattle.bare.specs.Bare.{headerRead, types, typeNear}
+use Rattle.golay.specs.Code.{word23}
+use Rattle.image.specs.Image.{headerOf, bytesOf, imageOf}
+use Rattle.packet.specs.Protected.{dataRead}
+use Rattle.packet.specs.declared.Data.{Data}
+use Rattle.packet.specs.declared.Received.{Received}
+
+unfoldable pub typeOf : List ℕ → ℕ
+typeOf s = typeNear types (getD (bytesOf s) 0 0)
+
+unfoldable pub usefulOf : List ℕ → List ℕ
+usefulOf s = drop 1 (bytesOf s)
+
+-- 31: a protected word can't be read
+unfoldable pub unreadable : Bool → List ℕ → Bool
+unreadable false useful = false
+unreadable true useful = ltb (dataRead useful .place) 30
+
+unfoldable pub receivedNumber : Bool → List ℕ → ℕ
+receivedNumber protected s =
+    refusal
+    (row (not (eqb (length s) 94)) 20
+    ∷ row (leb 256 (typeOf s)) 28
+    ∷ row (eqb (typeOf s) 0x3F) 29
+    ∷ row (eqb (typeOf s) 0xC7) 29
+    ∷ row (eqb (typeOf s) 0xF8) 30
+    ∷ row (unreadable protected (usefulOf s)) 31
+    ∷ [])
+
+unfoldable pub receivedBytes : Bool → List ℕ → List ℕ
+receivedBytes false s = usefulOf s
+receivedBytes true s = dataRead (usefulOf s) .bytes
+
+-- bytes with 0 behind them to fill the room of 90; only 0 where the packet is refused
+unfoldable pub filled : ℕ → List ℕ → List ℕ
+filled zero bytes = bytes ++ blank (90 - length bytes)
+filled (suc number) bytes = blank 90
+
+unfoldable pub received : Bool → List ℕ → Received
+received protected s =
+    let answer = receivedNumber protected s in
+    record {
+      number = answer;
+      place = cond (eqb answer 31) (dataRead (usefulOf s) .place) 0;
+      index = given answer (headerRead (headerOf s) .index);
+      bytes = filled answer (receivedBytes protected s)
+    }
+
+-- 4.3.6: header, type byte, useful bytes; the spare bit is 0
+unfoldable pub written : ℕ → ℕ → ℕ → List ℕ → List ℕ
+written address index type useful = imageOf (word23 (address + 1024 * index)) (type ∷ useful)
