@@ -18,6 +18,7 @@ use lib.ListN.{length, take, drop, getD, set, drop-of-length-le, List·getD-eq-d
 use lib.Seq.{take-suc, take-suc-set, take-all, drop-drop, drop-append-le}
 use Rattle.bits.specs.Bits.{bitsOf, number, sent}
 use Rattle.bits.proofs.Runs.{Below, below-cat, bitsOf-length, number-bits-small, number-cat, number-ends, number-take, number-drop, number-at, digit, sent-below, sent-drop, sent-length, taken-at, or-above}
+use Rattle.bits.proofs.Storing.{stored}
 use Rattle.image.specs.Image.{headerOf, spareOf, imageOf}
 use Rattle.image.proofs.Laws.{image-length, run, spare-below, run-below, run-rest}
 

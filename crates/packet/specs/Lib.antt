@@ -1,2 +1,1 @@
-pub mod Protected
 pub mod Received

@@ -16,9 +16,9 @@ use Rattle.bits.specs.Rows.{row, refusal, given}
 use Rattle.bare.specs.Bare.{headerRead, types, typeNear}
 use Rattle.golay.specs.Code.{word23}
 use Rattle.image.specs.Image.{headerOf, bytesOf, imageOf}
-use Rattle.packet.specs.Protected.{dataRead}
-use Rattle.packet.specs.declared.Data.{Data}
-use Rattle.packet.specs.declared.Received.{Received}
+use Rattle.words.specs.Protected.{dataRead}
+use Rattle.words.specs.declared.Data.{Data}
+use Rattle.packet.specs.declared.Reading.{Reading}
 
 unfoldable pub typeOf : List ℕ → ℕ
 typeOf s = typeNear types (getD (bytesOf s) 0 0)
@@ -51,7 +51,7 @@ unfoldable pub filled : ℕ → List ℕ → List ℕ
 filled zero bytes = bytes ++ blank (90 - length bytes)
 filled (suc number) bytes = blank 90
 
-unfoldable pub received : Bool → List ℕ → Received
+unfoldable pub received : Bool → List ℕ → Reading
 received protected s =
     let answer = receivedNumber protected s in
     record {
@@ -60,6 +60,16 @@ received protected s =
       index = given answer (headerRead (headerOf s) .index);
       bytes = filled answer (receivedBytes protected s)
     }
+
+-- the three things a packet is read as: refused, plain bytes, protected data
+abbrev pub refusedAs : ℕ → ℕ → Reading
+refusedAs number place = record { number = number; place = place; index = 0; bytes = blank 90 }
+
+abbrev pub partAs : ℕ → List ℕ → Reading
+partAs index bytes = record { number = 0; place = 0; index = index; bytes = filled 0 bytes }
+
+abbrev pub dataAs : ℕ → Data → Reading
+dataAs index d = cond (ltb (d .place) 30) (refusedAs 31 (d .place)) (partAs index (d .bytes))
 
 -- 4.3.6: header, type byte, useful bytes; the spare bit is 0
 unfoldable pub written : ℕ → ℕ → ℕ → List ℕ → List ℕ

@@ -1,26 +1,145 @@
 // A packet: what its type byte and data are read as, and the image that is written. It knows no state.
-//
-// words    protected data: thirty words, 90 bytes, to and from 45 bytes
 ghost use mathlib.Core.Path.{_≡_};
 ghost use Prim.Native.Nat.{_<_};
-ghost use mathlib.Core.List.{_∷_};
-ghost use Rattle.packet.specs.Received.{received, written};
-
-pub mod words;
-
-// What 90 protected bytes are read as: the place of the first word that cannot be read, 30 where all can; the flips of
-// all words; the 45 bytes. Flips and bytes are 0 where a word cannot be read.
-pub struct Data {
-    pub place: u8,
-    pub flips: u8,
-    pub bytes: [u8; 45],
-}
+ghost use lib.ListN.{length};
+ghost use Rattle.bare.specs.Bare.{headerRead};
+ghost use Rattle.golay.specs.Code.{Lent};
+ghost use Rattle.image.specs.Image.{headerOf};
+ghost use Rattle.words.specs.Protected.{dataRead};
+ghost use Rattle.packet.specs.Received.{received, written, refusedAs, partAs, dataAs};
+use bare::Header;
+use bare::TypeByte;
 
 // What a packet is read as: its number, 0 or a refusal; with 31 the place of the first word that cannot be read; the
 // index; the 90 useful bytes, or the 45 of protected data with 0 behind them. A refused packet has 0 for the others.
-pub struct Received {
+pub struct Reading {
     pub number: u8,
     pub place: u8,
     pub index: u8,
     pub bytes: [u8; 90],
+}
+
+impl Reading {
+    pub const USEFUL: usize = 90;
+    pub const DATA: usize = 45;
+}
+
+// What an image is read as. 20: not 94 bytes; 28: type unreadable; 29: type 3F or C7; 30: type F8; 31: a protected word
+// can't be read. The tables are set up once at most.
+pub fn received(protected: bool, image: &[u8]) -> Reading
+    ensures { λ r. ⌜ r ≡ received protected (now (image .entry)) ⌝ }
+{
+    if image.len() != image::Packet::IMAGE {
+        return refused(20, 0);
+    }
+    let checks = lookup::checks();
+    let n = image::header(image);
+    if bare::code::remainder(&checks, n) == 0 {
+        let none = [0u32; 1];
+        return received_by(&none[..0], bare::header_of(n, n), protected, image);
+    }
+    let patterns = lookup::patterns();
+    let word = bare::code::corrected(&checks, &patterns, n);
+    received_by(&patterns, bare::header_of(n, word), protected, image)
+}
+
+// The same once the header is read: its table of patterns is lent on, or an empty one.
+pub fn received_by(patterns: &[u32], header: Header, protected: bool, image: &[u8]) -> Reading
+    requires { ⌜ Lent (now patterns) ⌝ }
+    requires { ⌜ header ≡ headerRead (headerOf (now image)) ⌝ }
+    requires { ⌜ length (now image) ≡ 94 ⌝ }
+    ensures { λ r. ⌜ r ≡ received protected (now (image .entry)) ⌝ }
+{
+    let bytes = image::bytes(image);
+    let kind = bare::read_type(bytes[0]);
+    if kind.number != 0 {
+        return refused(28, 0);
+    }
+    let value = kind.value;
+    if (value == TypeByte::CONTROL) | (value == TypeByte::RESERVED) {
+        return refused(29, 0);
+    }
+    if value == TypeByte::SCRAMBLED {
+        return refused(30, 0);
+    }
+    if protected {
+        unprotected(patterns, header.index, &bytes[1..91])
+    } else {
+        plain(header.index, &bytes[1..91])
+    }
+}
+
+// A refused packet, with the place of its word.
+fn refused(number: u8, place: u8) -> Reading
+    ensures { λ r. ⌜ r ≡ refusedAs number place ⌝ }
+{
+    Reading {
+        number,
+        place,
+        index: 0,
+        bytes: [0; 90],
+    }
+}
+
+// The packet of 90 plain bytes.
+fn plain(index: u8, useful: &[u8]) -> Reading
+    requires { ⌜ length (now useful) ≡ 90 ⌝ }
+    ensures { λ r. ⌜ r ≡ partAs index (now (useful .entry)) ⌝ }
+{
+    let mut bytes = [0u8; 90];
+    let mut k: usize = 0;
+    while k < Reading::USEFUL {
+        bytes[k] = useful[k];
+        k += 1;
+    }
+    Reading {
+        number: 0,
+        place: 0,
+        index,
+        bytes,
+    }
+}
+
+// The packet of 90 protected bytes, or 31.
+fn unprotected(patterns: &[u32], index: u8, useful: &[u8]) -> Reading
+    requires { ⌜ Lent (now patterns) ⌝ }
+    requires { ⌜ length (now useful) ≡ 90 ⌝ }
+    ensures { λ r. ⌜ r ≡ dataAs index (dataRead (now (useful .entry))) ⌝ }
+{
+    let data = words::unprotect(patterns, useful);
+    let place = data.place;
+    if place < 30 {
+        return refused(31, place);
+    }
+    let from = data.bytes;
+    let mut bytes = [0u8; 90];
+    let mut k: usize = 0;
+    while k < Reading::DATA {
+        bytes[k] = from[k];
+        k += 1;
+    }
+    Reading {
+        number: 0,
+        place: 0,
+        index,
+        bytes,
+    }
+}
+
+// The image of a packet.
+pub fn written(address: u32, index: u32, kind: u8, useful: &[u8]) -> [u8; 94]
+    requires { ⌜ address < 1024 ⌝ }
+    requires { ⌜ index < 4 ⌝ }
+    requires { ⌜ length (now useful) ≡ 90 ⌝ }
+    ensures { λ r. ⌜ r ≡ written address index kind (now (useful .entry)) ⌝ }
+{
+    let mut bytes = [0u8; 91];
+    bytes[0] = kind;
+    let mut k: usize = 0;
+    while k < Reading::USEFUL {
+        bytes[k + 1] = useful[k];
+        k += 1;
+    }
+    let checks = lookup::checks();
+    image::image(bare::code::header_word(&checks, address + 1024 * index), &bytes)
 }

@@ -8,13 +8,16 @@
 --   turned ns          the flips of all of them
 --   dataOf is          the 45 bytes of thirty informations
 --   dataRead useful    what 90 bytes are read as: that place, the flips and the bytes, both 0 where a word cannot be read
+use mathlib.Core.Path.{_≡_}
 use mathlib.Core.Bool.{cond}
 use mathlib.Core.List.{List, [], _∷_, map}
-use Prim.Native.Nat.{ℕ, suc, _+_}
+use Prim.Native.Nat.{ℕ, suc, _+_, _/_, _%_, _<_}
 use lib.Dec.{leb, ltb}
+use lib.ListN.{getD}
 use Rattle.bits.specs.Bits.{flips, sent, taken, blank}
-use Rattle.golay.specs.Code.{word24, nearest}
-use Rattle.packet.specs.declared.Data.{Data}
+use Rattle.golay.specs.Code.{word24, check, nearest}
+use Rattle.words.specs.declared.Data.{Data}
+use Rattle.words.specs.declared.Words.{Words}
 
 unfoldable pub protected : List ℕ → List ℕ
 protected bytes = taken 8 90 (sent 24 (map word24 (taken 12 30 (sent 8 bytes))))
@@ -35,6 +38,18 @@ turned (n ∷ ns) = flips (word24 (nearest word24 n)) n + turned ns
 
 unfoldable pub dataOf : List ℕ → List ℕ
 dataOf is = taken 8 45 (sent 12 is)
+
+-- the words one by one: as `dataRead`, before the informations are made bytes
+unfoldable pub wordsRead : List ℕ → Words
+wordsRead ns =
+    let place = failed (informations ns) in
+    let short = ltb place 30 in
+    record { place = place; flips = cond short 0 (turned ns); informations = cond short (blank 30) (informations ns) }
+
+-- the clean pass over the words: the first twelve bits of each, and that each has the right check bits if nothing is wrong
+pub record Passed (ns : List ℕ) (wrong : ℕ) (is : List ℕ) : Type 0 where
+  pub first : is ≡ map (λ (n : ℕ). n % 4096) ns
+  pub right : wrong ≡ 0 → (w : ℕ) → w < 30 → check (getD ns w 0 % 4096) ≡ getD ns w 0 / 4096
 
 unfoldable pub dataRead : List ℕ → Data
 dataRead useful =

@@ -1,0 +1,208 @@
+// Protected data (7.4.2.1, 8.3.2): 90 bytes are thirty words, 45 bytes are thirty informations of twelve bits.
+ghost use mathlib.Core.Path.{_≡_};
+ghost use mathlib.Core.List.{map};
+ghost use Prim.Native.Nat.{ℕ, _<_};
+ghost use lib.ListN.{length, getD};
+ghost use Rattle.bits.specs.Bits.{sent, taken};
+ghost use Rattle.golay.specs.Code.{word24, Checks, Patterns, Lent};
+ghost use Rattle.words.specs.Protected.{protected, wordsOf, dataOf, dataRead, wordsRead, Passed};
+
+// What 90 protected bytes are read as: the place of the first word that cannot be read, 30 where all can; the flips of
+// all words; the 45 bytes. Flips and bytes are 0 where a word cannot be read.
+pub struct Data {
+    pub place: u8,
+    pub flips: u8,
+    pub bytes: [u8; 45],
+}
+
+// What the words are read as: the place of the first that cannot be read, 30 where all can; the flips of all; their
+// informations. Flips and informations are 0 where one cannot be read.
+pub struct Words {
+    pub place: u8,
+    pub flips: u8,
+    pub informations: [u16; 30],
+}
+
+// The first twelve bits of each word, and 0 if each word has the right check bits.
+pub struct Pass {
+    pub wrong: u32,
+    pub informations: [u16; 30],
+}
+
+impl Words {
+    pub const COUNT: usize = 30;
+    pub const INFORMATIONS: u32 = 4096;
+}
+
+// What 90 protected bytes are read as. Where every word is right, no table of patterns is set up; otherwise one is, unless
+// the caller lends it.
+pub fn unprotect(patterns: &[u32], useful: &[u8]) -> Data
+    requires { ⌜ Lent (now patterns) ⌝ }
+    requires { ⌜ length (now useful) ≡ 90 ⌝ }
+    ensures { λ r. ⌜ r ≡ dataRead (now (useful .entry)) ⌝ }
+{
+    let checks = lookup::checks();
+    let pass = passed(&checks, useful);
+    if pass.wrong == 0 {
+        let informations = pass.informations;
+        return Data {
+            place: 30,
+            flips: 0,
+            bytes: gathered(informations),
+        };
+    }
+    if patterns.len() == 2048 {
+        return corrected(&checks, patterns, useful);
+    }
+    let own = lookup::patterns();
+    corrected(&checks, &own, useful)
+}
+
+// The same where some word may be damaged, by the table of patterns.
+fn corrected(checks: &[u16; 128], patterns: &[u32], useful: &[u8]) -> Data
+    requires { ⌜ Checks (now checks) ⌝ }
+    requires { ⌜ Patterns (now patterns) ⌝ }
+    requires { ⌜ length (now useful) ≡ 90 ⌝ }
+    ensures { λ r. ⌜ r ≡ dataRead (now (useful .entry)) ⌝ }
+{
+    let words = read(checks, patterns, useful);
+    let place = words.place;
+    if place < 30 {
+        return Data {
+            place,
+            flips: 0,
+            bytes: [0; 45],
+        };
+    }
+    let informations = words.informations;
+    Data {
+        place: 30,
+        flips: words.flips,
+        bytes: gathered(informations),
+    }
+}
+
+// Word w of 90 bytes: three bytes, lowest first.
+fn word(useful: &[u8], w: usize) -> u32
+    requires { ⌜ length (now useful) ≡ 90 ⌝ }
+    requires { ⌜ w < 30 ⌝ }
+    ensures { λ r. ⌜ r ≡ getD (wordsOf (now (useful .entry))) w 0 ⌝ }
+{
+    let at = w * 3;
+    useful[at] as u32 | (useful[at + 1] as u32) << 8 | (useful[at + 2] as u32) << 16
+}
+
+// The clean pass: no early end, what is wrong is folded together.
+fn passed(checks: &[u16; 128], useful: &[u8]) -> Pass
+    requires { ⌜ Checks (now checks) ⌝ }
+    requires { ⌜ length (now useful) ≡ 90 ⌝ }
+    ensures { λ r. ⌜ Passed (wordsOf (now (useful .entry))) (r .wrong) (r .informations) ⌝ }
+{
+    let mut wrong: u32 = 0;
+    let mut informations = [0u16; 30];
+    let mut w: usize = 0;
+    while w < Words::COUNT {
+        let n = word(useful, w);
+        let i = n % Words::INFORMATIONS;
+        wrong = wrong | (bare::code::check(checks, i) ^ n / Words::INFORMATIONS);
+        informations[w] = i as u16;
+        w += 1;
+    }
+    Pass {
+        wrong,
+        informations,
+    }
+}
+
+// The words one by one, up to the first that cannot be read.
+fn read(checks: &[u16; 128], patterns: &[u32], useful: &[u8]) -> Words
+    requires { ⌜ Checks (now checks) ⌝ }
+    requires { ⌜ Patterns (now patterns) ⌝ }
+    requires { ⌜ length (now useful) ≡ 90 ⌝ }
+    ensures { λ r. ⌜ r ≡ wordsRead (wordsOf (now (useful .entry))) ⌝ }
+{
+    let mut flips: u8 = 0;
+    let mut informations = [0u16; 30];
+    let mut w: usize = 0;
+    while w < Words::COUNT {
+        let one = bare::word_by(checks, patterns, word(useful, w));
+        if one.number != 0 {
+            return Words {
+                place: w as u8,
+                flips: 0,
+                informations: [0; 30],
+            };
+        }
+        flips = flips + one.flips;
+        informations[w] = one.information;
+        w += 1;
+    }
+    Words {
+        place: 30,
+        flips,
+        informations,
+    }
+}
+
+// The 45 bytes of thirty informations: two informations are three bytes.
+fn gathered(informations: [u16; 30]) -> [u8; 45]
+    requires { ⌜ ((k : ℕ) → getD informations k 0 < 4096) ⌝ }
+    ensures { λ r. ⌜ r ≡ dataOf informations ⌝ }
+{
+    let mut bytes = [0u8; 45];
+    let mut v: usize = 0;
+    while v < 15 {
+        let a = informations[v * 2];
+        let b = informations[v * 2 + 1];
+        bytes[v * 3] = (a & 255) as u8;
+        bytes[v * 3 + 1] = (a >> 8) as u8 | ((b & 15) << 4) as u8;
+        bytes[v * 3 + 2] = (b >> 4) as u8;
+        v += 1;
+    }
+    bytes
+}
+
+// The 90 protected bytes of 45.
+pub fn protect(bytes: &[u8]) -> [u8; 90]
+    requires { ⌜ length (now bytes) ≡ 45 ⌝ }
+    ensures { λ r. ⌜ r ≡ protected (now (bytes .entry)) ⌝ }
+{
+    let checks = lookup::checks();
+    coded(&checks, segments(bytes))
+}
+
+// Each successive 12-bit segment of 45 bytes: three bytes are two segments.
+fn segments(bytes: &[u8]) -> [u16; 30]
+    requires { ⌜ length (now bytes) ≡ 45 ⌝ }
+    ensures { λ r. ⌜ r ≡ taken 12 30 (sent 8 (now (bytes .entry))) ⌝ }
+{
+    let mut informations = [0u16; 30];
+    let mut v: usize = 0;
+    while v < 15 {
+        let a = bytes[v * 3] as u16;
+        let b = bytes[v * 3 + 1] as u16;
+        let c = bytes[v * 3 + 2] as u16;
+        informations[v * 2] = a | (b & 15) << 8;
+        informations[v * 2 + 1] = b >> 4 | c << 4;
+        v += 1;
+    }
+    informations
+}
+
+// The words of thirty informations, three bytes each.
+fn coded(checks: &[u16; 128], informations: [u16; 30]) -> [u8; 90]
+    requires { ⌜ Checks (now checks) ⌝ }
+    requires { ⌜ ((k : ℕ) → getD informations k 0 < 4096) ⌝ }
+    ensures { λ r. ⌜ r ≡ taken 8 90 (sent 24 (map word24 informations)) ⌝ }
+{
+    let mut useful = [0u8; 90];
+    let mut w: usize = 0;
+    while w < Words::COUNT {
+        let n = bare::code::data_word(checks, informations[w] as u32);
+        useful[w * 3] = (n & 255) as u8;
+        useful[w * 3 + 1] = (n >> 8 & 255) as u8;
+        useful[w * 3 + 2] = (n >> 16) as u8;
+        w += 1;
+    }
+    useful
+}
