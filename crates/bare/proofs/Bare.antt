@@ -24,7 +24,7 @@ use Rattle.golay.specs.Code.{word23, word24, check, nearest}
 use Rattle.bare.specs.declared.Header.{Header}
 use Rattle.bare.specs.declared.Word.{Word}
 use Rattle.bare.specs.declared.Written.{Written}
-use Rattle.golay.proofs.Reading.{check-word24, nearest23-lt, nearest24-is, nearest24-none}
+use Rattle.golay.proofs.Reading.{clean-word, nearest23-lt, nearest24-is, nearest24-none}
 use Rattle.golay.proofs.Words.{word23-first}
 
 -- ---- headers
@@ -125,8 +125,7 @@ word-clean n h e =
     ∙ (λ j. record { number = 0; information = n % 4096; flips = none j })
   where
     none : flips (word24 (n % 4096)) n ≡ 0
-    none =
-        ap (λ (x : ℕ). flips x n) (sym (check-word24 (n % 4096) (omega arith)) ∙ omega (arith, e)) ∙ flips-same n
+    none = ap (λ (x : ℕ). flips x n) (clean-word n e) ∙ flips-same n
 
 -- by the nearest word of the first 23 bits: its word of 24, if that lies within three flips, and otherwise none
 module _ (n near word : ℕ) (h : n < 2 ^ 24) (e : near ≡ word23 (nearest word23 (n % 2 ^ 23))) (w : word ≡ word24 (near % 4096)) where

@@ -88,16 +88,28 @@ pub word-read : (n i : ℕ) → n < 2 ^ 24 → Near n i
     → wordRead n ≡ record { number = 0; information = i; flips = flips (word24 i) n }
 word-read n i h near = word-near n i h (near .information) (near .near)
 
+-- there are two cases, told by the number
+pub word-readable : (n : ℕ) → n < 2 ^ 24 → wordRead n .number ≡ 0
+    → (nearest word24 n < 4096) × (wordRead n ≡ record { number = 0; information = nearest word24 n; flips = flips (word24 (nearest word24 n)) n })
+word-readable n h e = go (decLt (nearest word24 n) 4096)
+  where
+    go : Dec (nearest word24 n < 4096)
+        → (nearest word24 n < 4096) × (wordRead n ≡ record { number = 0; information = nearest word24 n; flips = flips (word24 (nearest word24 n)) n })
+    go (yes l) = (l, word-near n (nearest word24 n) h l (nearest-near word24 n l))
+    go (no l) = absurd (omega (arith, e, ap (λ (w : Word). w .number) (word-none n h (omega (arith, nearest-le word24 n)))))
+
+pub word-unreadable : (n : ℕ) → n < 2 ^ 24 → (wordRead n .number ≡ 0 → ⊥) → nearest word24 n ≡ 4096
+word-unreadable n h e = go (decLt (nearest word24 n) 4096)
+  where
+    go : Dec (nearest word24 n < 4096) → nearest word24 n ≡ 4096
+    go (yes l) = absurd (e (ap (λ (w : Word). w .number) (word-near n (nearest word24 n) h l (nearest-near word24 n l))))
+    go (no l) = omega (arith, nearest-le word24 n)
+
 pub word-exactly : (n : ℕ) → n < 2 ^ 24 → (wordRead n .number ≡ 0) ↔ ((i : ℕ) × Near n i)
 word-exactly n h = (
-  λ e. there e (decLt (nearest word24 n) 4096),
+  λ e. let l = word-readable n h e .0 in (nearest word24 n, record { information = l; near = nearest-near word24 n l }),
   λ near. ap (λ (w : Word). w .number) (word-read n (near .0) h (near .1)),
 )
-  where
-    there : wordRead n .number ≡ 0 → Dec (nearest word24 n < 4096) → (i : ℕ) × Near n i
-    there e (yes l) = (nearest word24 n, record { information = l; near = nearest-near word24 n l })
-    there e (no l) =
-        absurd (omega (arith, e, ap (λ (w : Word). w .number) (word-none n h (omega (arith, nearest-le word24 n)))))
 
 pub word-flipped : (i e : ℕ) → i < 4096 → e < 2 ^ 24 → ones e ≤ 3
     → wordRead (bitXor (wordWritten i .value) e) ≡ record { number = 0; information = i; flips = ones e }

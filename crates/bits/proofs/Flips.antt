@@ -5,6 +5,7 @@
 --   ones-xor       the ones of a xor and of the common bits together
 --   flips-*        a distance: 0 exactly at equals, symmetric, the triangle law, the parity law
 --   ones-in        the count of ones that computes
+--   or-none        an or is 0 only where both parts are
 --
 -- Assumes nothing.
 use mathlib.Core.Path.{_≡_, refl, sym, ap, ap₂, _∙_, subst}
@@ -13,7 +14,7 @@ use native.Mathlib.Omega.{arith}
 use native.Mathlib.Nat.{mod-lt}
 use native.Mathlib.Numerals.{add-one}
 use lib.Arith.{bin-ind, lt-one}
-use lib.Bits.{bitXor, bitAnd, xor-shr, xor-mod, and-shr, and-mod, xor-add-and, xor-comm, xor-self, xor-zero-r, xor-block, xor-lt}
+use lib.Bits.{bitXor, bitAnd, bitOr, or-add-and, and-le-l, and-le-r, xor-shr, xor-mod, and-shr, and-mod, xor-add-and, xor-comm, xor-self, xor-zero-r, xor-block, xor-lt}
 use lib.Count.{ones, onesIn, ones-step, ones-cat}
 use lib.Pow.{shr-lt, pow-pos, split}
 use Rattle.bits.specs.Bits.{flips}
@@ -136,3 +137,8 @@ flips-low k a b =
 pub flips-of : (c e : ℕ) → flips c (bitXor c e) ≡ ones e
 unfolding flips
 flips-of c e = ap ones (xor-cancel c e)
+
+-- what is folded together with or is 0 only where each part is
+pub or-none : (a b : ℕ) → bitOr a b ≡ 0 → (a ≡ 0) × (b ≡ 0)
+or-none a b e =
+    (omega (arith, or-add-and a b, and-le-r a b), omega (arith, or-add-and a b, and-le-l a b))

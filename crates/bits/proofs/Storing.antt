@@ -1,12 +1,13 @@
 -- Filling a list from its front, as a loop does that stores one value after the other.
 --
 --   stored     a list that agrees with another up to a place agrees one further after the right store there
+--   getD-map   what stands at a place of a list that was mapped
 --   agreed     two lists that agree up to their common length are equal
 --
 -- Assumes nothing.
-use mathlib.Core.Path.{_≡_, sym, ap, ap₂, _∙_}
-use mathlib.Core.List.{List, [], _∷_, _++_}
-use Prim.Native.Nat.{ℕ, suc, _≤_, _<_}
+use mathlib.Core.Path.{_≡_, refl, sym, ap, ap₂, _∙_}
+use mathlib.Core.List.{List, [], _∷_, _++_, map}
+use Prim.Native.Nat.{ℕ, zero, suc, _≤_, _<_}
 use native.Mathlib.Omega.{arith}
 use lib.ListN.{length, take, getD, set}
 use lib.Seq.{take-suc, take-suc-set, take-all}
@@ -20,3 +21,8 @@ stored out target j n v e ho ht en ev =
 
 pub agreed : (xs ys : List ℕ) (n k : ℕ) → take k xs ≡ take k ys → length xs ≡ n → length ys ≡ n → n ≤ k → xs ≡ ys
 agreed xs ys n k e lx ly h = sym (take-all k xs (omega arith)) ∙ e ∙ take-all k ys (omega arith)
+
+pub getD-map : (f : ℕ → ℕ) (ns : List ℕ) (k : ℕ) → k < length ns → getD (map f ns) k 0 ≡ f (getD ns k 0)
+getD-map f [] k h = absurd (omega arith)
+getD-map f (n ∷ ns) zero h = refl
+getD-map f (n ∷ ns) (suc k) h = getD-map f ns k (omega arith)

@@ -4,6 +4,8 @@
 --   corrected-nearest    n with the pattern of its remainder flipped back is the word nearest to n
 --   nearest23-lt         each number of 23 bits has a nearest word: the code is perfect
 --   nearest24-*          the nearest word of 24 bits, from that of the first 23
+--   clean-*              what has no remainder, what has the right check bits
+--   lent-*               a lent table of patterns, or none
 --
 -- Assumes nothing.
 use mathlib.Core.Path.{_≡_, refl, sym, ap, ap₂, _∙_, subst}
@@ -13,11 +15,13 @@ use native.Mathlib.Nat.{mod-lt, le-trans}
 use lib.Dec.{lit<}
 use lib.Bits.{bitXor, xor-self, xor-lt, xor-comm}
 use lib.Count.{ones}
-use lib.ListN.{getD}
+use mathlib.Core.List.{List}
+use mathlib.Core.Logic.{inl, inr}
+use lib.ListN.{length, getD}
 use lib.Pow.{low, split}
 use Rattle.bits.specs.Bits.{flips}
 use Rattle.bits.proofs.Flips.{flips-comm, flips-of, flips-low, flips-same}
-use Rattle.golay.specs.Code.{remainder, word23, word24, check, nearest, Pattern, Patterns}
+use Rattle.golay.specs.Code.{remainder, word23, word24, check, nearest, Pattern, Patterns, Lent}
 use Rattle.golay.proofs.Adding.{check-parts}
 use Rattle.golay.proofs.Division.{remainder-parts, remainder-small, remainder-xor}
 use Rattle.golay.proofs.Nearest.{nearest-is, nearest-none, nearest-one}
@@ -92,3 +96,22 @@ module _ (n : ℕ) where
     where
       elsewhere : (i : ℕ) → flips (word24 i) n ≤ 3 → nearest word23 (n % 2 ^ 23) ≡ i → ⊥
       elsewhere i f e = omega (arith, ap (λ (k : ℕ). flips (word24 k) n) e)
+
+-- a number with the check bits of its information is that information's word
+pub clean-word : (n : ℕ) → check (n % 4096) ≡ n / 4096 → word24 (n % 4096) ≡ n
+clean-word n e = sym (check-word24 (n % 4096) (omega arith)) ∙ omega (arith, e)
+
+-- ---- a lent table
+
+pub lent-full : (t : List ℕ) → Lent t → length t ≡ 2048 → Patterns t
+unfolding Lent
+lent-full t (inl e) l = absurd (omega arith)
+lent-full t (inr p) l = p
+
+pub lent-none : (t : List ℕ) → length t ≡ 0 → Lent t
+unfolding Lent
+lent-none t e = inl e
+
+pub lent-table : (t : List ℕ) → Patterns t → Lent t
+unfolding Lent
+lent-table t p = inr p

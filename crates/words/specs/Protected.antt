@@ -7,7 +7,9 @@
 --   failed is          the place of the first that cannot be read; as many as there are, where all can
 --   turned ns          the flips of all of them
 --   dataOf is          the 45 bytes of thirty informations
---   dataRead useful    what 90 bytes are read as: that place, the flips and the bytes, both 0 where a word cannot be read
+--   wordsRead ns       that place, the flips and the informations, both 0 where a word cannot be read
+--   dataRead useful    the same of 90 bytes, with the 45 bytes of the informations
+--   Passed ns ..       what the pass over clean words finds
 use mathlib.Core.Path.{_≡_}
 use mathlib.Core.Bool.{cond}
 use mathlib.Core.List.{List, [], _∷_, map}
@@ -39,21 +41,20 @@ turned (n ∷ ns) = flips (word24 (nearest word24 n)) n + turned ns
 unfoldable pub dataOf : List ℕ → List ℕ
 dataOf is = taken 8 45 (sent 12 is)
 
--- the words one by one: as `dataRead`, before the informations are made bytes
+-- the place of the first that cannot be read, 30 where all can; where one cannot, flips and informations are 0
 unfoldable pub wordsRead : List ℕ → Words
 wordsRead ns =
     let place = failed (informations ns) in
     let short = ltb place 30 in
     record { place = place; flips = cond short 0 (turned ns); informations = cond short (blank 30) (informations ns) }
 
+-- the same with the bytes of the informations
+unfoldable pub dataRead : List ℕ → Data
+dataRead useful =
+    let read = wordsRead (wordsOf useful) in
+    record { place = read .place; flips = read .flips; bytes = dataOf (read .informations) }
+
 -- the clean pass over the words: the first twelve bits of each, and that each has the right check bits if nothing is wrong
 pub record Passed (ns : List ℕ) (wrong : ℕ) (is : List ℕ) : Type 0 where
   pub first : is ≡ map (λ (n : ℕ). n % 4096) ns
   pub right : wrong ≡ 0 → (w : ℕ) → w < 30 → check (getD ns w 0 % 4096) ≡ getD ns w 0 / 4096
-
-unfoldable pub dataRead : List ℕ → Data
-dataRead useful =
-    let ns = wordsOf useful in
-    let place = failed (informations ns) in
-    let short = ltb place 30 in
-    record { place = place; flips = cond short 0 (turned ns); bytes = cond short (blank 45) (dataOf (informations ns)) }

@@ -66,17 +66,9 @@ fn corrected(checks: &[u16; 128], patterns: &[u32], useful: &[u8]) -> Data
     ensures { λ r. ⌜ r ≡ dataRead (now (useful .entry)) ⌝ }
 {
     let words = read(checks, patterns, useful);
-    let place = words.place;
-    if place < 30 {
-        return Data {
-            place,
-            flips: 0,
-            bytes: [0; 45],
-        };
-    }
     let informations = words.informations;
     Data {
-        place: 30,
+        place: words.place,
         flips: words.flips,
         bytes: gathered(informations),
     }

@@ -1,3 +1,17 @@
+use Rattle.bits.specs.Bits.{blank}
+use Rattle.words.proofs.Each.{words-short, words-whole}
+use mathlib.Core.Path.{_≡_, refl, sym, ap, _∙_, subst}
+use mathlib.Core.List.{List, map}
+use Prim.Native.Nat.{ℕ, _+_, _-_, _*_, _/_, _%_, _≤_, _<_, _^_}
+use native.Mathlib.Omega.{arith}
+use native.Mathlib.Numerals.{add-one}
+use lib.ListN.{length, take, getD, length-set, length-map}
+use Rattle.bits.proofs.Storing.{stored, agreed, getD-map}
+use Rattle.golay.specs.Code.{word24, nearest}
+use Rattle.words.specs.Protected.{wordsOf, wordsRead}
+use Rattle.words.specs.Protected.{informations as informationsOf}
+use Rattle.words.proofs.Packing.{words-length, words-below}
+use Rattle.words.proofs.Each.{one-read, one-unread, Reached, reached-none, reached-more, reached-stop, reached-end}
 use Rattle.words.proofs.read.Statement.{statement}
 use Rattle.words.proofs.read.Tie as tie
 use Rattle.words.proofs.read.Reads as reads
@@ -6,46 +20,72 @@ use Rattle.bare.proofs.word_by.Reads as word-by-reads
 use Rattle.words.proofs.word.Reads as word-reads
 
 abbrev Inv-loop : tie.InvT-loop
-Inv-loop checks patterns useful flips₀ informations₀ w₀ flips informations w = ?
+Inv-loop checks patterns useful flips₀ informations₀ w₀ flips informations w =
+    (w ≤ 30) × (length informations ≡ 30) × (take w informations ≡ take w (informationsOf (wordsOf useful))) × Reached (wordsOf useful) w flips
 
 abbrev μ-loop : tie.MeasureT-loop
-μ-loop checks patterns useful flips₀ informations₀ w₀ flips informations w = ?
+μ-loop checks patterns useful flips₀ informations₀ w₀ flips informations w = 30 - w
 
 loop-holds : tie.Need-loop-holds Inv-loop μ-loop
-loop-holds c = ?
+loop-holds c = (omega arith, refl, refl, reached-none _)
 
 word-requires : tie.Need-word-requires Inv-loop μ-loop
-word-requires c κs = ?
+word-requires c κs = (c .before .before .before .before .pre .1 .1, c .loop-test .taken)
 
 word-by-requires : tie.Need-word-by-requires Inv-loop μ-loop
-word-by-requires c κs = ?
+word-by-requires c κs = (c .before .before .before .before .before .pre .0, (c .before .before .before .before .before .pre .1 .0, subst (λ (x : ℕ). x < 2 ^ 24) (sym (c .word .ensures)) (words-below (c .before .before .before .before .before .args .useful .now) (c .before .before .loop .w))))
 
 cast-t10 : tie.Need-cast-t10 Inv-loop μ-loop
-cast-t10 c = ?
+cast-t10 c = omega arith
 
 returns : tie.Need-returns Inv-loop μ-loop
-returns c = ?
+unfolding blank
+returns c = let s = c .before .before .before .before .before .before .before .before .args .useful .now in
+    let w = c .before .before .before .before .before .loop .w in
+    let stop = one-unread (c .before .before .before .word .result) (getD (wordsOf s) w 0) (c .before .before .word-by .result) (words-below s w) (c .before .before .before .word .ensures) (c .before .before .word-by .ensures) (c .if1 .taken) in
+    sym (words-short (wordsOf s) w
+      (reached-stop (wordsOf s) w (c .before .before .before .before .before .loop .flips) (omega (arith, words-length s, c .before .before .before .before .loop-test .taken)) (c .before .before .before .before .before .loop .inv .3) stop) (c .before .before .before .before .loop-test .taken))
 
 add-flips : tie.Need-add-flips Inv-loop μ-loop
-add-flips c = ?
+add-flips c = let s = c .before .before .before .before .before .before .before .before .before .args .useful .now in
+    let w = c .before .before .before .before .before .before .loop .w in
+    let r = one-read (c .before .before .before .before .word .result) (getD (wordsOf s) w 0) (c .before .before .before .word-by .result) (words-below s w) (c .before .before .before .before .word .ensures) (c .before .before .before .word-by .ensures) (c .before .if1 .left) in
+    omega (arith, r .few, c .before .before .before .before .before .before .loop .inv .3 .few, c .before .before .before .before .before .loop-test .taken)
 
 mul-informations : tie.Need-mul-informations Inv-loop μ-loop
-mul-informations c = ?
+mul-informations c = omega arith
 
 array-write-informations : tie.Need-array-write-informations Inv-loop μ-loop
-array-write-informations c = ?
+array-write-informations c = omega arith
 
 add-w : tie.Need-add-w Inv-loop μ-loop
-add-w c = ?
+add-w c = omega arith
 
 loop-less : tie.Need-loop-less Inv-loop μ-loop
-loop-less c = ?
+loop-less c = omega arith
 
 loop-again : tie.Need-loop-again Inv-loop μ-loop
-loop-again c = ?
+unfolding informationsOf
+loop-again c = let s = c .before .before .before .before .before .before .before .before .before .args .useful .now in
+    let w = c .before .before .before .before .before .before .loop .w in
+    let l : w < length (wordsOf s) = omega (arith, words-length s, c .before .before .before .before .before .loop-test .taken) in
+    let r = one-read (c .before .before .before .before .word .result) (getD (wordsOf s) w 0) (c .before .before .before .word-by .result) (words-below s w) (c .before .before .before .before .word .ensures) (c .before .before .before .word-by .ensures) (c .before .if1 .left) in (
+      omega (arith, c .before .before .before .before .before .loop-test .taken),
+      simp length-set (c .before .before .before .before .before .before .loop .inv .1),
+      stored (c .before .before .before .before .before .before .loop .informations) (informationsOf (wordsOf s)) w (w + 1) (c .before .before .before .word-by .result .information) (c .before .before .before .before .before .before .loop .inv .2)
+      (omega (arith, c .before .before .before .before .before .before .loop .inv .1, c .before .before .before .before .before .loop-test .taken)) (omega (arith, l, length-map (wordsOf s) (nearest word24))) (add-one w)
+      (r .information ∙ sym (getD-map (nearest word24) (wordsOf s) w l)),
+      subst (λ (x : ℕ). Reached (wordsOf s) (w + 1) (c .before .before .before .before .before .before .loop .flips + x)) (sym (r .flipped))
+      (reached-more (wordsOf s) w (c .before .before .before .before .before .before .loop .flips) l (c .before .before .before .before .before .before .loop .inv .3) (r .near) (omega (arith, r .few, r .flipped))),
+    )
 
 returns-2 : tie.Need-returns-2 Inv-loop μ-loop
-returns-2 c = ?
+unfolding informationsOf
+returns-2 c = let s = c .before .before .before .before .args .useful .now in
+    let end : c .before .loop .w ≡ length (wordsOf s) = omega (arith, words-length s, c .before .loop .inv .0, c .loop-test .left) in
+    let last = reached-end (wordsOf s) (c .before .loop .flips) (subst (λ (x : ℕ). Reached (wordsOf s) x (c .before .loop .flips)) end (c .before .loop .inv .3)) in
+    let same = agreed (c .before .loop .informations) (informationsOf (wordsOf s)) 30 (c .before .loop .w) (c .before .loop .inv .2) (c .before .loop .inv .1) (length-map (wordsOf s) (nearest word24) ∙ words-length s) (omega (arith, end, words-length s)) in
+    (λ i. record { place = 30; flips = sym (last .1) i; informations = same i }) ∙ sym (words-whole (wordsOf s) (last .0 ∙ words-length s))
 
 pub read-spec : {M : Type 1} → statement M
 read-spec =

@@ -1,82 +1,105 @@
+-- `words::segments` meets its contract. The invariant: the segments written so far are those of the bytes. Assumes nothing.
+use mathlib.Core.Path.{_≡_, refl}
+use Prim.Native.Nat.{_+_, _*_, _≤_, _<_, _-_}
+use native.Mathlib.Omega.{arith}
+use lib.ListN.{length, take, length-set}
+use Rattle.bits.specs.Bits.{sent, taken}
+use Rattle.bits.proofs.Runs.{Below}
+use Rattle.bits.proofs.Storing.{agreed}
+use Rattle.words.proofs.Packing.{two-stored, segments-length, segment-first, segment-second}
 use Rattle.words.proofs.segments.Statement.{statement}
 use Rattle.words.proofs.segments.Tie as tie
-use Rattle.words.proofs.segments.Reads as reads
-use Rattle.words.proofs.segments.Lts as lts
 
 abbrev Inv-loop : tie.InvT-loop
-Inv-loop bytes informations₀ v₀ informations v = ?
+Inv-loop bytes informations₀ v₀ informations v =
+    (v ≤ 15) × (length informations ≡ 30)
+    × (take (v * 2) informations ≡ take (v * 2) (taken 12 30 (sent 8 bytes)))
 
 abbrev μ-loop : tie.MeasureT-loop
-μ-loop bytes informations₀ v₀ informations v = ?
+μ-loop bytes informations₀ v₀ informations v = 15 - v
 
 loop-holds : tie.Need-loop-holds Inv-loop μ-loop
-loop-holds c = ?
+loop-holds c = (omega arith, refl, refl)
 
 mul-a : tie.Need-mul-a Inv-loop μ-loop
-mul-a c = ?
+mul-a c = omega arith
 
 shared-slice-read-a : tie.Need-shared-slice-read-a Inv-loop μ-loop
-shared-slice-read-a c = ?
+shared-slice-read-a c = omega arith
 
 cast-a : tie.Need-cast-a Inv-loop μ-loop
-cast-a c = ?
+cast-a c = omega (arith, c .shared-slice-known .given (c .before .before .loop .v * 3))
 
 mul-b : tie.Need-mul-b Inv-loop μ-loop
-mul-b c = ?
+mul-b c = omega arith
 
 add-b : tie.Need-add-b Inv-loop μ-loop
-add-b c = ?
+add-b c = omega arith
 
 shared-slice-read-b : tie.Need-shared-slice-read-b Inv-loop μ-loop
-shared-slice-read-b c = ?
+shared-slice-read-b c = omega arith
 
 cast-b : tie.Need-cast-b Inv-loop μ-loop
-cast-b c = ?
+cast-b c = omega (arith, c .shared-slice-known2 .given (c .before .before .before .loop .v * 3 + 1))
 
 mul-c : tie.Need-mul-c Inv-loop μ-loop
-mul-c c = ?
+mul-c c = omega arith
 
 add-c : tie.Need-add-c Inv-loop μ-loop
-add-c c = ?
+add-c c = omega arith
 
 shared-slice-read-c : tie.Need-shared-slice-read-c Inv-loop μ-loop
-shared-slice-read-c c = ?
+shared-slice-read-c c = omega arith
 
 cast-c : tie.Need-cast-c Inv-loop μ-loop
-cast-c c = ?
+cast-c c = omega (arith, c .shared-slice-known3 .given (c .before .before .before .before .loop .v * 3 + 2))
 
 mul-informations : tie.Need-mul-informations Inv-loop μ-loop
-mul-informations c = ?
+mul-informations c = omega arith
 
 mul-informations-2 : tie.Need-mul-informations-2 Inv-loop μ-loop
-mul-informations-2 c = ?
+mul-informations-2 c = omega arith
 
 array-write-informations : tie.Need-array-write-informations Inv-loop μ-loop
-array-write-informations c = ?
+array-write-informations c = omega arith
 
 mul-informations-3 : tie.Need-mul-informations-3 Inv-loop μ-loop
-mul-informations-3 c = ?
+mul-informations-3 c = omega arith
 
 add-informations : tie.Need-add-informations Inv-loop μ-loop
-add-informations c = ?
+add-informations c = omega arith
 
 mul-informations-4 : tie.Need-mul-informations-4 Inv-loop μ-loop
-mul-informations-4 c = ?
+mul-informations-4 c = omega arith
 
 array-write-informations-2 : tie.Need-array-write-informations-2 Inv-loop μ-loop
-array-write-informations-2 c = ?
+array-write-informations-2 c = omega arith
 
 add-v : tie.Need-add-v Inv-loop μ-loop
-add-v c = ?
+add-v c = omega arith
 
 loop-less : tie.Need-loop-less Inv-loop μ-loop
-loop-less c = ?
+loop-less c = omega arith
 
 loop-again : tie.Need-loop-again Inv-loop μ-loop
-loop-again c = ?
+loop-again c =
+    let loop = c .before .before .before .before .loop in
+    let d = c .before .before .before .before .before .args .bytes .now in
+    let h : Below 256 d = λ k. c .shared-slice-known3 .given k .fits in
+    let v = loop .v in
+    let l : v < 15 = omega arith in
+    let long = segments-length d in (
+      omega arith,
+      simp length-set (omega arith),
+      two-stored (loop .informations) (taken 12 30 (sent 8 d)) (v * 2) ((v + 1) * 2) _ _ (loop .inv .2) (omega arith) (omega arith)
+          (omega arith) (segment-first d h v l) (segment-second d h v l),
+    )
 
 returns : tie.Need-returns Inv-loop μ-loop
-returns c = ?
+returns c =
+    let d = c .before .before .args .bytes .now in
+    agreed (c .before .loop .informations) (taken 12 30 (sent 8 d)) 30 (c .before .loop .v * 2) (c .before .loop .inv .2)
+    (c .before .loop .inv .1) (segments-length d) (omega arith)
 
 pub segments-spec : {M : Type 1} → statement M
 segments-spec =

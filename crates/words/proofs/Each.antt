@@ -1,0 +1,201 @@
+-- Thirty words one by one: what is failed, turned and known after a number of them, and where all have the right check
+-- bits.
+--
+--   failed-pass, failed-stop, failed-none    the place of the first that cannot be read
+--   each-clean     words with the right check bits are read as their first twelve bits, with no flip
+--   Reached        what is known when the first w words have been read; reached-none, reached-more
+--
+-- Assumes nothing.
+use mathlib.Core.Path.{_≡_, refl, sym, ap, ap₂, _∙_, subst}
+use mathlib.Core.Bool.{Bool, cond}
+use mathlib.Core.List.{List, [], _∷_, map}
+use Prim.Native.Nat.{ℕ, zero, suc, _+_, _*_, _/_, _%_, _^_, _≤_, _<_}
+use native.Mathlib.Omega.{arith}
+use native.Mathlib.Numerals.{add-one}
+use borrow.Author.Tests.{le-leb, lt-leb, lt-ltb}
+use native.Mathlib.Decide.{decLt}
+use lib.Dec.{leb, ltb}
+use lib.ListN.{length, getD, drop, length-map}
+use lib.Seq.{drop-cons, drop-length}
+use Rattle.bits.specs.Bits.{flips, blank}
+use Rattle.bits.proofs.Flips.{flips-same}
+use Rattle.golay.specs.Code.{word24, check, nearest}
+use Rattle.bare.specs.Bare.{wordRead}
+use Rattle.bare.specs.declared.Word.{Word}
+use Rattle.bare.proofs.Theorems.{word-readable, word-unreadable}
+use Rattle.golay.proofs.Nearest.{nearest-near}
+use Rattle.golay.proofs.Reading.{clean-word, nearest24-is}
+use Rattle.words.specs.Protected.{wordsOf, informations, failed, turned, wordsRead, dataOf, dataRead}
+use Rattle.words.specs.declared.Words.{Words}
+use Rattle.words.proofs.Packing.{words-length}
+
+pub failed-pass : (i : ℕ) (is : List ℕ) → i < 4096 → failed (i ∷ is) ≡ suc (failed is)
+unfolding failed
+failed-pass i is h = ap (λ (b : Bool). cond b 0 (suc (failed is))) (lt-leb 4096 i h)
+
+pub failed-stop : (i : ℕ) (is : List ℕ) → 4096 ≤ i → failed (i ∷ is) ≡ 0
+unfolding failed
+failed-stop i is h = ap (λ (b : Bool). cond b 0 (suc (failed is))) (le-leb 4096 i h)
+
+pub failed-le : (is : List ℕ) → failed is ≤ length is
+unfolding failed
+failed-le [] = omega arith
+failed-le (i ∷ is) = go (decLt i 4096) (failed-le is)
+  where
+    go : Dec (i < 4096) → failed is ≤ length is → failed (i ∷ is) ≤ suc (length is)
+    go (yes h) rest = omega (arith, failed-pass i is h)
+    go (no h) rest = omega (arith, failed-stop i is (omega arith))
+
+blank-small : (n k : ℕ) → getD (blank n) k 0 < 4096
+unfolding blank
+blank-small zero k = omega arith
+blank-small (suc n) zero = omega arith
+blank-small (suc n) (suc k) = blank-small n k
+
+-- ---- where all have the right check bits
+
+abbrev pub firsts : List ℕ → List ℕ
+firsts ns = map (λ (n : ℕ). n % 4096) ns
+
+one-clean : (n : ℕ) → check (n % 4096) ≡ n / 4096 → nearest word24 n ≡ n % 4096
+one-clean n e =
+    nearest24-is n (n % 4096) (omega arith)
+    (omega (arith, ap (λ (x : ℕ). flips x n) (clean-word n e), flips-same n))
+
+pub record Clean (ns : List ℕ) : Type 0 where
+  pub first : informations ns ≡ firsts ns
+  pub whole : failed (informations ns) ≡ length ns
+  pub none : turned ns ≡ 0
+
+pub each-clean : (ns : List ℕ) → ((w : ℕ) → w < length ns → check (getD ns w 0 % 4096) ≡ getD ns w 0 / 4096) → Clean ns
+unfolding informations failed turned
+each-clean [] h = record { first = refl; whole = refl; none = refl }
+each-clean (n ∷ ns) h = go (each-clean ns (λ w l. h (suc w) (omega arith)))
+  where
+    here : nearest word24 n ≡ n % 4096
+    here = one-clean n (h 0 (omega arith))
+    go : Clean ns → Clean (n ∷ ns)
+    go rest = record {
+      first = ap₂ (λ (x : ℕ) (xs : List ℕ). x ∷ xs) here (rest .first);
+      whole = failed-pass (nearest word24 n) (informations ns) (omega (arith, here)) ∙ ap suc (rest .whole);
+      none = omega (arith, rest .none, ap (λ (x : ℕ). flips (word24 x) n) here, ap (λ (x : ℕ). flips x n) (clean-word n (h 0 (omega arith))), flips-same n)
+    }
+
+-- ---- one after the other
+
+-- a word that was read
+pub record Read (n : ℕ) (r : Word) : Type 0 where
+  pub near : nearest word24 n < 4096
+  pub information : r .information ≡ nearest word24 n
+  pub flipped : r .flips ≡ flips (word24 (nearest word24 n)) n
+  pub few : r .flips ≤ 3
+
+pub one-read : (n m : ℕ) (r : Word) → m < 2 ^ 24 → n ≡ m → r ≡ wordRead n → r .number ≡ 0 → Read m r
+one-read n m r h same e z =
+    let o : r ≡ wordRead m = e ∙ ap wordRead same in
+    let w = word-readable m h (sym (ap (λ (x : Word). x .number) o) ∙ z) in
+    let f : r .flips ≡ flips (word24 (nearest word24 m)) m = ap (λ (x : Word). x .flips) (o ∙ w .1) in
+    record {
+      near = w .0;
+      information = ap (λ (x : Word). x .information) (o ∙ w .1);
+      flipped = f;
+      few = omega (arith, nearest-near word24 m (w .0))
+    }
+
+pub one-unread : (n m : ℕ) (r : Word) → m < 2 ^ 24 → n ≡ m → r ≡ wordRead n → (r .number ≡ 0 → ⊥) → nearest word24 m ≡ 4096
+one-unread n m r h same e ne =
+    word-unreadable m h (λ z. ne (ap (λ (x : Word). x .number) (e ∙ ap wordRead same) ∙ z))
+
+-- the first w words have been read, with so many flips
+pub record Reached (ns : List ℕ) (w f : ℕ) : Type 0 where
+  pub place : failed (informations ns) ≡ w + failed (informations (drop w ns))
+  pub flipped : turned ns ≡ f + turned (drop w ns)
+  pub few : f ≤ 3 * w
+
+pub reached-none : (ns : List ℕ) → Reached ns 0 0
+reached-none ns = record { place = omega arith; flipped = omega arith; few = omega arith }
+
+module _ (ns : List ℕ) (w f : ℕ) (l : w < length ns) where
+  next : drop w ns ≡ getD ns w 0 ∷ drop (w + 1) ns
+  next = drop-cons ns w 0 l ∙ ap (λ (k : ℕ). getD ns w 0 ∷ drop k ns) (sym (add-one w))
+
+  pub reached-more : Reached ns w f → nearest word24 (getD ns w 0) < 4096 → flips (word24 (nearest word24 (getD ns w 0))) (getD ns w 0) ≤ 3
+      → Reached ns (w + 1) (f + flips (word24 (nearest word24 (getD ns w 0))) (getD ns w 0))
+  unfolding informations turned
+  reached-more r h few = record {
+    place = omega (arith, r .place, ap (λ (xs : List ℕ). failed (informations xs)) next, failed-pass (nearest word24 (getD ns w 0)) (informations (drop (w + 1) ns)) h);
+    flipped = omega (arith, r .flipped, ap turned next);
+    few = omega (arith, r .few)
+  }
+
+  pub reached-stop : Reached ns w f → nearest word24 (getD ns w 0) ≡ 4096 → failed (informations ns) ≡ w
+  unfolding informations
+  reached-stop r e =
+      omega (arith, r .place, ap (λ (xs : List ℕ). failed (informations xs)) next, failed-stop (nearest word24 (getD ns w 0)) (informations (drop (w + 1) ns)) (omega (arith, e)))
+
+pub reached-end : (ns : List ℕ) (f : ℕ) → Reached ns (length ns) f → (failed (informations ns) ≡ length ns) × (turned ns ≡ f)
+unfolding informations failed turned
+reached-end ns f r = (
+  omega (arith, r .place, ap (λ (xs : List ℕ). failed (informations xs)) (drop-length ns)),
+  omega (arith, r .flipped, ap turned (drop-length ns)),
+)
+
+-- ---- what is read
+
+wordsAs : ℕ → List ℕ → Words
+wordsAs place ns =
+    let short = ltb place 30 in
+    record { place = place; flips = cond short 0 (turned ns); informations = cond short (blank 30) (informations ns) }
+
+pub words-short : (ns : List ℕ) (w : ℕ) → failed (informations ns) ≡ w → w < 30
+    → wordsRead ns ≡ record { place = w; flips = 0; informations = blank 30 }
+unfolding wordsRead wordsAs
+words-short ns w e h =
+    ap (λ (x : ℕ). wordsAs x ns) e
+    ∙ ap (λ (b : Bool). record { place = w; flips = cond b 0 (turned ns); informations = cond b (blank 30) (informations ns) }) (lt-ltb w 30 h)
+
+pub words-whole : (ns : List ℕ) → failed (informations ns) ≡ 30
+    → wordsRead ns ≡ record { place = 30; flips = turned ns; informations = informations ns }
+unfolding wordsRead wordsAs
+words-whole ns e = ap (λ (x : ℕ). wordsAs x ns) e
+
+-- every information that is read is below 4,096
+failed-whole : (is : List ℕ) → length is ≤ failed is → (k : ℕ) → getD is k 0 < 4096
+failed-whole [] e k = omega arith
+failed-whole (i ∷ is) e k = go (decLt i 4096) (failed-whole is) k
+  where
+    go : Dec (i < 4096) → (length is ≤ failed is → (j : ℕ) → getD is j 0 < 4096) → (j : ℕ) → getD (i ∷ is) j 0 < 4096
+    go (yes h) rest zero = h
+    go (yes h) rest (suc j) = rest (omega (arith, failed-pass i is h)) j
+    go (no h) rest j = absurd (omega (arith, failed-stop i is (omega arith)))
+
+pub words-small : (ns : List ℕ) → length ns ≡ 30 → (k : ℕ) → getD (wordsRead ns .informations) k 0 < 4096
+unfolding blank informations
+words-small ns l k = go (decLt (failed (informations ns)) 30)
+  where
+    go : Dec (failed (informations ns) < 30) → getD (wordsRead ns .informations) k 0 < 4096
+    go (yes h) =
+        subst (λ (r : Words). getD (r .informations) k 0 < 4096) (sym (words-short ns (failed (informations ns)) refl h))
+        (blank-small 30 k)
+    go (no h) =
+        let whole = failed-whole (informations ns) (omega (arith, length-map ns (nearest word24))) in
+        let e : failed (informations ns) ≡ 30 = omega (arith, failed-le (informations ns), length-map ns (nearest word24)) in
+        subst (λ (r : Words). getD (r .informations) k 0 < 4096) (sym (words-whole ns e)) (whole k)
+
+pub firsts-small : (ns : List ℕ) (k : ℕ) → getD (firsts ns) k 0 < 4096
+firsts-small [] k = omega arith
+firsts-small (n ∷ ns) zero = omega arith
+firsts-small (n ∷ ns) (suc k) = firsts-small ns k
+
+-- what a clean pass is read as
+pub data-clean : (s : List ℕ) → ((w : ℕ) → w < 30 → check (getD (wordsOf s) w 0 % 4096) ≡ getD (wordsOf s) w 0 / 4096)
+    → dataRead s ≡ record { place = 30; flips = 0; bytes = dataOf (firsts (wordsOf s)) }
+unfolding dataRead
+data-clean s right =
+    let clean = each-clean (wordsOf s) (λ w l. right w (omega (arith, words-length s))) in
+    let e = words-whole (wordsOf s) (clean .whole ∙ words-length s) in
+    λ i. record {
+      place = ap (λ (r : Words). r .place) e i;
+      flips = (ap (λ (r : Words). r .flips) e ∙ clean .none) i;
+      bytes = ap dataOf (ap (λ (r : Words). r .informations) e ∙ clean .first) i
+    }
