@@ -1,7 +1,7 @@
 -- The type bytes: what is read, and what the four values have between them.
 --
 --   near-hit, near-miss, near-end   the first value within two flips
---   type-near, type-none      read as it, or 28
+--   type-near, type-none      read as it, or 28; type-readable, type-unreadable: told by the number
 --   among-types, type-known, type-unknown
 --   types-apart               any two of the four differ in at least five bits
 --   types-read                148 byte values read, 108 do not
@@ -16,6 +16,7 @@ use Prim.Native.Nat.{ℕ, zero, suc, _+_, _*_, _/_, _%_, _^_, _≤_, _<_}
 use borrow.Author.Tests.{le-leb, lt-leb, lt-ltb}
 use lib.Dec.{T, leb, ltb, eqb, leb→le, ltb→lt, eqb→eq}
 use native.Mathlib.Omega.{arith}
+use native.Mathlib.Decide.{decLt}
 use lib.Bits.{bitXor, xor-lt, xor-zero-r}
 use lib.Count.{ones, onesIn}
 use lib.ListN.{getD}
@@ -58,9 +59,24 @@ type-near b t p h = type-answer b t 0 p (refusal-miss (leb 256 t) 28 [] (lt-leb 
 pub type-found : (b t f : ℕ) (r : TypeByte) → r ≡ typeAs t f → f ≡ flips t b → typeNear types b ≡ t → t < 256 → r ≡ typeRead b
 type-found b t f r e g p h = e ∙ ap (typeAs t) g ∙ sym (type-near b t p h)
 
-pub type-none : (b : ℕ) → typeNear types b ≡ 256 → typeRead b ≡ record { number = 28; value = 0; flips = 0 }
-unfolding asRead given refusal
-type-none b p = type-answer b 256 28 p refl
+pub type-none : (b : ℕ) → 256 ≤ typeNear types b → typeRead b ≡ record { number = 28; value = 0; flips = 0 }
+unfolding asRead given
+type-none b h = type-answer b (typeNear types b) 28 refl (refusal-hit (leb 256 (typeNear types b)) 28 [] (le-leb 256 (typeNear types b) h))
+
+-- the two cases, told by the number
+pub type-readable : (b : ℕ) → typeRead b .number ≡ 0 → (typeNear types b < 256) × (typeRead b .value ≡ typeNear types b)
+type-readable b e = go (decLt (typeNear types b) 256)
+  where
+    go : Dec (typeNear types b < 256) → (typeNear types b < 256) × (typeRead b .value ≡ typeNear types b)
+    go (yes h) = (h, ap (λ (r : TypeByte). r .value) (type-near b (typeNear types b) refl h))
+    go (no h) = absurd (omega (arith, e, ap (λ (r : TypeByte). r .number) (type-none b (omega arith))))
+
+pub type-unreadable : (b : ℕ) → (typeRead b .number ≡ 0 → ⊥) → 256 ≤ typeNear types b
+type-unreadable b ne = go (decLt (typeNear types b) 256)
+  where
+    go : Dec (typeNear types b < 256) → 256 ≤ typeNear types b
+    go (yes h) = absurd (ne (ap (λ (r : TypeByte). r .number) (type-near b (typeNear types b) refl h)))
+    go (no h) = omega arith
 
 -- one of four tests, as the definition asks them and as the code joins them
 one-of-four : (p q r s : Bool) → cond p true (cond q true (cond r true (cond s true false))) ≡ (((p || q) || r) || s)

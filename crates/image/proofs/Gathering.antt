@@ -1,7 +1,5 @@
 -- What shifts and masks gather: the code's expressions are the numbers of the definitions.
 --
---   stored, agreed     a list that agrees with another up to a place agrees one further after the right store there, and
---                      is the other in the end
 --   header-gathered, spare-gathered        the header and the spare bit of an image's bytes
 --   first-three, next-byte, last-byte      an image's bytes from the header and the 91 bytes
 --

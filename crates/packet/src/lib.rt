@@ -1,6 +1,6 @@
 // A packet: what its type byte and data are read as, and the image that is written. It knows no state.
 ghost use mathlib.Core.Path.{_≡_};
-ghost use Prim.Native.Nat.{_<_};
+ghost use Prim.Native.Nat.{_<_, _≤_};
 ghost use lib.ListN.{length};
 ghost use Rattle.bare.specs.Bare.{headerRead};
 ghost use Rattle.golay.specs.Code.{Lent};
@@ -56,7 +56,10 @@ pub fn received_by(patterns: &[u32], header: Header, protected: bool, image: &[u
         return refused(28, 0);
     }
     let value = kind.value;
-    if (value == TypeByte::CONTROL) | (value == TypeByte::RESERVED) {
+    if value == TypeByte::CONTROL {
+        return refused(29, 0);
+    }
+    if value == TypeByte::RESERVED {
         return refused(29, 0);
     }
     if value == TypeByte::SCRAMBLED {
@@ -65,7 +68,7 @@ pub fn received_by(patterns: &[u32], header: Header, protected: bool, image: &[u
     if protected {
         unprotected(patterns, header.index, &bytes[1..91])
     } else {
-        plain(header.index, &bytes[1..91])
+        part(header.index, &bytes[1..91])
     }
 }
 
@@ -81,15 +84,15 @@ fn refused(number: u8, place: u8) -> Reading
     }
 }
 
-// The packet of 90 plain bytes.
-fn plain(index: u8, useful: &[u8]) -> Reading
-    requires { ⌜ length (now useful) ≡ 90 ⌝ }
-    ensures { λ r. ⌜ r ≡ partAs index (now (useful .entry)) ⌝ }
+// A packet that is read: its bytes, with 0 behind them to fill the room of 90.
+fn part(index: u8, from: &[u8]) -> Reading
+    requires { ⌜ length (now from) ≤ 90 ⌝ }
+    ensures { λ r. ⌜ r ≡ partAs index (now (from .entry)) ⌝ }
 {
     let mut bytes = [0u8; 90];
     let mut k: usize = 0;
-    while k < Reading::USEFUL {
-        bytes[k] = useful[k];
+    while k < from.len() {
+        bytes[k] = from[k];
         k += 1;
     }
     Reading {
@@ -111,19 +114,8 @@ fn unprotected(patterns: &[u32], index: u8, useful: &[u8]) -> Reading
     if place < 30 {
         return refused(31, place);
     }
-    let from = data.bytes;
-    let mut bytes = [0u8; 90];
-    let mut k: usize = 0;
-    while k < Reading::DATA {
-        bytes[k] = from[k];
-        k += 1;
-    }
-    Reading {
-        number: 0,
-        place: 0,
-        index,
-        bytes,
-    }
+    let bytes = data.bytes;
+    part(index, &bytes)
 }
 
 // The image of a packet.

@@ -27,7 +27,7 @@ use Rattle.golay.proofs.Nearest.{nearest-near}
 use Rattle.golay.proofs.Reading.{clean-word, nearest24-is}
 use Rattle.words.specs.Protected.{wordsOf, informations, failed, turned, wordsRead, dataOf, dataRead}
 use Rattle.words.specs.declared.Words.{Words}
-use Rattle.words.proofs.Packing.{words-length}
+use Rattle.words.proofs.Packing.{words-length, data-length}
 
 pub failed-pass : (i : ℕ) (is : List ℕ) → i < 4096 → failed (i ∷ is) ≡ suc (failed is)
 unfolding failed
@@ -199,3 +199,7 @@ data-clean s right =
       flips = (ap (λ (r : Words). r .flips) e ∙ clean .none) i;
       bytes = ap dataOf (ap (λ (r : Words). r .informations) e ∙ clean .first) i
     }
+
+pub read-length : (s : List ℕ) → length (dataRead s .bytes) ≡ 45
+unfolding dataRead
+read-length s = data-length (wordsRead (wordsOf s) .informations)

@@ -1,5 +1,6 @@
 use mathlib.Core.Path.{refl, sym, subst, _∙_}
 use Prim.Native.Nat.{ℕ, _<_, _≤_}
+use native.Mathlib.Nat.{le-of-eq}
 use lib.Dec.{lit<}
 use Rattle.bare.proofs.Types.{near-hit, near-miss, near-end, type-found, type-none}
 use native.Mathlib.Omega.{arith}
@@ -56,7 +57,7 @@ returns-4 c = let b = c .before .before .before .before .before .before .before 
 
 returns-5 : tie.Need-returns-5
 returns-5 c = let b = c .before .before .before .before .before .before .before .before .args .byte in
-    sym (type-none b (near-miss 0x00 _ b (omega arith) ∙ near-miss 0x3F _ b (omega arith) ∙ near-miss 0xC7 _ b (omega arith) ∙ near-miss 0xF8 _ b (omega arith) ∙ near-end b))
+    sym (type-none b (le-of-eq (sym (near-miss 0x00 _ b (omega arith) ∙ near-miss 0x3F _ b (omega arith) ∙ near-miss 0xC7 _ b (omega arith) ∙ near-miss 0xF8 _ b (omega arith) ∙ near-end b))))
 
 pub read-type-spec : {M : Type 1} → statement M
 read-type-spec =
