@@ -34,7 +34,7 @@ headerAs answer i n = record {
   number = answer;
   address = given answer (i % 1024);
   index = given answer (i / 1024);
-  flips = given answer (flips (word23 i) n)
+  flips = given answer (flips (word23 i) n);
 }
 
 header-answer : (n k : ℕ) → refusal (row (leb (2 ^ 23) n) 33 ∷ []) ≡ k → headerRead n ≡ headerAs k (nearest word23 n) n
@@ -59,10 +59,13 @@ header-word n w h e =
   where
     information : nearest word23 n ≡ w % 2 ^ 12
     information = sym (ap (λ (x : ℕ). x % 2 ^ 12) e ∙ word23-first (nearest word23 n) (nearest23-lt n h))
+
     address : nearest word23 n % 1024 ≡ w % 1024
     address = omega (arith, information)
+
     index : nearest word23 n / 1024 ≡ w / 1024 % 4
     index = omega (arith, information)
+
     turned : ones (bitXor (word23 (nearest word23 n)) n) ≡ ones (bitXor n w)
     turned = ap (λ (x : ℕ). ones (bitXor x n)) (sym e) ∙ ap ones (xor-comm w n)
 

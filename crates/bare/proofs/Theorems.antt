@@ -49,7 +49,7 @@ header-exactly n h =
       information = l;
       near = f;
       only = λ j hj fj. nearest-one word23 word23-apart n j (nearest word23 n) hj l fj f;
-      reads = header-reads n (nearest word23 n) h refl
+      reads = header-reads n (nearest word23 n) h refl;
     }
 
 pub header-flipped : (a i e : ℕ) → a ≤ 1023 → i ≤ 3 → e < 2 ^ 23 → ones e ≤ 3
@@ -57,12 +57,13 @@ pub header-flipped : (a i e : ℕ) → a ≤ 1023 → i ≤ 3 → e < 2 ^ 23 →
 header-flipped a i e ha hi he few =
     ap (λ (w : Written). headerRead (bitXor (w .value) e)) (header-written a i ha hi)
     ∙ header-reads (bitXor (word23 (a + 1024 * i)) e) (a + 1024 * i)
-      (xor-lt 23 (word23 (a + 1024 * i)) e (word23-lt (a + 1024 * i) (omega arith)) he)
-      (nearest-read word23 word23-apart (a + 1024 * i) e (omega arith) few)
+    (xor-lt 23 (word23 (a + 1024 * i)) e (word23-lt (a + 1024 * i) (omega arith)) he)
+    (nearest-read word23 word23-apart (a + 1024 * i) e (omega arith) few)
     ∙ (λ j. record { number = 0; address = address j; index = index j; flips = flips-of (word23 (a + 1024 * i)) e j })
   where
     address : (a + 1024 * i) % 1024 ≡ a
     address = omega arith
+
     index : (a + 1024 * i) / 1024 ≡ i
     index = omega arith
 
@@ -123,7 +124,7 @@ pub word-four : (i e : ℕ) → i < 4096 → e < 2 ^ 24 → ones e ≡ 4
 word-four i e h he four =
     ap (λ (w : Written). wordRead (bitXor (w .value) e)) (word-written i h)
     ∙ word-none (bitXor (word24 i) e) (xor-lt 24 (word24 i) e (word24-lt i h) he)
-      (nearest-far word24 eight-seven word24-apart (bitXor (word24 i) e) i h (flips-of (word24 i) e ∙ four))
+    (nearest-far word24 eight-seven word24-apart (bitXor (word24 i) e) i h (flips-of (word24 i) e ∙ four))
 
 pub word-back : (i : ℕ) → i < 4096 → wordRead (wordWritten i .value) ≡ record { number = 0; information = i; flips = 0 }
 word-back i h =

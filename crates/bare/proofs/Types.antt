@@ -131,11 +131,12 @@ unfolding apartAt
 types-apart j k l h =
     subst (λ (x : ℕ). 5 ≤ x) (sym (byte-flips (typeAt j) (typeAt k) (type-lt j (omega arith)) (type-lt k h)))
     (leb→le 5 _ (subst T (ap (λ (t : Bool). cond t (leb 5 (byteFlips (typeAt j) (typeAt k))) true) (lt-ltb j k l))
-      (subst₂ (λ (x y : ℕ). T (cond (ltb x y) (leb 5 (byteFlips (typeAt x) (typeAt y))) true)) front back
-        (every-at apartAt 4 all-apart (j * 4 + k) (omega arith)))))
+    (subst₂ (λ (x y : ℕ). T (cond (ltb x y) (leb 5 (byteFlips (typeAt x) (typeAt y))) true)) front back
+    (every-at apartAt 4 all-apart (j * 4 + k) (omega arith)))))
   where
     front : (j * 4 + k) / 4 ≡ j
     front = omega arith
+
     back : (j * 4 + k) % 4 ≡ k
     back = omega arith
 
@@ -157,16 +158,17 @@ all-read : T (every readAt 10 0)
 unfolding readAt byteFlips typeNear flips ones onesIn
 all-read = tt
 
-within-near : (k b : ℕ) → k < 4 → b < 2 ^ 8 → flips (typeAt k) b ≤ 2 → typeNear types b ≡ typeAt k
+pub within-near : (k b : ℕ) → k < 4 → b < 2 ^ 8 → flips (typeAt k) b ≤ 2 → typeNear types b ≡ typeAt k
 unfolding readAt
 within-near k b hk hb f =
     eqb→eq (typeNear types b) (typeAt k)
     (subst T (ap (λ (t : Bool). cond t (eqb (typeNear types b) (typeAt k)) true) (le-leb (byteFlips (typeAt k) b) 2 (subst (λ (x : ℕ). x ≤ 2) (byte-flips (typeAt k) b (type-lt k hk) hb) f)))
-      (subst₂ (λ (x y : ℕ). T (cond (leb (byteFlips (typeAt x) y) 2) (eqb (typeNear types y) (typeAt x)) true)) front back
-        (every-at readAt 10 all-read (k * 256 + b) (omega arith))))
+    (subst₂ (λ (x y : ℕ). T (cond (leb (byteFlips (typeAt x) y) 2) (eqb (typeNear types y) (typeAt x)) true)) front back
+    (every-at readAt 10 all-read (k * 256 + b) (omega arith))))
   where
     front : (k * 256 + b) / 256 ≡ k
     front = omega arith
+
     back : (k * 256 + b) % 256 ≡ b
     back = omega arith
 

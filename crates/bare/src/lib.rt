@@ -40,23 +40,31 @@ pub struct Written {
 impl Header {
     // How many headers, addresses and indices there are (4.3.6.1), and the number of a refusal for want of bits.
     pub const NUMBERS: u32 = 8388608;
+
     pub const ADDRESSES: u32 = 1024;
+
     pub const INDICES: u32 = 4;
 }
 
 impl Word {
     // How many numbers of 24 bits there are, how many informations, and how many flips are corrected.
     pub const NUMBERS: u32 = 16777216;
+
     pub const INFORMATIONS: u32 = 4096;
+
     pub const CORRECTED: u32 = 3;
 }
 
 impl TypeByte {
     // 7.4.2.3, and the house rule on flips.
     pub const DATA: u8 = 0x00;
+
     pub const CONTROL: u8 = 0x3F;
+
     pub const RESERVED: u8 = 0xC7;
+
     pub const SCRAMBLED: u8 = 0xF8;
+
     pub const CORRECTED: u32 = 2;
 }
 

@@ -38,6 +38,7 @@ every-from p (suc d) i t j h =
     front =
         ap (λ (x : ℕ). i * x) (pow-suc 2 d) ∙ sym (mul-assoc i (2 ^ d) 2) ∙ mul-comm (i * 2 ^ d) 2
         ∙ sym (mul-assoc 2 i (2 ^ d))
+
     go : ((k : ℕ) → k < 2 ^ d → T (p (2 * i * 2 ^ d + k))) → ((k : ℕ) → k < 2 ^ d → T (p ((2 * i + 1) * 2 ^ d + k)))
         → Dec (j < 2 ^ d) → T (p (i * 2 ^ suc d + j))
     go low high (yes l) = subst (λ (n : ℕ). T (p (n + j))) (sym front) (low j l)

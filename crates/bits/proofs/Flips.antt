@@ -41,10 +41,10 @@ pub xor-assoc : (a b c : ℕ) → bitXor (bitXor a b) c ≡ bitXor a (bitXor b c
 xor-assoc =
     bin-ind (λ (n : ℕ). (b c : ℕ) → bitXor (bitXor n b) c ≡ bitXor n (bitXor b c)) (λ b c. refl)
     (λ n ih b c. by-halves _ _
-      (xor-half (bitXor n b) c ∙ ap (λ (x : ℕ). bitXor x (c / 2)) (xor-half n b) ∙ ih (b / 2) (c / 2)
-        ∙ sym (xor-half n (bitXor b c) ∙ ap (bitXor (n / 2)) (xor-half b c)))
-      (xor-parity (bitXor n b) c ∙ sum-parity (bitXor n b) (n + b) c (xor-parity n b) ∙ regroup n b c
-        ∙ sym (xor-parity n (bitXor b c) ∙ sum-parity-r (bitXor b c) (b + c) n (xor-parity b c))))
+    (xor-half (bitXor n b) c ∙ ap (λ (x : ℕ). bitXor x (c / 2)) (xor-half n b) ∙ ih (b / 2) (c / 2)
+    ∙ sym (xor-half n (bitXor b c) ∙ ap (bitXor (n / 2)) (xor-half b c)))
+    (xor-parity (bitXor n b) c ∙ sum-parity (bitXor n b) (n + b) c (xor-parity n b) ∙ regroup n b c
+    ∙ sym (xor-parity n (bitXor b c) ∙ sum-parity-r (bitXor b c) (b + c) n (xor-parity b c))))
 
 -- taken away twice is put back
 pub xor-cancel : (a b : ℕ) → bitXor a (bitXor a b) ≡ b
@@ -80,10 +80,10 @@ ones-xor =
     bin-ind (λ (n : ℕ). (b : ℕ) → ones (bitXor n b) + 2 * ones (bitAnd n b) ≡ ones n + ones b)
     (λ b. omega (arith, ones-zero))
     (λ n ih b. ap₂ (λ (x y : ℕ). x + 2 * y) (ones-step (bitXor n b)) (ones-step (bitAnd n b))
-      ∙ ap₂ (λ (x y : ℕ). (bitXor n b % 2 + ones x) + 2 * (bitAnd n b % 2 + ones y)) (xor-half n b) (and-shr n b 1)
-      ∙ carry (bitXor n b % 2) (bitAnd n b % 2) (n % 2) (b % 2) (ones (bitXor (n / 2) (b / 2))) (ones (bitAnd (n / 2) (b / 2)))
-        (ones (n / 2)) (ones (b / 2)) (low-sum n b) (ih (b / 2))
-      ∙ sym (ap₂ (λ (x y : ℕ). x + y) (ones-step n) (ones-step b)))
+    ∙ ap₂ (λ (x y : ℕ). (bitXor n b % 2 + ones x) + 2 * (bitAnd n b % 2 + ones y)) (xor-half n b) (and-shr n b 1)
+    ∙ carry (bitXor n b % 2) (bitAnd n b % 2) (n % 2) (b % 2) (ones (bitXor (n / 2) (b / 2))) (ones (bitAnd (n / 2) (b / 2)))
+    (ones (n / 2)) (ones (b / 2)) (low-sum n b) (ih (b / 2))
+    ∙ sym (ap₂ (λ (x y : ℕ). x + y) (ones-step n) (ones-step b)))
 
 -- the count that computes: below 2 ^ k, k bits are enough to look at
 pub ones-in : (k n : ℕ) → n < 2 ^ k → ones n ≡ onesIn k n
@@ -130,8 +130,11 @@ flips-cat k a b r s hr hs =
 -- so there are no more of them below a place than in all
 pub flips-low : (k a b : ℕ) → flips (a % 2 ^ k) (b % 2 ^ k) ≤ flips a b
 flips-low k a b =
-    omega (arith, flips-cat k (a / 2 ^ k) (b / 2 ^ k) (a % 2 ^ k) (b % 2 ^ k) (mod-lt a (pow-pos k)) (mod-lt b (pow-pos k)),
-    ap₂ flips (split a k) (split b k))
+    omega (
+      arith,
+      flips-cat k (a / 2 ^ k) (b / 2 ^ k) (a % 2 ^ k) (b % 2 ^ k) (mod-lt a (pow-pos k)) (mod-lt b (pow-pos k)),
+      ap₂ flips (split a k) (split b k),
+    )
 
 -- what was flipped is what the xor with the sent number shows
 pub flips-of : (c e : ℕ) → flips c (bitXor c e) ≡ ones e

@@ -344,11 +344,11 @@ bytes-word n =
 
 pub regrouped : (w v k j a r : ℕ) (ns : List ℕ) → Below (2 ^ v) ns → j < k → j * w ≡ a * v + r
     → getD (taken w k (sent v ns)) j 0
-      ≡ (getD ns a 0 + 2 ^ v * (getD ns (suc a) 0 + 2 ^ v * number (sent v (drop (suc (suc a)) ns)))) / 2 ^ r % 2 ^ w
+    ≡ (getD ns a 0 + 2 ^ v * (getD ns (suc a) 0 + 2 ^ v * number (sent v (drop (suc (suc a)) ns)))) / 2 ^ r % 2 ^ w
 regrouped w v k j a r ns h l e =
     taken-at w k j (sent v ns) l
     ∙ ap (λ (x : ℕ). number (take w (drop x (sent v ns)))) e
     ∙ ap (λ (bs : List ℕ). number (take w bs)) (sym (drop-drop r (a * v) (sent v ns)) ∙ ap (drop r) (sent-drop v a ns))
     ∙ digit w r (sent v (drop a ns)) (sent-below v (drop a ns))
     ∙ ap (λ (x : ℕ). x / 2 ^ r % 2 ^ w)
-      (number-at v a ns h ∙ ap (λ (x : ℕ). getD ns a 0 + 2 ^ v * x) (number-at v (suc a) ns h))
+    (number-at v a ns h ∙ ap (λ (x : ℕ). getD ns a 0 + 2 ^ v * x) (number-at v (suc a) ns h))

@@ -46,8 +46,10 @@ parity-xor i j hi hj =
       where
         step : (d s : ℕ) → d % 2 ≡ s % 2 → suc d % 2 ≡ (s + 1) % 2
         step d s e = omega arith
+
         two : (a b : ℕ) → (a + b + 1) % 2 ≡ (suc a % 2 + suc b % 2 + 1) % 2
         two a b = omega arith
+
     bits-xor : (a b : ℕ) → a < 2 → b < 2 → bitXor (bitXor a b) 1 ≡ (a + b + 1) % 2
     bits-xor zero zero ha hb = refl
     bits-xor zero (suc zero) ha hb = refl
@@ -113,13 +115,14 @@ entry k h = eqb→eq (getD checks k 0) (half (ltb k 64) k) (entries-at (λ (k x 
 pub checks-right : Checks checks
 checks-right = record {
   size = entries-length (λ (k x : ℕ). eqb x (half (ltb k 64) k)) 128 0 checks all-right;
-  each = λ i h. ap₂ bitXor (first i) (second i h) ∙ check-split i h
+  each = λ i h. ap₂ bitXor (first i) (second i h) ∙ check-split i h;
 }
   where
     first : (i : ℕ) → getD checks (i % 64) 0 ≡ bitXor (check (i % 64)) (2 ^ 11)
     first i =
         entry (i % 64) (omega arith) ∙ ap (λ (b : Bool). half b (i % 64)) (lt-ltb (i % 64) 64 (mod-lt i (lit< tt)))
         ∙ xor-comm (2 ^ 11) (computed (i % 64)) ∙ ap (λ (x : ℕ). bitXor x (2 ^ 11)) (computed-is (i % 64) (omega arith))
+
     second : (i : ℕ) → i < 2 ^ 12 → getD checks (i / 64 + 64) 0 ≡ check (i / 64 * 64)
     second i h =
         entry (i / 64 + 64) (omega arith) ∙ ap (λ (b : Bool). half b (i / 64 + 64)) (le-ltb (i / 64 + 64) 64 (omega arith))

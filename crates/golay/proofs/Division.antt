@@ -46,15 +46,18 @@ line-xor a b = ⊎-elim (λ p. ⊎-elim (λ q. both-even p q) (λ q. right p q) 
     both-even p q =
         line-even (bitXor a b) (omega (arith, xor-parity a b)) ∙ xor-half a b
         ∙ sym (ap₂ bitXor (line-even a p) (line-even b q))
+
     both-odd : a % 2 ≡ 1 → b % 2 ≡ 1 → line (bitXor a b) ≡ bitXor (line a) (line b)
     both-odd p q =
         line-even (bitXor a b) (omega (arith, xor-parity a b))
         ∙ ap (λ (x : ℕ). x / 2) (sym (xor-pairs G a G b ∙ ap (λ (x : ℕ). bitXor x (bitXor a b)) (xor-self G)))
         ∙ xor-half (bitXor G a) (bitXor G b) ∙ sym (ap₂ bitXor (line-odd a p) (line-odd b q))
+
     left : a % 2 ≡ 1 → b % 2 ≡ 0 → line (bitXor a b) ≡ bitXor (line a) (line b)
     left p q =
         line-odd (bitXor a b) (omega (arith, xor-parity a b)) ∙ ap (λ (x : ℕ). x / 2) (sym (xor-assoc G a b))
         ∙ xor-half (bitXor G a) b ∙ sym (ap₂ bitXor (line-odd a p) (line-even b q))
+
     right : a % 2 ≡ 0 → b % 2 ≡ 1 → line (bitXor a b) ≡ bitXor (line a) (line b)
     right p q =
         line-odd (bitXor a b) (omega (arith, xor-parity a b))
@@ -88,7 +91,7 @@ pub remainder-parts : (n : ℕ) → remainder n ≡ bitXor (remainder (n % 2 ^ 1
 unfolding remainder
 remainder-parts n =
     ap (divide 12) (sym (xor-shifted (n / 2 ^ 12) 12 (n % 2 ^ 12) (mod-lt n (lit< tt)) ∙ split n 12)
-      ∙ xor-comm (n / 2 ^ 12 * 2 ^ 12) (n % 2 ^ 12))
+    ∙ xor-comm (n / 2 ^ 12 * 2 ^ 12) (n % 2 ^ 12))
     ∙ divide-xor 12 (n % 2 ^ 12) (n / 2 ^ 12 * 2 ^ 12)
     ∙ ap (bitXor (divide 12 (n % 2 ^ 12))) (divide-shifted 12 (n / 2 ^ 12))
 
@@ -99,6 +102,7 @@ line-lt k n h l = ⊎-elim (λ p. even p) (λ p. odd p) (bit n)
   where
     even : n % 2 ≡ 0 → line n < 2 ^ k
     even p = subst (λ (x : ℕ). x < 2 ^ k) (sym (line-even n p)) (shr-lt k 1 l)
+
     odd : n % 2 ≡ 1 → line n < 2 ^ k
     odd p =
         subst (λ (x : ℕ). x < 2 ^ k) (sym (line-odd n p))
@@ -131,6 +135,7 @@ line-back n = ⊎-elim (λ p. even p) (λ p. odd p) (bit n)
   where
     even : n % 2 ≡ 0 → n ≡ bitXor (n % 2 * G) (2 * line n)
     even p = rw (p, line-even n p) (omega arith)
+
     odd : n % 2 ≡ 1 → n ≡ bitXor (n % 2 * G) (2 * line n)
     odd p =
         rw (p, line-odd n p)
@@ -147,20 +152,22 @@ divided (suc k) n = go (divided k (line n))
   where
     scaled : (d : ℕ) → 2 * (2 ^ k * d) ≡ 2 ^ suc k * d
     scaled d = sym (mul-assoc 2 (2 ^ k) d) ∙ ap (λ (x : ℕ). x * d) (mul-comm 2 (2 ^ k) ∙ sym (pow-suc 2 k))
+
     go : (q : ℕ) × (q < 2 ^ k) × (line n ≡ bitXor (product k q G) (2 ^ k * divide k (line n)))
         → (q : ℕ) × (q < 2 ^ suc k) × (n ≡ bitXor (product (suc k) q G) (2 ^ suc k * divide k (line n)))
     go (q, h, e) = (
       n % 2 + 2 * q,
       omega (arith, pow-suc 2 k, mod-lt n {m = 2} (lit< tt)),
       line-back n
-      ∙ ap (λ (x : ℕ). bitXor (n % 2 * G) (2 * x)) e
-      ∙ ap (bitXor (n % 2 * G)) (sym (xor-double (product k q G) (2 ^ k * divide k (line n))) ∙ ap (bitXor (2 * product k q G)) (scaled (divide k (line n))))
-      ∙ sym (xor-assoc (n % 2 * G) (2 * product k q G) (2 ^ suc k * divide k (line n)))
-      ∙ ap₂ (λ (x y : ℕ). bitXor (bitXor (x * G) (2 * product k y G)) (2 ^ suc k * divide k (line n))) (low (n % 2) q (mod-lt n (lit< tt))) (high (n % 2) q (mod-lt n (lit< tt))),
+          ∙ ap (λ (x : ℕ). bitXor (n % 2 * G) (2 * x)) e
+          ∙ ap (bitXor (n % 2 * G)) (sym (xor-double (product k q G) (2 ^ k * divide k (line n))) ∙ ap (bitXor (2 * product k q G)) (scaled (divide k (line n))))
+          ∙ sym (xor-assoc (n % 2 * G) (2 * product k q G) (2 ^ suc k * divide k (line n)))
+          ∙ ap₂ (λ (x y : ℕ). bitXor (bitXor (x * G) (2 * product k y G)) (2 ^ suc k * divide k (line n))) (low (n % 2) q (mod-lt n (lit< tt))) (high (n % 2) q (mod-lt n (lit< tt))),
     )
       where
         low : (b q : ℕ) → b < 2 → b ≡ (b + 2 * q) % 2
         low b q l = omega arith
+
         high : (b q : ℕ) → b < 2 → q ≡ (b + 2 * q) / 2
         high b q l = omega arith
 
@@ -169,6 +176,7 @@ line-multiple b p h = line-xor (b * G) (2 * p) ∙ ap₂ bitXor (none b h) (line
   where
     half : (x : ℕ) → 2 * x / 2 ≡ x
     half x = omega arith
+
     none : (b : ℕ) → b < 2 → line (b * G) ≡ 0
     none zero h = line-even 0 refl
     none (suc zero) h = line-odd G refl ∙ ap (λ (x : ℕ). x / 2) (xor-self G)

@@ -187,20 +187,23 @@ right-pattern : (r e : ℕ) → T (right r e) → Pattern r e
 right-pattern r e t = record {
   bits = lt;
   few = subst (λ (x : ℕ). x ≤ 3) (sym (ones-in 23 e lt)) (leb→le (onesIn 23 e) 3 (both-left few own (both-right small (both few own) t)));
-  own = eqb→eq (remainder e) r (both-right few own (both-right small (both few own) t))
+  own = eqb→eq (remainder e) r (both-right few own (both-right small (both few own) t));
 }
   where
     small : Bool
     small = ltb e (2 ^ 23)
+
     few : Bool
     few = leb (onesIn 23 e) 3
+
     own : Bool
     own = eqb (remainder e) r
+
     lt : e < 2 ^ 23
     lt = ltb→lt e (2 ^ 23) (both-left small (both few own) t)
 
 pub patterns-right : Patterns patterns
 patterns-right = record {
   size = entries-length right 2048 0 patterns all-right;
-  each = λ r h. right-pattern r (getD patterns r 0) (entries-at right 2048 patterns all-right r h)
+  each = λ r h. right-pattern r (getD patterns r 0) (entries-at right 2048 patterns all-right r h);
 }

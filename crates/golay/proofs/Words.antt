@@ -49,7 +49,7 @@ pub none-word : (n : ℕ) → remainder n ≡ 0 → n ≡ word23 (n % 2 ^ 12)
 none-word n e =
     sym (split n 12)
     ∙ ap (λ (x : ℕ). x * 2 ^ 12 + n % 2 ^ 12)
-      (sym (xor-zero (remainder (n % 2 ^ 12)) (n / 2 ^ 12) (sym (remainder-parts n) ∙ e)))
+    (sym (xor-zero (remainder (n % 2 ^ 12)) (n / 2 ^ 12) (sym (remainder-parts n) ∙ e)))
     ∙ sym (word23-place (n % 2 ^ 12))
 
 -- and there is no other multiple of G(x) with these first twelve bits
@@ -59,7 +59,7 @@ word23-only n m = none-word n (multiple-remainder n m)
 pub word23-xor : (i j : ℕ) → i < 2 ^ 12 → j < 2 ^ 12 → bitXor (word23 i) (word23 j) ≡ word23 (bitXor i j)
 word23-xor i j hi hj =
     none-word (bitXor (word23 i) (word23 j))
-      (remainder-xor (word23 i) (word23 j) ∙ ap₂ bitXor (word23-none i hi) (word23-none j hj))
+    (remainder-xor (word23 i) (word23 j) ∙ ap₂ bitXor (word23-none i hi) (word23-none j hj))
     ∙ ap word23 (xor-mod (word23 i) (word23 j) 12 ∙ ap₂ bitXor (word23-first i hi) (word23-first j hj))
 
 -- no word but that of 0 has fewer than seven ones: one test that antt computes over all 4,096
@@ -127,7 +127,7 @@ pub word24-apart : (i j : ℕ) → i < 2 ^ 12 → j < 2 ^ 12 → (i ≡ j → �
 word24-apart i j hi hj ne =
     even (flips (word24 i) (word24 j)) (ones (word24 i)) (ones (word24 j))
     (le-trans (word23-apart i j hi hj ne)
-      (subst₂ (λ (x y : ℕ). flips x y ≤ flips (word24 i) (word24 j)) (word24-low i hi) (word24-low j hj) (flips-low 23 (word24 i) (word24 j))))
+    (subst₂ (λ (x y : ℕ). flips x y ≤ flips (word24 i) (word24 j)) (word24-low i hi) (word24-low j hj) (flips-low 23 (word24 i) (word24 j))))
     (flips-parity (word24 i) (word24 j)) (word24-odd i hi) (word24-odd j hj)
   where
     even : (d a b : ℕ) → 7 ≤ d → d % 2 ≡ (a + b) % 2 → a % 2 ≡ 1 → b % 2 ≡ 1 → 8 ≤ d

@@ -38,7 +38,7 @@ receivedAs p s answer = record {
   number = answer;
   place = cond (eqb answer 31) (dataRead (usefulOf s) .place) 0;
   index = given answer (indexOf s);
-  bytes = filled answer (receivedBytes p s)
+  bytes = filled answer (receivedBytes p s);
 }
 
 received-as : (p : Bool) (s : List ℕ) (k : ℕ) → receivedNumber p s ≡ k → received p s ≡ receivedAs p s k
@@ -55,14 +55,14 @@ module _ (p : Bool) (s : List ℕ) (l : length s ≡ 94) where
   -- past the row of 20
   typed : receivedNumber p s
       ≡ refusal (row (leb 256 (typeOf s)) 28 ∷ row (eqb (typeOf s) 0x3F) 29 ∷ row (eqb (typeOf s) 0xC7) 29
-        ∷ row (eqb (typeOf s) 0xF8) 30 ∷ row (unreadable p (usefulOf s)) 31 ∷ [])
+      ∷ row (eqb (typeOf s) 0xF8) 30 ∷ row (unreadable p (usefulOf s)) 31 ∷ [])
   unfolding receivedNumber
   typed = refusal-miss (not (eqb (length s) 94)) 20 _ (ap not (eq-eqb (length s) 94 l))
 
   -- a type in the form that computes
   by-type : (t k : ℕ) → typeOf s ≡ t
       → refusal (row (leb 256 t) 28 ∷ row (eqb t 0x3F) 29 ∷ row (eqb t 0xC7) 29 ∷ row (eqb t 0xF8) 30
-        ∷ row (unreadable p (usefulOf s)) 31 ∷ []) ≡ k
+      ∷ row (unreadable p (usefulOf s)) 31 ∷ []) ≡ k
       → received p s ≡ receivedAs p s k
   by-type t k e r =
       received-as p s k (typed ∙ ap (λ (x : ℕ). refusal (row (leb 256 x) 28 ∷ row (eqb x 0x3F) 29 ∷ row (eqb x 0xC7) 29 ∷ row (eqb x 0xF8) 30 ∷ row (unreadable p (usefulOf s)) 31 ∷ [])) e ∙ r)
@@ -121,6 +121,7 @@ answer-protected s d = go (ltb (dataRead (usefulOf s) .place) 30) refl
   where
     either : Bool → Reading
     either b = cond b (refusedAs 31 (dataRead (usefulOf s) .place)) (partAs (indexOf s) (dataRead (usefulOf s) .bytes))
+
     go : (b : Bool) → ltb (dataRead (usefulOf s) .place) 30 ≡ b → received true s ≡ dataAs (indexOf s) (dataRead (usefulOf s))
     go true e = received-as true s 31 (short-number s d true e) ∙ sym (ap either e)
     go false e = received-as true s 0 (short-number s d false e) ∙ sym (ap either e)

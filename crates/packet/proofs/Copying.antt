@@ -43,12 +43,12 @@ unfolding filled
 room-filled from k e =
     ap (λ (n : ℕ). take n from ++ drop (0 + n) (blank 90)) e
     ∙ ap₂ (λ (xs ys : List ℕ). xs ++ ys) (take-length from)
-      (ap (λ (n : ℕ). drop n (blank 90)) (zero-add (length from)) ∙ drop-blank (length from) 90)
+    (ap (λ (n : ℕ). drop n (blank 90)) (zero-add (length from)) ∙ drop-blank (length from) 90)
 
 pub behind-first : (t : ℕ) (useful : List ℕ) (k : ℕ) → k ≡ length useful → length useful ≡ 90 → paste (t ∷ blank 90) 1 useful k ≡ t ∷ useful
 behind-first t useful k e l =
     ap (λ (n : ℕ). t ∷ (take n useful ++ drop (1 + n) (t ∷ blank 90))) e
     ∙ ap (λ (n : ℕ). t ∷ (take (length useful) useful ++ drop n (t ∷ blank 90))) (one-add (length useful))
     ∙ ap₂ (λ (xs ys : List ℕ). t ∷ (xs ++ ys)) (take-length useful)
-      (drop-of-length-le (blank 90) {i = length useful} (omega (arith, blank-length 90)))
+    (drop-of-length-le (blank 90) {i = length useful} (omega (arith, blank-length 90)))
     ∙ ap (λ (xs : List ℕ). t ∷ xs) (append-nil useful)

@@ -1,2 +1,4 @@
 pub mod Answers
 pub mod Copying
+pub mod Damages
+pub mod Determined

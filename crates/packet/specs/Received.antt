@@ -58,7 +58,7 @@ received protected s =
       number = answer;
       place = cond (eqb answer 31) (dataRead (usefulOf s) .place) 0;
       index = given answer (headerRead (headerOf s) .index);
-      bytes = filled answer (receivedBytes protected s)
+      bytes = filled answer (receivedBytes protected s);
     }
 
 -- the three things a packet is read as: refused, plain bytes, protected data

@@ -21,6 +21,7 @@ pub struct Reading {
 
 impl Reading {
     pub const USEFUL: usize = 90;
+
     pub const DATA: usize = 45;
 }
 
@@ -133,5 +134,8 @@ pub fn written(address: u32, index: u32, kind: u8, useful: &[u8]) -> [u8; 94]
         k += 1;
     }
     let checks = lookup::checks();
-    image::image(bare::code::header_word(&checks, address + 1024 * index), &bytes)
+    image::image(
+        bare::code::header_word(&checks, address + 1024 * index),
+        &bytes,
+    )
 }

@@ -74,11 +74,12 @@ each-clean (n ∷ ns) h = go (each-clean ns (λ w l. h (suc w) (omega arith)))
   where
     here : nearest word24 n ≡ n % 4096
     here = one-clean n (h 0 (omega arith))
+
     go : Clean ns → Clean (n ∷ ns)
     go rest = record {
       first = ap₂ (λ (x : ℕ) (xs : List ℕ). x ∷ xs) here (rest .first);
       whole = failed-pass (nearest word24 n) (informations ns) (omega (arith, here)) ∙ ap suc (rest .whole);
-      none = omega (arith, rest .none, ap (λ (x : ℕ). flips (word24 x) n) here, ap (λ (x : ℕ). flips x n) (clean-word n (h 0 (omega arith))), flips-same n)
+      none = omega (arith, rest .none, ap (λ (x : ℕ). flips (word24 x) n) here, ap (λ (x : ℕ). flips x n) (clean-word n (h 0 (omega arith))), flips-same n);
     }
 
 -- ---- one after the other
@@ -99,7 +100,7 @@ one-read n m r h same e z =
       near = w .0;
       information = ap (λ (x : Word). x .information) (o ∙ w .1);
       flipped = f;
-      few = omega (arith, nearest-near word24 m (w .0))
+      few = omega (arith, nearest-near word24 m (w .0));
     }
 
 pub one-unread : (n m : ℕ) (r : Word) → m < 2 ^ 24 → n ≡ m → r ≡ wordRead n → (r .number ≡ 0 → ⊥) → nearest word24 m ≡ 4096
@@ -125,7 +126,7 @@ module _ (ns : List ℕ) (w f : ℕ) (l : w < length ns) where
   reached-more r h few = record {
     place = omega (arith, r .place, ap (λ (xs : List ℕ). failed (informations xs)) next, failed-pass (nearest word24 (getD ns w 0)) (informations (drop (w + 1) ns)) h);
     flipped = omega (arith, r .flipped, ap turned next);
-    few = omega (arith, r .few)
+    few = omega (arith, r .few);
   }
 
   pub reached-stop : Reached ns w f → nearest word24 (getD ns w 0) ≡ 4096 → failed (informations ns) ≡ w
@@ -160,7 +161,7 @@ unfolding wordsRead wordsAs
 words-whole ns e = ap (λ (x : ℕ). wordsAs x ns) e
 
 -- every information that is read is below 4,096
-failed-whole : (is : List ℕ) → length is ≤ failed is → (k : ℕ) → getD is k 0 < 4096
+pub failed-whole : (is : List ℕ) → length is ≤ failed is → (k : ℕ) → getD is k 0 < 4096
 failed-whole [] e k = omega arith
 failed-whole (i ∷ is) e k = go (decLt i 4096) (failed-whole is) k
   where
@@ -197,7 +198,7 @@ data-clean s right =
     λ i. record {
       place = ap (λ (r : Words). r .place) e i;
       flips = (ap (λ (r : Words). r .flips) e ∙ clean .none) i;
-      bytes = ap dataOf (ap (λ (r : Words). r .informations) e ∙ clean .first) i
+      bytes = ap dataOf (ap (λ (r : Words). r .informations) e ∙ clean .first) i;
     }
 
 pub read-length : (s : List ℕ) → length (dataRead s .bytes) ≡ 45

@@ -31,6 +31,7 @@ pub struct Pass {
 
 impl Words {
     pub const COUNT: usize = 30;
+
     pub const INFORMATIONS: u32 = 4096;
 }
 

@@ -26,7 +26,7 @@ returns c = let e = c .before .before .read .ensures in
     λ i. record {
       place = e i .place;
       flips = e i .flips;
-      bytes = (c .gathered .ensures ∙ ap (λ (r : Words). dataOf (r .informations)) e) i
+      bytes = (c .gathered .ensures ∙ ap (λ (r : Words). dataOf (r .informations)) e) i;
     }
 
 pub corrected-spec : {M : Type 1} → statement M

@@ -59,10 +59,10 @@ loop-again c = let ns = wordsOf (c .before .before .before .before .before .args
       omega arith,
       simp length-set (omega arith),
       stored (c .before .before .before .loop .informations) (firsts ns) w (w + 1) (n % 4096) (c .before .before .before .loop .inv .2) (omega arith)
-      (omega (arith, length-map ns (λ (x : ℕ). x % 4096), words-length (c .before .before .before .before .before .args .useful .now))) (add-one w)
-      (ap (λ (x : ℕ). x % 4096) (c .before .word .ensures) ∙ sym (getD-map (λ (x : ℕ). x % 4096) ns w (omega (arith, words-length (c .before .before .before .before .before .args .useful .now))))),
+          (omega (arith, length-map ns (λ (x : ℕ). x % 4096), words-length (c .before .before .before .before .before .args .useful .now))) (add-one w)
+          (ap (λ (x : ℕ). x % 4096) (c .before .word .ensures) ∙ sym (getD-map (λ (x : ℕ). x % 4096) ns w (omega (arith, words-length (c .before .before .before .before .before .args .useful .now))))),
       λ e. below-more (λ (k : ℕ). check (getD ns k 0 % 4096) ≡ getD ns k 0 / 4096) w (c .before .before .before .loop .inv .3 (or-none (c .before .before .before .loop .wrong) (bitXor (c .check .result) (n / 4096)) e .0))
-      (subst (λ (x : ℕ). check (x % 4096) ≡ x / 4096) (c .before .word .ensures) (sym (c .check .ensures) ∙ xor-zero _ _ (or-none (c .before .before .before .loop .wrong) (bitXor (c .check .result) (n / 4096)) e .1))),
+          (subst (λ (x : ℕ). check (x % 4096) ≡ x / 4096) (c .before .word .ensures) (sym (c .check .ensures) ∙ xor-zero _ _ (or-none (c .before .before .before .loop .wrong) (bitXor (c .check .result) (n / 4096)) e .1))),
     )
 
 returns : tie.Need-returns Inv-loop μ-loop
@@ -70,7 +70,7 @@ returns c = let s = c .before .before .before .args .useful .now in
     let end : c .before .loop .w ≡ 30 = omega arith in
     record {
       first = agreed (c .before .loop .informations) (firsts (wordsOf s)) 30 (c .before .loop .w) (c .before .loop .inv .2) (c .before .loop .inv .1) (length-map (wordsOf s) (λ (x : ℕ). x % 4096) ∙ words-length s) (omega arith);
-      right = λ e k l. c .before .loop .inv .3 e k (omega arith)
+      right = λ e k l. c .before .loop .inv .3 e k (omega arith);
     }
 
 pub passed-spec : {M : Type 1} → statement M

@@ -44,7 +44,7 @@ returns c = let s = c .before .before .before .before .before .before .before .b
     let w = c .before .before .before .before .before .loop .w in
     let stop = one-unread (c .before .before .before .word .result) (getD (wordsOf s) w 0) (c .before .before .word-by .result) (words-below s w) (c .before .before .before .word .ensures) (c .before .before .word-by .ensures) (c .if1 .taken) in
     sym (words-short (wordsOf s) w
-      (reached-stop (wordsOf s) w (c .before .before .before .before .before .loop .flips) (omega (arith, words-length s, c .before .before .before .before .loop-test .taken)) (c .before .before .before .before .before .loop .inv .3) stop) (c .before .before .before .before .loop-test .taken))
+    (reached-stop (wordsOf s) w (c .before .before .before .before .before .loop .flips) (omega (arith, words-length s, c .before .before .before .before .loop-test .taken)) (c .before .before .before .before .before .loop .inv .3) stop) (c .before .before .before .before .loop-test .taken))
 
 add-flips : tie.Need-add-flips Inv-loop μ-loop
 add-flips c = let s = c .before .before .before .before .before .before .before .before .before .args .useful .now in
@@ -73,10 +73,10 @@ loop-again c = let s = c .before .before .before .before .before .before .before
       omega (arith, c .before .before .before .before .before .loop-test .taken),
       simp length-set (c .before .before .before .before .before .before .loop .inv .1),
       stored (c .before .before .before .before .before .before .loop .informations) (informationsOf (wordsOf s)) w (w + 1) (c .before .before .before .word-by .result .information) (c .before .before .before .before .before .before .loop .inv .2)
-      (omega (arith, c .before .before .before .before .before .before .loop .inv .1, c .before .before .before .before .before .loop-test .taken)) (omega (arith, l, length-map (wordsOf s) (nearest word24))) (add-one w)
-      (r .information ∙ sym (getD-map (nearest word24) (wordsOf s) w l)),
+          (omega (arith, c .before .before .before .before .before .before .loop .inv .1, c .before .before .before .before .before .loop-test .taken)) (omega (arith, l, length-map (wordsOf s) (nearest word24))) (add-one w)
+          (r .information ∙ sym (getD-map (nearest word24) (wordsOf s) w l)),
       subst (λ (x : ℕ). Reached (wordsOf s) (w + 1) (c .before .before .before .before .before .before .loop .flips + x)) (sym (r .flipped))
-      (reached-more (wordsOf s) w (c .before .before .before .before .before .before .loop .flips) l (c .before .before .before .before .before .before .loop .inv .3) (r .near) (omega (arith, r .few, r .flipped))),
+          (reached-more (wordsOf s) w (c .before .before .before .before .before .before .loop .flips) l (c .before .before .before .before .before .before .loop .inv .3) (r .near) (omega (arith, r .few, r .flipped))),
     )
 
 returns-2 : tie.Need-returns-2 Inv-loop μ-loop

@@ -29,7 +29,7 @@ returns : tie.Need-returns
 returns c = let s = c .before .before .before in
     ap (λ (r : ℕ). bitXor (s .args .n) (getD (s .args .patterns .now) r 0)) (c .before .remainder .ensures)
     ∙ corrected-nearest (s .args .n) _ (s .pre .1 .1)
-      (s .pre .1 .0 .each (remainder (s .args .n)) (remainder-small (s .args .n) (s .pre .1 .1)))
+    (s .pre .1 .0 .each (remainder (s .args .n)) (remainder-small (s .args .n) (s .pre .1 .1)))
 
 pub corrected-spec : {M : Type 1} → statement M
 corrected-spec =

@@ -1,0 +1,253 @@
+-- A packet under damage: what was sent is read, or it is refused with 28 to 31; never other bytes.
+--
+--   sent-header, sent-useful     what a sent image holds
+--   header-came                  its address and index are read from what came
+--   received-came                damage of at most four bits a word: what was sent, or a refusal
+--   received-corrected           damage that the codes correct: what was sent
+--   received-sent                no damage: what was sent
+--
+-- Assumes nothing.
+use mathlib.Core.Path.{_≡_, refl, sym, ap, ap₂, _∙_, subst, subst₂}
+use mathlib.Core.Bool.{Bool, true, false}
+use mathlib.Core.List.{List, [], _∷_, map}
+use mathlib.Core.Logic.{_⊎_, inl, inr}
+use Prim.Native.Nat.{ℕ, zero, suc, _+_, _*_, _/_, _%_, _^_, _≤_, _<_}
+use native.Mathlib.Omega.{arith}
+use native.Mathlib.Decide.{decLt, ℕ-discrete}
+use native.Mathlib.Nat.{le-trans}
+use lib.ListN.{length, getD, drop, length-map}
+use lib.Seq.{ext-getD}
+use Rattle.bits.specs.Bits.{flips, sent, taken}
+use Rattle.bits.proofs.Flips.{flips-same, flips-comm}
+use Rattle.bits.proofs.Runs.{Below}
+use Rattle.bits.proofs.Storing.{getD-map}
+use Rattle.bare.specs.Bare.{headerRead, typeNear, types}
+use Rattle.bare.specs.declared.Header.{Header}
+use Rattle.bare.proofs.Theorems.{header-reads}
+use Rattle.bare.proofs.Types.{within-near}
+use Rattle.golay.specs.Code.{word23, word24, nearest}
+use Rattle.golay.proofs.Nearest.{nearest-is, nearest-near, nearest-within-four}
+use Rattle.golay.proofs.Words.{word23-apart, word23-lt, word24-apart}
+use Rattle.image.specs.Image.{headerOf, bytesOf, imageOf}
+use Rattle.image.proofs.Laws.{image-length, header-image, header-lt, bytes-image, bytes-lt}
+use Rattle.words.specs.Protected.{protected, wordsOf, informations, failed, dataOf, dataRead, wordsRead}
+use Rattle.words.specs.declared.Words.{Words}
+use Rattle.words.specs.declared.Data.{Data}
+use Rattle.words.proofs.Each.{failed-pass, failed-le, words-whole, failed-whole}
+use Rattle.words.proofs.Packing.{words-protected, words-length, data-segments, segments-below, segments-length, protected-length, protected-below}
+use Rattle.packet.specs.Received.{typeOf, usefulOf, received, written, refusedAs, partAs, dataAs}
+use Rattle.packet.specs.Damage.{dataSize, carried, sentImage, Kept, Came, Corrected, Refused}
+use Rattle.packet.specs.declared.Reading.{Reading}
+use Rattle.packet.proofs.Answers.{indexOf, answer-unreadable, answer-control, answer-reserved, answer-scrambled, answer-plain, answer-protected, IsData, isData, data-short, data-whole}
+
+-- ---- what a sent image holds
+
+carried-length : (p : Bool) (d : List ℕ) → length d ≡ dataSize p → length (carried p d) ≡ 90
+carried-length false d l = l
+carried-length true d l = protected-length d
+
+carried-below : (p : Bool) (d : List ℕ) → Below 256 d → Below 256 (carried p d)
+carried-below false d h = h
+carried-below true d h = protected-below d
+
+-- a byte in front
+before-below : (x : ℕ) (u : List ℕ) → x < 256 → Below 256 u → Below 256 (x ∷ u)
+before-below x u hx hu zero = hx
+before-below x u hx hu (suc k) = hu k
+
+module _ (p : Bool) (a i : ℕ) (d : List ℕ) (ha : a ≤ 1023) (hi : i ≤ 3) (l : length d ≡ dataSize p) (b : Below 256 d) where
+  small : a + 1024 * i < 4096
+  small = omega arith
+
+  pub sent-header : headerOf (sentImage p a i d) ≡ word23 (a + 1024 * i)
+  unfolding written
+  sent-header =
+      header-image (word23 (a + 1024 * i)) (0x00 ∷ carried p d) (ap suc (carried-length p d l)) (word23-lt (a + 1024 * i) small)
+
+  sent-bytes : bytesOf (sentImage p a i d) ≡ 0x00 ∷ carried p d
+  unfolding written
+  sent-bytes =
+      bytes-image (word23 (a + 1024 * i)) (0x00 ∷ carried p d) (ap suc (carried-length p d l))
+      (before-below 0x00 (carried p d) (omega arith) (carried-below p d b))
+
+  pub sent-useful : usefulOf (sentImage p a i d) ≡ carried p d
+  unfolding usefulOf
+  sent-useful = ap (drop 1) sent-bytes
+
+  -- its address and index are read from a header with at most three flips
+  pub header-came : (t : List ℕ) → flips (headerOf (sentImage p a i d)) (headerOf t) ≤ 3
+      → (headerRead (headerOf t) .address ≡ a) × (headerRead (headerOf t) .index ≡ i)
+  header-came t f =
+      let near : flips (word23 (a + 1024 * i)) (headerOf t) ≤ 3 = subst (λ (x : ℕ). flips x (headerOf t) ≤ 3) sent-header f in
+      let r = header-reads (headerOf t) (a + 1024 * i) (header-lt t) (nearest-is word23 word23-apart (headerOf t) (a + 1024 * i) small near) in
+      (ap (λ (h : Header). h .address) r ∙ address, ap (λ (h : Header). h .index) r ∙ index)
+    where
+      address : (a + 1024 * i) % 1024 ≡ a
+      address = omega arith
+
+      index : (a + 1024 * i) / 1024 ≡ i
+      index = omega arith
+
+-- ---- protected data
+
+-- thirty words of these informations with at most four flips each: either one cannot be read, or all are read as sent
+seven : (i j : ℕ) → i < 4096 → j < 4096 → (i ≡ j → ⊥) → 7 ≤ flips (word24 i) (word24 j)
+seven i j hi hj ne = omega (arith, word24-apart i j hi hj ne)
+
+module _ (is ns : List ℕ) (small : Below 4096 is) (same : length ns ≡ length is)
+    (few : (w : ℕ) → w < length is → flips (word24 (getD is w 0)) (getD ns w 0) ≤ 4) where
+  each-read : failed (informations ns) ≡ length is → informations ns ≡ is
+  unfolding informations
+  each-read whole =
+      ext-getD 0 (informations ns) is (length-map ns (nearest word24) ∙ same) (λ w h. at w (omega (arith, h, length-map ns (nearest word24))))
+    where
+      readable : (w : ℕ) → w < length is → nearest word24 (getD ns w 0) < 4096
+      readable w h =
+          subst (λ (x : ℕ). x < 4096) (getD-map (nearest word24) ns w (omega (arith, same)))
+          (failed-whole (informations ns) (omega (arith, whole, same, length-map ns (nearest word24))) w)
+
+      at : (w : ℕ) → w < length is → getD (informations ns) w 0 ≡ getD is w 0
+      at w h = getD-map (nearest word24) ns w (omega (arith, same)) ∙ pick (nearest-within-four word24 seven word24-apart (getD ns w 0) (getD is w 0) (small w) (few w h))
+        where
+          pick : (nearest word24 (getD ns w 0) ≡ getD is w 0) ⊎ (nearest word24 (getD ns w 0) ≡ 4096) → nearest word24 (getD ns w 0) ≡ getD is w 0
+          pick (inl e) = e
+          pick (inr e) = absurd (omega (arith, e, readable w h))
+
+-- every word of these within three flips: all are read as sent
+corrected-whole : (is ns : List ℕ) → Below 4096 is → length ns ≡ length is
+    → ((w : ℕ) → w < length is → flips (word24 (getD is w 0)) (getD ns w 0) ≤ 3) → failed (informations ns) ≡ length ns
+unfolding informations failed
+corrected-whole is [] small same few = refl
+corrected-whole [] (n ∷ ns) small same few = absurd (omega arith)
+corrected-whole (i ∷ is) (n ∷ ns) small same few =
+    go (corrected-whole is ns (λ k. small (suc k)) (omega arith) (λ w h. few (suc w) (omega arith)))
+  where
+    go : failed (informations ns) ≡ length ns → failed (informations (n ∷ ns)) ≡ suc (length ns)
+    go rest =
+        failed-pass (nearest word24 n) (informations ns)
+        (omega (arith, nearest-is word24 seven n i (small 0) (few 0 (omega arith)), small 0))
+        ∙ ap suc rest
+
+-- ---- the packet
+
+-- the words of what was sent
+sent-words : (d : List ℕ) (w : ℕ) → w < 30 → getD (wordsOf (protected d)) w 0 ≡ word24 (getD (taken 12 30 (sent 8 d)) w 0)
+sent-words d w h =
+    ap (λ (ns : List ℕ). getD ns w 0) (words-protected d)
+    ∙ getD-map word24 (taken 12 30 (sent 8 d)) w (omega (arith, segments-length d))
+
+-- the 45 bytes, once every word is read
+data-back : (d u : List ℕ) (most : ℕ) → most ≤ 4 → length d ≡ 45 → Below 256 d → Kept most true (protected d) u
+    → failed (informations (wordsOf u)) ≡ 30 → dataRead u .bytes ≡ d
+unfolding dataRead
+data-back d u most m l b kept whole =
+    ap (λ (r : Words). dataOf (r .informations)) (words-whole (wordsOf u) whole)
+    ∙ ap dataOf (each-read (taken 12 30 (sent 8 d)) (wordsOf u) (segments-below d) (words-length u ∙ sym (segments-length d)) few
+    (whole ∙ sym (segments-length d)))
+    ∙ data-segments d l b
+  where
+    few : (w : ℕ) → w < length (taken 12 30 (sent 8 d)) → flips (word24 (getD (taken 12 30 (sent 8 d)) w 0)) (getD (wordsOf u) w 0) ≤ 4
+    few w h =
+        let k : w < 30 = omega (arith, segments-length d) in
+        le-trans (subst (λ (x : ℕ). flips x (getD (wordsOf u) w 0) ≤ most) (sent-words d w k) (kept w k)) m
+
+place-of : (u : List ℕ) → dataRead u .place ≡ failed (informations (wordsOf u))
+unfolding dataRead wordsRead
+place-of u = refl
+
+whole-of : (u : List ℕ) → 30 ≤ dataRead u .place → failed (informations (wordsOf u)) ≡ 30
+unfolding informations
+whole-of u h =
+    omega (arith, place-of u, failed-le (informations (wordsOf u)), length-map (wordsOf u) (nearest word24), words-length u)
+
+-- by its type a packet is refused, or it is a data packet
+by-type : (p : Bool) (t : List ℕ) → length t ≡ 94 → Refused (received p t) ⊎ IsData t
+by-type p t l = unread (decLt (typeOf t) 256)
+  where
+    numbered : (n : ℕ) (r : Reading) → received p t ≡ r → r .number ≡ n → received p t .number ≡ n
+    numbered n r e q = ap (λ (x : Reading). x .number) e ∙ q
+
+    scrambled : typeOf t < 256 → (typeOf t ≡ 0x3F → ⊥) → (typeOf t ≡ 0xC7 → ⊥) → Dec (typeOf t ≡ 0xF8) → Refused (received p t) ⊎ IsData t
+    scrambled h a b (yes e) = inl (inr (inr (inl (numbered 30 (refusedAs 30 0) (answer-scrambled p t l e) refl))))
+    scrambled h a b (no e) = inr (isData t (typeOf t) l h refl a b e)
+
+    reserved : typeOf t < 256 → (typeOf t ≡ 0x3F → ⊥) → Dec (typeOf t ≡ 0xC7) → Refused (received p t) ⊎ IsData t
+    reserved h a (yes e) = inl (inr (inl (numbered 29 (refusedAs 29 0) (answer-reserved p t l e) refl)))
+    reserved h a (no e) = scrambled h a e (ℕ-discrete (typeOf t) 0xF8)
+
+    control : typeOf t < 256 → Dec (typeOf t ≡ 0x3F) → Refused (received p t) ⊎ IsData t
+    control h (yes e) = inl (inr (inl (numbered 29 (refusedAs 29 0) (answer-control p t l e) refl)))
+    control h (no e) = reserved h e (ℕ-discrete (typeOf t) 0xC7)
+
+    unread : Dec (typeOf t < 256) → Refused (received p t) ⊎ IsData t
+    unread (yes h) = control h (ℕ-discrete (typeOf t) 0x3F)
+    unread (no h) = inl (inl (numbered 28 (refusedAs 28 0) (answer-unreadable p t l (omega arith)) refl))
+
+-- a data packet whose useful bytes came with at most four flips a word
+data-came : (p : Bool) (t d : List ℕ) (i : ℕ) → IsData t → indexOf t ≡ i → length d ≡ dataSize p → Below 256 d
+    → Kept 4 p (carried p d) (usefulOf t) → (received p t ≡ partAs i d) ⊎ Refused (received p t)
+data-came false t d i is e l b kept =
+    inl (answer-plain t is ∙ ap₂ partAs e kept)
+data-came true t d i is e l b kept = go (decLt (dataRead (usefulOf t) .place) 30)
+  where
+    go : Dec (dataRead (usefulOf t) .place < 30) → (received true t ≡ partAs i d) ⊎ Refused (received true t)
+    go (yes h) = inr (inr (inr (inr (ap (λ (x : Reading). x .number) (answer-protected t is ∙ data-short (indexOf t) (dataRead (usefulOf t)) h)))))
+    go (no h) =
+        let whole : failed (informations (wordsOf (usefulOf t))) ≡ 30 = whole-of (usefulOf t) (omega (arith, h)) in
+        inl (answer-protected t is ∙ data-whole (indexOf t) (dataRead (usefulOf t)) (omega arith)
+        ∙ ap₂ partAs e (data-back d (usefulOf t) 4 (omega arith) l b kept whole))
+
+pub received-came : (p : Bool) (a i : ℕ) (d t : List ℕ) → a ≤ 1023 → i ≤ 3 → length d ≡ dataSize p → Below 256 d
+    → Came p (sentImage p a i d) t → (received p t ≡ partAs i d) ⊎ Refused (received p t)
+received-came p a i d t ha hi l b came = go (by-type p t (came .size))
+  where
+    go : Refused (received p t) ⊎ IsData t → (received p t ≡ partAs i d) ⊎ Refused (received p t)
+    go (inl r) = inr r
+    go (inr is) =
+        data-came p t d i is (header-came p a i d ha hi l b t (came .header) .1) l b
+        (subst (λ (u : List ℕ). Kept 4 p u (usefulOf t)) (sent-useful p a i d ha hi l b) (came .useful))
+
+-- a data packet, by a type byte with at most two flips
+type-kept : (t : List ℕ) → length t ≡ 94 → flips 0x00 (getD (bytesOf t) 0 0) ≤ 2 → IsData t
+unfolding typeOf
+type-kept t l f =
+    let e : typeOf t ≡ 0x00 = within-near 0 (getD (bytesOf t) 0 0) (omega arith) (bytes-lt t 0) f in
+    isData t 0x00 l (omega (arith, e)) (sym e) (λ q. omega (arith, q)) (λ q. omega (arith, q)) (λ q. omega (arith, q))
+
+data-corrected : (p : Bool) (t d : List ℕ) (i : ℕ) → IsData t → indexOf t ≡ i → length d ≡ dataSize p → Below 256 d
+    → Kept 3 p (carried p d) (usefulOf t) → received p t ≡ partAs i d
+data-corrected false t d i is e l b kept = answer-plain t is ∙ ap₂ partAs e kept
+data-corrected true t d i is e l b kept =
+    let u = usefulOf t in
+    let few : (w : ℕ) → w < length (taken 12 30 (sent 8 d)) → flips (word24 (getD (taken 12 30 (sent 8 d)) w 0)) (getD (wordsOf u) w 0) ≤ 3 =
+    λ w h. subst (λ (x : ℕ). flips x (getD (wordsOf u) w 0) ≤ 3) (sent-words d w (omega (arith, segments-length d))) (kept w (omega (arith, segments-length d))) in
+    let whole : failed (informations (wordsOf u)) ≡ 30 =
+    corrected-whole (taken 12 30 (sent 8 d)) (wordsOf u) (segments-below d) (words-length u ∙ sym (segments-length d)) few ∙ words-length u in
+    answer-protected t is ∙ data-whole (indexOf t) (dataRead u) (omega (arith, place-of u, whole))
+    ∙ ap₂ partAs e (data-back d u 3 (omega arith) l b kept whole)
+
+pub received-corrected : (p : Bool) (a i : ℕ) (d t : List ℕ) → a ≤ 1023 → i ≤ 3 → length d ≡ dataSize p → Below 256 d
+    → Corrected p (sentImage p a i d) t → received p t ≡ partAs i d
+received-corrected p a i d t ha hi l b came =
+    data-corrected p t d i
+    (type-kept t (came .size) (subst (λ (bs : List ℕ). flips (getD bs 0 0) (getD (bytesOf t) 0 0) ≤ 2) (sent-bytes p a i d ha hi l b) (came .type)))
+    (header-came p a i d ha hi l b t (came .header) .1) l b
+    (subst (λ (u : List ℕ). Kept 3 p u (usefulOf t)) (sent-useful p a i d ha hi l b) (came .useful))
+
+-- what was not damaged is corrected
+kept-whole : (p : Bool) (u : List ℕ) → Kept 3 p u u
+kept-whole false u = refl
+kept-whole true u = λ w h. omega (arith, flips-same (getD (wordsOf u) w 0))
+
+-- "reading a written image gives what went in"
+pub received-sent : (p : Bool) (a i : ℕ) (d : List ℕ) → a ≤ 1023 → i ≤ 3 → length d ≡ dataSize p → Below 256 d
+    → received p (sentImage p a i d) ≡ partAs i d
+unfolding written
+received-sent p a i d ha hi l b =
+    let s = sentImage p a i d in
+    received-corrected p a i d s ha hi l b (record {
+      size = image-length (word23 (a + 1024 * i)) (0x00 ∷ carried p d);
+      header = omega (arith, flips-same (headerOf s));
+      type = omega (arith, flips-same (getD (bytesOf s) 0 0));
+      useful = kept-whole p (usefulOf s);
+    })
