@@ -1,6 +1,8 @@
+-- `bare::header_of` meets its contract: address, index and flips from the nearest word.
+-- Assumes nothing.
 use native.Mathlib.Omega.{arith}
-use mathlib.Core.Path.{sym, subst, ap, _∙_}
-use lib.Count.{ones, ones-le}
+use mathlib.Core.Path.{sym, subst}
+use lib.Count.{ones-le}
 use lib.Bits.{bitXor, xor-lt}
 use Rattle.golay.proofs.Words.{word23-lt}
 use Rattle.golay.proofs.Reading.{nearest23-lt}
@@ -10,8 +12,6 @@ use Prim.Native.Nat.{ℕ, _<_, _^_}
 use borrow.Author.Needs.{needs}
 use Rattle.bare.proofs.header_of.Statement.{statement}
 use Rattle.bare.proofs.header_of.Tie as tie
-use Rattle.bare.proofs.header_of.Reads as reads
-use Rattle.bare.proofs.header_of.Lts as lts
 
 cast-t4 : tie.Need-cast-t4
 cast-t4 c = search needs

@@ -1,17 +1,11 @@
+-- `bare::read_header` meets its contract: 33, a word as it stands, or the nearest word by the table.
+-- Assumes nothing.
 use mathlib.Core.Path.{sym, _∙_}
-use native.Mathlib.Omega.{arith}
 use Rattle.bare.proofs.Bare.{header-large}
 use Rattle.golay.proofs.Reading.{clean-nearest}
 use borrow.Author.Needs.{needs}
 use Rattle.bare.proofs.read_header.Statement.{statement}
 use Rattle.bare.proofs.read_header.Tie as tie
-use Rattle.bare.proofs.read_header.Reads as reads
-use Rattle.bare.proofs.read_header.Lts as lts
-use Rattle.bare.proofs.code.corrected.Reads as corrected-reads
-use Rattle.bare.proofs.code.remainder.Reads as remainder-reads
-use Rattle.bare.proofs.header_of.Reads as header-of-reads
-use Rattle.lookup.proofs.checks.Reads as checks-reads
-use Rattle.lookup.proofs.patterns.Reads as patterns-reads
 
 returns : tie.Need-returns
 returns c = sym (header-large (c .before .args .n) (c .if1 .taken))

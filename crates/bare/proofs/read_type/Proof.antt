@@ -1,5 +1,6 @@
-use mathlib.Core.Path.{refl, sym, subst, _∙_}
-use Prim.Native.Nat.{ℕ, _<_, _≤_}
+-- `bare::read_type` meets its contract: the four values in their order; what lies within two flips of none is 28.
+-- Assumes nothing.
+use mathlib.Core.Path.{sym, _∙_}
 use native.Mathlib.Nat.{le-of-eq}
 use lib.Dec.{lit<}
 use Rattle.bare.proofs.Types.{near-hit, near-miss, near-end, type-found, type-none}
@@ -7,10 +8,6 @@ use native.Mathlib.Omega.{arith}
 use borrow.Author.Needs.{needs}
 use Rattle.bare.proofs.read_type.Statement.{statement}
 use Rattle.bare.proofs.read_type.Tie as tie
-use Rattle.bare.proofs.read_type.Reads as reads
-use Rattle.bare.proofs.read_type.Lts as lts
-use Rattle.bare.proofs.turned.Reads as turned-reads
-use Rattle.bare.proofs.type_of.Reads as type-of-reads
 
 turned-requires : tie.Need-turned-requires
 turned-requires c κs = search needs

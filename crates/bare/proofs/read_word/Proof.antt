@@ -1,15 +1,10 @@
+-- `bare::read_word` meets its contract: 33, a word as it stands, or by the tables.
+-- Assumes nothing.
 use mathlib.Core.Path.{sym, _∙_}
-use native.Mathlib.Omega.{arith}
 use Rattle.bare.proofs.Bare.{word-large, word-clean}
 use borrow.Author.Needs.{needs}
 use Rattle.bare.proofs.read_word.Statement.{statement}
 use Rattle.bare.proofs.read_word.Tie as tie
-use Rattle.bare.proofs.read_word.Reads as reads
-use Rattle.bare.proofs.read_word.Lts as lts
-use Rattle.bare.proofs.code.check.Reads as check-reads
-use Rattle.lookup.proofs.checks.Reads as checks-reads
-use Rattle.lookup.proofs.patterns.Reads as patterns-reads
-use Rattle.bare.proofs.word_by.Reads as word-by-reads
 
 returns : tie.Need-returns
 returns c = sym (word-large (c .before .args .n) (c .if1 .taken))

@@ -1,12 +1,10 @@
+-- `bare::word_by` meets its contract: the nearest word of the first 23 bits, judged with the parity bit.
+-- Assumes nothing.
 use mathlib.Core.Path.{sym}
 use Rattle.bare.proofs.Bare.{word-far, word-by}
 use borrow.Author.Needs.{needs}
 use Rattle.bare.proofs.word_by.Statement.{statement}
 use Rattle.bare.proofs.word_by.Tie as tie
-use Rattle.bare.proofs.word_by.Reads as reads
-use Rattle.bare.proofs.word_by.Lts as lts
-use Rattle.bare.proofs.code.corrected.Reads as corrected-reads
-use Rattle.bare.proofs.code.data_word.Reads as data-word-reads
 
 corrected-requires : tie.Need-corrected-requires
 corrected-requires c κs = search needs

@@ -1,13 +1,11 @@
-use mathlib.Core.Path.{sym, ap, _∙_}
+-- `bare::write_header` meets its contract: the rows of 33, then the word.
+-- Assumes nothing.
+use mathlib.Core.Path.{sym, _∙_}
 use native.Mathlib.Omega.{arith}
 use Rattle.bare.proofs.Bare.{header-address, header-index, header-written}
 use borrow.Author.Needs.{needs}
 use Rattle.bare.proofs.write_header.Statement.{statement}
 use Rattle.bare.proofs.write_header.Tie as tie
-use Rattle.bare.proofs.write_header.Reads as reads
-use Rattle.bare.proofs.write_header.Lts as lts
-use Rattle.bare.proofs.code.header_word.Reads as header-word-reads
-use Rattle.lookup.proofs.checks.Reads as checks-reads
 
 returns : tie.Need-returns
 returns c = sym (header-address (c .before .args .address) (c .before .args .index) (omega arith))

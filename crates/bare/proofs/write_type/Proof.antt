@@ -1,9 +1,9 @@
+-- `bare::write_type` meets its contract: one of the four values, or 28.
+-- Assumes nothing.
 use Rattle.bare.proofs.Types.{among-types, type-known, type-unknown}
 use mathlib.Core.Path.{sym, _∙_}
 use Rattle.bare.proofs.write_type.Statement.{statement}
 use Rattle.bare.proofs.write_type.Tie as tie
-use Rattle.bare.proofs.write_type.Reads as reads
-use Rattle.bare.proofs.write_type.Lts as lts
 
 returns : tie.Need-returns
 returns c = sym (type-known (c .before .args .byte) (among-types (c .before .args .byte) ∙ c .if1 .taken))

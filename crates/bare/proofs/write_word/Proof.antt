@@ -1,13 +1,10 @@
-use mathlib.Core.Path.{sym, ap, _∙_}
-use native.Mathlib.Omega.{arith}
+-- `bare::write_word` meets its contract: 33, or the word.
+-- Assumes nothing.
+use mathlib.Core.Path.{sym, _∙_}
 use Rattle.bare.proofs.Bare.{word-much, word-written}
 use borrow.Author.Needs.{needs}
 use Rattle.bare.proofs.write_word.Statement.{statement}
 use Rattle.bare.proofs.write_word.Tie as tie
-use Rattle.bare.proofs.write_word.Reads as reads
-use Rattle.bare.proofs.write_word.Lts as lts
-use Rattle.bare.proofs.code.data_word.Reads as data-word-reads
-use Rattle.lookup.proofs.checks.Reads as checks-reads
 
 returns : tie.Need-returns
 returns c = sym (word-much (c .before .args .information) (c .if1 .taken))

@@ -1,6 +1,7 @@
-use mathlib.Core.Path.{_≡_, refl, sym, ap, _∙_}
-use mathlib.Core.List.{List}
-use Prim.Native.Nat.{ℕ, _+_, _-_, _≤_, _<_}
+-- `packet::part` meets its contract: the loop copies the bytes to the front of a blank room.
+-- Assumes nothing.
+use mathlib.Core.Path.{_≡_, sym, _∙_}
+use Prim.Native.Nat.{_-_, _≤_}
 use native.Mathlib.Omega.{arith}
 use native.Mathlib.Nat.{zero-add}
 use lib.ListN.{length}
@@ -9,8 +10,6 @@ use Rattle.bits.specs.Bits.{blank}
 use Rattle.packet.proofs.Copying.{copied, copied-length, blank-length, room-filled}
 use Rattle.packet.proofs.part.Statement.{statement}
 use Rattle.packet.proofs.part.Tie as tie
-use Rattle.packet.proofs.part.Reads as reads
-use Rattle.packet.proofs.part.Lts as lts
 
 abbrev Inv-loop : tie.InvT-loop
 Inv-loop index from bytes₀ k₀ bytes k = (k ≤ length from) × (bytes ≡ paste (blank 90) 0 from k)

@@ -1,25 +1,14 @@
+-- `packet::received` meets its contract: 20, then the header by no table or by one that is lent on.
+-- Assumes nothing.
 use mathlib.Core.Path.{refl, sym, ap, _∙_, subst}
-use native.Mathlib.Omega.{arith}
 use Prim.Native.Nat.{ℕ, _<_, _^_}
 use Rattle.bare.specs.Bare.{headerRead}
-use Rattle.bare.specs.declared.Header.{Header}
 use Rattle.golay.proofs.Reading.{clean-nearest, lent-none, lent-table}
-use Rattle.image.specs.Image.{headerOf}
 use Rattle.image.proofs.Laws.{header-lt}
 use Rattle.packet.proofs.Answers.{answer-length}
 use borrow.Author.Needs.{needs}
 use Rattle.packet.proofs.received.Statement.{statement}
 use Rattle.packet.proofs.received.Tie as tie
-use Rattle.packet.proofs.received.Reads as reads
-use Rattle.packet.proofs.received.Lts as lts
-use Rattle.bare.proofs.code.corrected.Reads as corrected-reads
-use Rattle.bare.proofs.code.remainder.Reads as remainder-reads
-use Rattle.bare.proofs.header_of.Reads as header-of-reads
-use Rattle.image.proofs.header.Reads as header-reads
-use Rattle.lookup.proofs.checks.Reads as checks-reads
-use Rattle.lookup.proofs.patterns.Reads as patterns-reads
-use Rattle.packet.proofs.received_by.Reads as received-by-reads
-use Rattle.packet.proofs.refused.Reads as refused-reads
 
 refused-requires : tie.Need-refused-requires
 refused-requires c κs = search needs

@@ -1,24 +1,17 @@
+-- `packet::received_by` meets its contract: the rows 28, 29, 29, 30, then the data.
+-- Assumes nothing.
 use Rattle.packet.proofs.Answers.{isData}
-use mathlib.Core.Path.{_≡_, sym, ap, ap₂, _∙_}
+use mathlib.Core.Path.{sym, ap, ap₂, _∙_}
 use mathlib.Core.List.{List}
-use mathlib.Core.Bool.{Bool, true, false}
-use native.Mathlib.Omega.{arith}
-use Prim.Native.Nat.{ℕ, _≤_}
-use lib.ListN.{length, take, drop}
+use mathlib.Core.Bool.{Bool}
+use Prim.Native.Nat.{ℕ}
 use Rattle.bare.specs.declared.Header.{Header}
 use Rattle.words.specs.Protected.{dataRead}
-use Rattle.packet.specs.Received.{received, partAs, dataAs, typeOf, usefulOf}
-use Rattle.packet.proofs.Answers.{answer-unreadable, answer-control, answer-reserved, answer-scrambled, answer-plain, answer-protected, IsData, type-found, type-missed, useful-part, useful-length}
+use Rattle.packet.specs.Received.{received, partAs, dataAs}
+use Rattle.packet.proofs.Answers.{answer-unreadable, answer-control, answer-reserved, answer-scrambled, answer-plain, answer-protected, type-found, type-missed, useful-part}
 use borrow.Author.Needs.{needs}
 use Rattle.packet.proofs.received_by.Statement.{statement}
 use Rattle.packet.proofs.received_by.Tie as tie
-use Rattle.packet.proofs.received_by.Reads as reads
-use Rattle.packet.proofs.received_by.Lts as lts
-use Rattle.bare.proofs.read_type.Reads as read-type-reads
-use Rattle.image.proofs.bytes.Reads as bytes-reads
-use Rattle.packet.proofs.part.Reads as part-reads
-use Rattle.packet.proofs.refused.Reads as refused-reads
-use Rattle.packet.proofs.unprotected.Reads as unprotected-reads
 
 bytes-requires : tie.Need-bytes-requires
 bytes-requires c κs = search needs

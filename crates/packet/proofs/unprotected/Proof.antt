@@ -1,23 +1,16 @@
-use Prim.Native.Nat.{_≤_}
+-- `packet::unprotected` meets its contract: 31 with the place of the word, or the 45 bytes.
+-- Assumes nothing.
 use lib.ListN.{length}
 use Rattle.words.proofs.Each.{read-length}
 use Rattle.packet.specs.Received.{dataAs}
 use Rattle.packet.proofs.Answers.{data-short, data-whole}
-use mathlib.Core.Path.{_≡_, sym, ap, _∙_}
-use mathlib.Core.Bool.{Bool, cond}
+use mathlib.Core.Path.{sym, ap, _∙_}
 use native.Mathlib.Omega.{arith}
-use borrow.Author.Tests.{lt-ltb, le-ltb}
-use lib.Dec.{ltb}
 use Rattle.words.specs.declared.Data.{Data}
-use Rattle.packet.specs.Received.{refusedAs, partAs, dataAs}
+use Rattle.packet.specs.Received.{dataAs}
 use borrow.Author.Needs.{needs}
 use Rattle.packet.proofs.unprotected.Statement.{statement}
 use Rattle.packet.proofs.unprotected.Tie as tie
-use Rattle.packet.proofs.unprotected.Reads as reads
-use Rattle.packet.proofs.unprotected.Lts as lts
-use Rattle.packet.proofs.part.Reads as part-reads
-use Rattle.packet.proofs.refused.Reads as refused-reads
-use Rattle.words.proofs.unprotect.Reads as unprotect-reads
 
 unprotect-requires : tie.Need-unprotect-requires
 unprotect-requires c κs = search needs

@@ -1,12 +1,12 @@
-use mathlib.Core.Path.{_≡_, refl, sym, ap, ap₂, _∙_, subst}
-use mathlib.Core.List.{List, _∷_}
+-- `packet::written` meets its contract: the loop copies the useful bytes behind the type byte.
+-- Assumes nothing.
+use mathlib.Core.Path.{_≡_, sym, ap₂, _∙_, subst}
+use mathlib.Core.List.{_∷_}
 use Prim.Native.Nat.{ℕ, _+_, _-_, _*_, _≤_, _<_, _^_}
 use native.Mathlib.Omega.{arith}
 use native.Mathlib.Nat.{add-comm}
-use lib.ListN.{length}
 use lib.Seq.{paste, paste-zero}
 use Rattle.bits.specs.Bits.{blank}
-use Rattle.golay.specs.Code.{word23}
 use Rattle.golay.proofs.Words.{word23-lt}
 use Rattle.image.specs.Image.{imageOf}
 use Rattle.packet.proofs.Copying.{copied, copied-length, blank-length, behind-first}
@@ -14,11 +14,6 @@ use Rattle.packet.specs.Received.{written}
 use lib.Dec.{lit<}
 use Rattle.packet.proofs.written.Statement.{statement}
 use Rattle.packet.proofs.written.Tie as tie
-use Rattle.packet.proofs.written.Reads as reads
-use Rattle.packet.proofs.written.Lts as lts
-use Rattle.bare.proofs.code.header_word.Reads as header-word-reads
-use Rattle.image.proofs.image.Reads as image-reads
-use Rattle.lookup.proofs.checks.Reads as checks-reads
 
 abbrev Inv-loop : tie.InvT-loop
 Inv-loop address index kind useful bytes₀ k₀ bytes k = (k ≤ 90) × (bytes ≡ paste (kind ∷ blank 90) 1 useful k)

@@ -1,3 +1,5 @@
+-- `words::corrected` meets its contract: the bytes of the informations that were read.
+-- Assumes nothing.
 use mathlib.Core.Path.{sym, ap, _∙_, subst}
 use Prim.Native.Nat.{_<_}
 use lib.ListN.{getD}
@@ -8,10 +10,6 @@ use Rattle.words.proofs.Packing.{words-length}
 use borrow.Author.Needs.{needs}
 use Rattle.words.proofs.corrected.Statement.{statement}
 use Rattle.words.proofs.corrected.Tie as tie
-use Rattle.words.proofs.corrected.Reads as reads
-use Rattle.words.proofs.corrected.Lts as lts
-use Rattle.words.proofs.gathered.Reads as gathered-reads
-use Rattle.words.proofs.read.Reads as read-reads
 
 read-requires : tie.Need-read-requires
 read-requires c κs = search needs

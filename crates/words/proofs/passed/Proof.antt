@@ -1,6 +1,7 @@
+-- `words::passed` meets its contract: the loop keeps the first twelve bits of the words passed, and that nothing was wrong only if each had its check bits.
+-- Assumes nothing.
 use mathlib.Core.Path.{_≡_, refl, sym, ap, _∙_, subst}
-use mathlib.Core.List.{List}
-use Prim.Native.Nat.{ℕ, _+_, _-_, _/_, _%_, _≤_, _<_, _^_}
+use Prim.Native.Nat.{ℕ, _+_, _-_, _/_, _%_, _≤_, _<_}
 use native.Mathlib.Omega.{arith}
 use native.Mathlib.Numerals.{add-one}
 use borrow.Author.Count.{below-more}
@@ -11,13 +12,9 @@ use Rattle.bits.proofs.Storing.{stored, agreed, getD-map}
 use Rattle.golay.specs.Code.{check}
 use Rattle.words.specs.Protected.{wordsOf}
 use Rattle.words.proofs.Each.{firsts}
-use Rattle.words.proofs.Packing.{words-length, words-below}
+use Rattle.words.proofs.Packing.{words-length}
 use Rattle.words.proofs.passed.Statement.{statement}
 use Rattle.words.proofs.passed.Tie as tie
-use Rattle.words.proofs.passed.Reads as reads
-use Rattle.words.proofs.passed.Lts as lts
-use Rattle.bare.proofs.code.check.Reads as check-reads
-use Rattle.words.proofs.word.Reads as word-reads
 
 abbrev Inv-loop : tie.InvT-loop
 Inv-loop checks useful wrong₀ informations₀ w₀ wrong informations w =

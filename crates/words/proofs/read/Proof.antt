@@ -1,23 +1,19 @@
+-- `words::read` meets its contract: the loop keeps what `Reached` says of the words read.
+-- Assumes nothing.
 use Rattle.bits.specs.Bits.{blank}
 use Rattle.words.proofs.Each.{words-short, words-whole}
-use mathlib.Core.Path.{_≡_, refl, sym, ap, _∙_, subst}
-use mathlib.Core.List.{List, map}
-use Prim.Native.Nat.{ℕ, _+_, _-_, _*_, _/_, _%_, _≤_, _<_, _^_}
+use mathlib.Core.Path.{_≡_, refl, sym, _∙_, subst}
+use Prim.Native.Nat.{ℕ, _+_, _-_, _≤_, _<_, _^_}
 use native.Mathlib.Omega.{arith}
 use native.Mathlib.Numerals.{add-one}
 use lib.ListN.{length, take, getD, length-set, length-map}
 use Rattle.bits.proofs.Storing.{stored, agreed, getD-map}
 use Rattle.golay.specs.Code.{word24, nearest}
-use Rattle.words.specs.Protected.{wordsOf, wordsRead}
-use Rattle.words.specs.Protected.{informations as informationsOf}
+use Rattle.words.specs.Protected.{wordsOf, informations as informationsOf}
 use Rattle.words.proofs.Packing.{words-length, words-below}
 use Rattle.words.proofs.Each.{one-read, one-unread, Reached, reached-none, reached-more, reached-stop, reached-end}
 use Rattle.words.proofs.read.Statement.{statement}
 use Rattle.words.proofs.read.Tie as tie
-use Rattle.words.proofs.read.Reads as reads
-use Rattle.words.proofs.read.Lts as lts
-use Rattle.bare.proofs.word_by.Reads as word-by-reads
-use Rattle.words.proofs.word.Reads as word-reads
 
 abbrev Inv-loop : tie.InvT-loop
 Inv-loop checks patterns useful flips₀ informations₀ w₀ flips informations w =

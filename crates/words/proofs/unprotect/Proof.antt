@@ -1,3 +1,5 @@
+-- `words::unprotect` meets its contract: a clean pass gives the bytes; otherwise the tables do.
+-- Assumes nothing.
 use mathlib.Core.Path.{sym, ap, _∙_, subst}
 use mathlib.Core.List.{List}
 use Prim.Native.Nat.{ℕ, _<_}
@@ -8,13 +10,6 @@ use Rattle.words.proofs.Each.{firsts-small, data-clean}
 use borrow.Author.Needs.{needs}
 use Rattle.words.proofs.unprotect.Statement.{statement}
 use Rattle.words.proofs.unprotect.Tie as tie
-use Rattle.words.proofs.unprotect.Reads as reads
-use Rattle.words.proofs.unprotect.Lts as lts
-use Rattle.lookup.proofs.checks.Reads as checks-reads
-use Rattle.lookup.proofs.patterns.Reads as patterns-reads
-use Rattle.words.proofs.corrected.Reads as corrected-reads
-use Rattle.words.proofs.gathered.Reads as gathered-reads
-use Rattle.words.proofs.passed.Reads as passed-reads
 
 checks-requires : tie.Need-checks-requires
 checks-requires c κs = search needs

@@ -1,12 +1,10 @@
+-- `bare::code::check` meets its contract: the table's rule is the promise.
+-- Assumes nothing.
 use native.Mathlib.Omega.{arith}
-use mathlib.Core.Path.{sym, subst}
-use Prim.Native.Nat.{ℕ, _<_, _^_}
 use Rattle.golay.proofs.Reading.{check-lt}
 use borrow.Author.Needs.{needs}
 use Rattle.bare.proofs.code.check.Statement.{statement}
 use Rattle.bare.proofs.code.check.Tie as tie
-use Rattle.bare.proofs.code.check.Reads as reads
-use Rattle.bare.proofs.code.check.Lts as lts
 
 cast-low : tie.Need-cast-low
 cast-low c = search needs

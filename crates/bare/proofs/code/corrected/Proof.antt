@@ -1,3 +1,5 @@
+-- `bare::code::corrected` meets its contract: the table's pattern for the remainder, flipped back, gives the nearest word.
+-- Assumes nothing.
 use native.Mathlib.Omega.{arith}
 use Rattle.golay.proofs.Division.{remainder-small}
 use Rattle.golay.proofs.Reading.{corrected-nearest}
@@ -9,9 +11,6 @@ use Rattle.golay.specs.Code.{remainder}
 use borrow.Author.Needs.{needs}
 use Rattle.bare.proofs.code.corrected.Statement.{statement}
 use Rattle.bare.proofs.code.corrected.Tie as tie
-use Rattle.bare.proofs.code.corrected.Reads as reads
-use Rattle.bare.proofs.code.corrected.Lts as lts
-use Rattle.bare.proofs.code.remainder.Reads as remainder-reads
 
 remainder-requires : tie.Need-remainder-requires
 remainder-requires c κs = search needs

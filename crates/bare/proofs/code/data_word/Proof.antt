@@ -1,11 +1,10 @@
+-- `bare::code::data_word` meets its contract: information and all twelve check bits.
+-- Assumes nothing.
 use native.Mathlib.Omega.{arith}
 use Rattle.golay.proofs.Reading.{check-lt, check-word24}
 use borrow.Author.Needs.{needs}
 use Rattle.bare.proofs.code.data_word.Statement.{statement}
 use Rattle.bare.proofs.code.data_word.Tie as tie
-use Rattle.bare.proofs.code.data_word.Reads as reads
-use Rattle.bare.proofs.code.data_word.Lts as lts
-use Rattle.bare.proofs.code.check.Reads as check-reads
 
 check-requires : tie.Need-check-requires
 check-requires c κs = search needs

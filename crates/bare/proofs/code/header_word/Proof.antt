@@ -1,13 +1,11 @@
-use native.Mathlib.Omega.{arith}
+-- `bare::code::header_word` meets its contract: information and check bits without the parity bit.
+-- Assumes nothing.
 use Rattle.golay.proofs.Reading.{check-word23}
 use mathlib.Core.Path.{ap, _∙_}
 use Prim.Native.Nat.{ℕ, _+_, _*_, _%_}
 use borrow.Author.Needs.{needs}
 use Rattle.bare.proofs.code.header_word.Statement.{statement}
 use Rattle.bare.proofs.code.header_word.Tie as tie
-use Rattle.bare.proofs.code.header_word.Reads as reads
-use Rattle.bare.proofs.code.header_word.Lts as lts
-use Rattle.bare.proofs.code.check.Reads as check-reads
 
 check-requires : tie.Need-check-requires
 check-requires c κs = search needs

@@ -1,3 +1,5 @@
+-- `bare::code::remainder` meets its contract: the first twelve bits are divided by the table; the last eleven are added to what they leave.
+-- Assumes nothing.
 use Rattle.golay.proofs.Reading.{check-divides}
 use mathlib.Core.Path.{ap, _∙_}
 use Prim.Native.Nat.{ℕ, _/_, _%_}
@@ -5,9 +7,6 @@ use lib.Bits.{bitXor}
 use borrow.Author.Needs.{needs}
 use Rattle.bare.proofs.code.remainder.Statement.{statement}
 use Rattle.bare.proofs.code.remainder.Tie as tie
-use Rattle.bare.proofs.code.remainder.Reads as reads
-use Rattle.bare.proofs.code.remainder.Lts as lts
-use Rattle.bare.proofs.code.check.Reads as check-reads
 
 check-requires : tie.Need-check-requires
 check-requires c κs = search needs
