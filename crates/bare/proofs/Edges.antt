@@ -1,8 +1,8 @@
 -- P1 to P9 hold: one list, one statement. Each row comes to a test that antt computes: whether the word of the row's address
 -- and index lies within three flips, whether the type does within two.
 -- Assumes nothing.
-use mathlib.Core.Path.{_≡_, refl, sym, ap, _∙_, subst}
-use mathlib.Core.Bool.{Bool, true, false}
+use mathlib.Core.Path.{_≡_, sym, ap, _∙_}
+use mathlib.Core.Bool.{Bool, true}
 use mathlib.Core.List.{List, [], _∷_}
 use Prim.Native.Nat.{ℕ, _+_, _*_, _/_, _%_, _^_, _≤_, _<_}
 use native.Mathlib.Omega.{arith}
@@ -13,7 +13,7 @@ use Rattle.bits.specs.Bits.{flips}
 use Rattle.bits.specs.Rows.{given, refusal}
 use Rattle.bits.proofs.Every.{both, both-left, both-right}
 use Rattle.bits.proofs.Flips.{ones-in}
-use Rattle.bare.specs.Bare.{headerRead, typeRead, typeNear, types}
+use Rattle.bare.specs.Bare.{typeRead, typeNear}
 use Rattle.golay.specs.Code.{less, line, divide, remainder, word23, nearest}
 use Rattle.bare.specs.declared.Header.{Header}
 use Rattle.bare.specs.Edges.{Edge, reads, readsNot, typed, untyped, Reads, Holds, All, edges}

@@ -4,12 +4,12 @@
 --   refused-holds, holds-refused  refused exactly when a row holds, where no row gives 0
 --
 -- Assumes nothing.
-use mathlib.Core.Path.{_≡_, refl, sym, ap, _∙_, subst}
+use mathlib.Core.Path.{_≡_, refl, ap}
 use mathlib.Core.Bool.{Bool, true, false, cond}
 use mathlib.Core.List.{List, [], _∷_}
 use mathlib.Core.Logic.{_⊎_, inl, inr}
-use Prim.Native.Nat.{ℕ, zero, suc, _<_}
-use Rattle.bits.specs.Rows.{Row, row, refusal, given}
+use Prim.Native.Nat.{ℕ}
+use Rattle.bits.specs.Rows.{Row, row, refusal}
 
 pub refusal-hit : (t : Bool) (n : ℕ) (rest : List Row) → t ≡ true → refusal (row t n ∷ rest) ≡ n
 unfolding refusal

@@ -5,10 +5,10 @@
 --   checks-right   the table's rule, by a test that antt computes over its 128 entries
 --
 -- Assumes nothing.
-use mathlib.Core.Path.{_≡_, refl, sym, ap, ap₂, _∙_, subst}
+use mathlib.Core.Path.{_≡_, refl, sym, ap, ap₂, _∙_}
 use mathlib.Core.Bool.{Bool, true, false}
 use borrow.Author.Tests.{lt-ltb, le-ltb}
-use Prim.Native.Nat.{ℕ, zero, suc, _+_, _-_, _*_, _/_, _%_, _^_, _<_, _≤_}
+use Prim.Native.Nat.{ℕ, zero, suc, _+_, _-_, _*_, _/_, _%_, _^_, _<_}
 use mathlib.Core.List.{List, [], _∷_}
 use native.Mathlib.Omega.{arith}
 use native.Mathlib.Nat.{mod-lt, add-sub-cancel}
@@ -20,7 +20,7 @@ use lib.Pow.{split}
 use Rattle.bits.specs.Bits.{flips}
 use Rattle.bits.proofs.Every.{entries, entries-length, entries-at}
 use Rattle.bits.proofs.Flips.{xor-assoc, flips-parity, ones-in}
-use Rattle.golay.specs.Code.{less, line, divide, remainder, word23, word24, check, Checks}
+use Rattle.golay.specs.Code.{less, line, divide, remainder, word23, check, Checks}
 use Rattle.golay.proofs.Division.{remainder-xor, remainder-small}
 use Rattle.golay.proofs.Words.{word23-xor, word23-lt, parity, parity-lt, parity-place, word23-place}
 

@@ -10,14 +10,14 @@
 -- Assumes nothing.
 use mathlib.Core.Path.{_≡_, refl, sym, ap, ap₂, _∙_, subst}
 use mathlib.Core.Logic.{_⊎_, inl, inr, ⊎-elim}
-use Prim.Native.Nat.{ℕ, zero, suc, _+_, _-_, _*_, _/_, _%_, _^_, _≤_, _<_}
+use Prim.Native.Nat.{ℕ, zero, suc, _+_, _*_, _/_, _%_, _^_, _≤_, _<_}
 use native.Mathlib.Omega.{arith}
 use native.Mathlib.Numerals.{add-one}
 use native.Mathlib.Nat.{pow-suc, mul-assoc, mul-comm, mod-lt, mul-one, one-mul, add-suc}
-use lib.Dec.{lit<, lit≤}
+use lib.Dec.{lit<}
 use lib.Bits.{bitXor, xor-comm, xor-self, xor-zero-r, xor-lt, xor-shifted, xor-block}
-use lib.Pow.{pow-pos, pow-mono, split, shr-lt}
-use Rattle.bits.proofs.Flips.{xor-half, xor-parity, xor-assoc, xor-cancel, xor-zero, xor-pairs}
+use lib.Pow.{pow-mono, split, shr-lt}
+use Rattle.bits.proofs.Flips.{xor-half, xor-parity, xor-assoc, xor-cancel, xor-pairs}
 use Rattle.golay.specs.Code.{G, less, line, divide, remainder, product, Multiple}
 
 bit : (n : ℕ) → (n % 2 ≡ 0) ⊎ (n % 2 ≡ 1)

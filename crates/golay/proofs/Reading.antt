@@ -8,23 +8,22 @@
 --   lent-*               a lent table of patterns, or none
 --
 -- Assumes nothing.
-use mathlib.Core.Path.{_≡_, refl, sym, ap, ap₂, _∙_, subst}
+use mathlib.Core.Path.{_≡_, sym, ap, _∙_, subst}
 use Prim.Native.Nat.{ℕ, _+_, _*_, _/_, _%_, _^_, _≤_, _<_}
 use native.Mathlib.Omega.{arith}
 use native.Mathlib.Nat.{mod-lt, le-trans}
 use lib.Dec.{lit<}
-use lib.Bits.{bitXor, xor-self, xor-lt, xor-comm}
-use lib.Count.{ones}
+use lib.Bits.{bitXor, xor-self}
 use mathlib.Core.List.{List}
 use mathlib.Core.Logic.{inl, inr}
 use lib.ListN.{length, getD}
-use lib.Pow.{low, split}
+use lib.Pow.{low}
 use Rattle.bits.specs.Bits.{flips}
 use Rattle.bits.proofs.Flips.{flips-comm, flips-of, flips-low, flips-same}
 use Rattle.golay.specs.Code.{remainder, word23, word24, check, nearest, Pattern, Patterns, Lent}
 use Rattle.golay.proofs.Adding.{check-parts}
 use Rattle.golay.proofs.Division.{remainder-parts, remainder-small, remainder-xor}
-use Rattle.golay.proofs.Nearest.{nearest-is, nearest-none, nearest-one}
+use Rattle.golay.proofs.Nearest.{nearest-is, nearest-none}
 use Rattle.golay.proofs.Rule.{patterns, patterns-right}
 use Rattle.golay.proofs.Words.{word23-place, word23-apart, word24-apart, word24-first, word24-low, word24-lt, none-word}
 

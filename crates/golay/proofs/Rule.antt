@@ -1,13 +1,13 @@
 -- The table's rule, by one test that antt computes over all entries: each has at most three ones and its own remainder.
 -- `patterns` is the list that the code's constant is.
 -- Assumes nothing.
-use mathlib.Core.Path.{_≡_, sym, subst}
+use mathlib.Core.Path.{sym, subst}
 use mathlib.Core.Bool.{Bool}
-use Prim.Native.Nat.{ℕ, _+_, _^_, _<_, _≤_}
+use Prim.Native.Nat.{ℕ, _^_, _<_, _≤_}
 use mathlib.Core.List.{List, [], _∷_}
 use lib.Dec.{T, leb, ltb, eqb, leb→le, ltb→lt, eqb→eq}
-use lib.Count.{ones, onesIn}
-use lib.ListN.{length, getD}
+use lib.Count.{onesIn}
+use lib.ListN.{getD}
 use Rattle.bits.proofs.Every.{both, both-left, both-right, entries, entries-length, entries-at}
 use Rattle.bits.proofs.Flips.{ones-in}
 use Rattle.golay.specs.Code.{less, line, divide, remainder, Pattern, Patterns}

@@ -6,14 +6,14 @@
 -- Assumes nothing.
 use mathlib.Core.Path.{_≡_, refl, sym, ap, ap₂, _∙_}
 use mathlib.Core.List.{List, [], _∷_, _++_}
-use Prim.Native.Nat.{ℕ, suc, _+_, _*_, _/_, _%_, _^_, _≤_, _<_}
+use Prim.Native.Nat.{ℕ, suc, _+_, _*_, _/_, _%_, _^_, _<_}
 use native.Mathlib.Omega.{arith}
 use native.Mathlib.Nat.{mod-lt}
 use native.Mathlib.Numerals.{add-one}
 use lib.Bits.{bitAnd, bitOr, and-mask}
 use lib.Dec.{lit<, lit≤}
-use lib.ListN.{length, take, drop, getD, set, drop-of-length-le, List·getD-eq-default}
-use lib.Seq.{take-suc, take-suc-set, take-all, drop-drop, drop-append-le}
+use lib.ListN.{length, take, drop, getD, drop-of-length-le, List·getD-eq-default}
+use lib.Seq.{drop-drop, drop-append-le}
 use Rattle.bits.specs.Bits.{bitsOf, number, sent}
 use Rattle.bits.proofs.Runs.{Below, below-cat, bitsOf-length, number-bits-small, number-cat, number-ends, number-take, number-drop, number-at, digit, sent-below, sent-drop, sent-length, taken-at, or-above}
 use Rattle.bits.proofs.Storing.{stored}

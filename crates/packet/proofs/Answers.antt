@@ -10,14 +10,13 @@
 use mathlib.Core.Path.{_≡_, refl, sym, ap, _∙_}
 use mathlib.Core.Bool.{Bool, true, false, cond, not}
 use mathlib.Core.List.{List, [], _∷_}
-use Prim.Native.Nat.{ℕ, _-_, _≤_, _<_}
+use Prim.Native.Nat.{ℕ, _≤_, _<_}
 use borrow.Author.Tests.{le-leb, lt-leb, lt-ltb, le-ltb, eq-eqb, ne-eqb}
 use lib.Dec.{leb, eqb, ltb}
 use native.Mathlib.Omega.{arith}
 use lib.ListN.{length, getD, take, drop, length-drop}
 use lib.Seq.{take-all}
-use Rattle.bits.specs.Bits.{blank}
-use Rattle.bits.specs.Rows.{Row, row, refusal, given}
+use Rattle.bits.specs.Rows.{row, refusal, given}
 use Rattle.bits.proofs.Rows.{refusal-hit, refusal-miss}
 use Rattle.bare.specs.Bare.{headerRead, typeRead}
 use Rattle.bare.specs.declared.TypeByte.{TypeByte}

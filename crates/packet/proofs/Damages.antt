@@ -7,35 +7,34 @@
 --   received-sent                no damage: what was sent
 --
 -- Assumes nothing.
-use mathlib.Core.Path.{_≡_, refl, sym, ap, ap₂, _∙_, subst, subst₂}
+use mathlib.Core.Path.{_≡_, refl, sym, ap, ap₂, _∙_, subst}
 use mathlib.Core.Bool.{Bool, true, false}
-use mathlib.Core.List.{List, [], _∷_, map}
+use mathlib.Core.List.{List, [], _∷_}
 use mathlib.Core.Logic.{_⊎_, inl, inr}
-use Prim.Native.Nat.{ℕ, zero, suc, _+_, _*_, _/_, _%_, _^_, _≤_, _<_}
+use Prim.Native.Nat.{ℕ, zero, suc, _+_, _*_, _/_, _%_, _≤_, _<_}
 use native.Mathlib.Omega.{arith}
 use native.Mathlib.Decide.{decLt, ℕ-discrete}
 use native.Mathlib.Nat.{le-trans}
 use lib.ListN.{length, getD, drop, length-map}
 use lib.Seq.{ext-getD}
 use Rattle.bits.specs.Bits.{flips, sent, taken}
-use Rattle.bits.proofs.Flips.{flips-same, flips-comm}
+use Rattle.bits.proofs.Flips.{flips-same}
 use Rattle.bits.proofs.Runs.{Below}
 use Rattle.bits.proofs.Storing.{getD-map}
-use Rattle.bare.specs.Bare.{headerRead, typeNear, types}
+use Rattle.bare.specs.Bare.{headerRead}
 use Rattle.bare.specs.declared.Header.{Header}
 use Rattle.bare.proofs.Theorems.{header-reads}
 use Rattle.bare.proofs.Types.{within-near}
 use Rattle.golay.specs.Code.{word23, word24, nearest}
-use Rattle.golay.proofs.Nearest.{nearest-is, nearest-near, nearest-within-four}
+use Rattle.golay.proofs.Nearest.{nearest-is, nearest-within-four}
 use Rattle.golay.proofs.Words.{word23-apart, word23-lt, word24-apart}
-use Rattle.image.specs.Image.{headerOf, bytesOf, imageOf}
+use Rattle.image.specs.Image.{headerOf, bytesOf}
 use Rattle.image.proofs.Laws.{image-length, header-image, header-lt, bytes-image, bytes-lt}
 use Rattle.words.specs.Protected.{protected, wordsOf, informations, failed, dataOf, dataRead, wordsRead}
 use Rattle.words.specs.declared.Words.{Words}
-use Rattle.words.specs.declared.Data.{Data}
 use Rattle.words.proofs.Each.{failed-pass, failed-le, words-whole, failed-whole}
 use Rattle.words.proofs.Packing.{words-protected, words-length, data-segments, segments-below, segments-length, protected-length, protected-below}
-use Rattle.packet.specs.Received.{typeOf, usefulOf, received, written, refusedAs, partAs, dataAs}
+use Rattle.packet.specs.Received.{typeOf, usefulOf, received, written, refusedAs, partAs}
 use Rattle.packet.specs.Damage.{dataSize, carried, sentImage, Kept, Came, Corrected, Refused}
 use Rattle.packet.specs.declared.Reading.{Reading}
 use Rattle.packet.proofs.Answers.{indexOf, answer-unreadable, answer-control, answer-reserved, answer-scrambled, answer-plain, answer-protected, IsData, isData, data-short, data-whole}
