@@ -38,12 +38,14 @@ pub struct Written {
 }
 
 impl Header {
-    // How many headers, addresses and indices there are (4.3.6.1), and the number of a refusal for want of bits.
+    // How many headers, addresses, indices (4.3.6.1) and remainders there are.
     pub const NUMBERS: u32 = 8388608;
 
     pub const ADDRESSES: u32 = 1024;
 
     pub const INDICES: u32 = 4;
+
+    pub const REMAINDERS: usize = 2048;
 }
 
 impl Word {

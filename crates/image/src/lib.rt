@@ -9,7 +9,7 @@ ghost use Rattle.image.specs.Image.{headerOf, bytesOf, spareOf, imageOf}
 
 mod unpack;
 
-// Sizes of a packet, in bytes and bits.
+// Sizes of a packet (4.3.6): its image; its header in bits; the useful bytes, these with the type byte, and as bits.
 pub struct Packet {}
 
 impl Packet {
@@ -17,9 +17,11 @@ impl Packet {
 
     pub const HEADER_BITS: usize = 23;
 
-    pub const BYTES: usize = 91;
+    pub const USEFUL: usize = 90;
 
-    pub const BITS: usize = 728;
+    pub const BYTES: usize = Self::USEFUL + 1;
+
+    pub const BITS: usize = Self::BYTES * 8;
 }
 
 // The header's 23 bits: two bytes and seven bits of the third.

@@ -9,6 +9,7 @@ ghost use Rattle.words.specs.Protected.{dataRead};
 ghost use Rattle.packet.specs.Received.{received, written, refusedAs, partAs, dataAs};
 use bare::Header;
 use bare::TypeByte;
+use image::Packet;
 
 // What a packet is read as: its number, 0 or a refusal; with 31 the place of the first word that cannot be read; the
 // index; the 90 useful bytes, or the 45 of protected data with 0 behind them. A refused packet has 0 for the others.
@@ -19,18 +20,12 @@ pub struct Reading {
     pub bytes: [u8; 90],
 }
 
-impl Reading {
-    pub const USEFUL: usize = 90;
-
-    pub const DATA: usize = 45;
-}
-
 // What an image is read as. 20: not 94 bytes; 28: type unreadable; 29: type 3F or C7; 30: type F8; 31: a protected word
 // can't be read. The tables are set up once at most.
 pub fn received(protected: bool, image: &[u8]) -> Reading
     ensures { λ r. ⌜ r ≡ received protected (now (image .entry)) ⌝ }
 {
-    if image.len() != image::Packet::IMAGE {
+    if image.len() != Packet::IMAGE {
         return refused(20, 0);
     }
     let checks = lookup::checks();
@@ -129,13 +124,13 @@ pub fn written(address: u32, index: u32, kind: u8, useful: &[u8]) -> [u8; 94]
     let mut bytes = [0u8; 91];
     bytes[0] = kind;
     let mut k: usize = 0;
-    while k < Reading::USEFUL {
+    while k < Packet::USEFUL {
         bytes[k + 1] = useful[k];
         k += 1;
     }
     let checks = lookup::checks();
     image::image(
-        bare::code::header_word(&checks, address + 1024 * index),
+        bare::code::header_word(&checks, address + Header::ADDRESSES * index),
         &bytes,
     )
 }

@@ -6,6 +6,8 @@ ghost use lib.ListN.{length, getD};
 ghost use Rattle.bits.specs.Bits.{sent, taken};
 ghost use Rattle.golay.specs.Code.{word24, Checks, Patterns, Lent};
 ghost use Rattle.words.specs.Protected.{protected, wordsOf, dataOf, dataRead, wordsRead, Passed};
+use bare::Header;
+use bare::Word;
 
 // What 90 protected bytes are read as: the place of the first word that cannot be read, 30 where all can; the flips of
 // all words; the 45 bytes. Flips and bytes are 0 where a word cannot be read.
@@ -31,8 +33,6 @@ pub struct Pass {
 
 impl Words {
     pub const COUNT: usize = 30;
-
-    pub const INFORMATIONS: u32 = 4096;
 }
 
 // What 90 protected bytes are read as. Where every word is right, no table of patterns is set up; otherwise one is, unless
@@ -52,7 +52,7 @@ pub fn unprotect(patterns: &[u32], useful: &[u8]) -> Data
             bytes: gathered(informations),
         };
     }
-    if patterns.len() == 2048 {
+    if patterns.len() == Header::REMAINDERS {
         return corrected(&checks, patterns, useful);
     }
     let own = lookup::patterns();
@@ -96,8 +96,8 @@ fn passed(checks: &[u16; 128], useful: &[u8]) -> Pass
     let mut w: usize = 0;
     while w < Words::COUNT {
         let n = word(useful, w);
-        let i = n % Words::INFORMATIONS;
-        wrong = wrong | (bare::code::check(checks, i) ^ n / Words::INFORMATIONS);
+        let i = n % Word::INFORMATIONS;
+        wrong = wrong | (bare::code::check(checks, i) ^ n / Word::INFORMATIONS);
         informations[w] = i as u16;
         w += 1;
     }
