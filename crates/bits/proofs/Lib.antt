@@ -3,4 +3,5 @@ pub mod Every
 pub mod Flips
 pub mod Rows
 pub mod Runs
+pub mod Search
 pub mod Storing

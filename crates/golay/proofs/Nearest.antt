@@ -1,6 +1,5 @@
 -- Reading by the nearest word, for any code whose words lie at least seven bits apart: what both readers share.
 --
---   first-*          the least number that passes a test
 --   nearest-is       a word within three flips is the nearest
 --   nearest-near     the nearest lies within three flips, where there is one
 --   nearest-none     there is none if no word lies within three flips
@@ -9,53 +8,19 @@
 --   nearest-far      a word with four is read as none, where words lie eight apart
 --
 -- Assumes nothing.
-use mathlib.Core.Path.{_≡_, refl, sym, ap, _∙_, subst}
-use mathlib.Core.Bool.{Bool, true, false, cond}
-use Prim.Native.Nat.{ℕ, zero, suc, _+_, _≤_, _<_}
+use mathlib.Core.Path.{_≡_, sym, ap, subst}
+use mathlib.Core.Bool.{Bool}
+use Prim.Native.Nat.{ℕ, _≤_, _<_}
 use native.Mathlib.Omega.{arith}
 use native.Mathlib.Decide.{ℕ-discrete, decLe, decLt}
 use mathlib.Core.Logic.{_⊎_, inl, inr}
 use lib.Bits.{bitXor}
 use lib.Count.{ones}
-use lib.Dec.{T, leb, leb→le, le→leb}
+use lib.Dec.{leb, leb→le, le→leb}
 use Rattle.bits.specs.Bits.{flips}
 use Rattle.bits.proofs.Flips.{flips-comm, flips-triangle, flips-of}
-use Rattle.golay.specs.Code.{first, nearest}
-
--- ---- the least number that passes a test
-
-module _ (p : ℕ → Bool) where
-  pub first-le : (k i : ℕ) → first p k i ≤ i + k
-  unfolding first
-  first-le zero i = omega arith
-  first-le (suc k) i = go (p i) (first-le k (suc i))
-    where
-      go : (b : Bool) → first p k (suc i) ≤ suc i + k → cond b i (first p k (suc i)) ≤ i + suc k
-      go true h = omega arith
-      go false h = omega arith
-
-  pub first-holds : (k i : ℕ) → first p k i < i + k → T (p (first p k i))
-  unfolding first
-  first-holds zero i h = absurd (omega arith)
-  first-holds (suc k) i h = go (p i) refl (first-holds k (suc i)) h
-    where
-      go : (b : Bool) → p i ≡ b → (first p k (suc i) < suc i + k → T (p (first p k (suc i))))
-          → cond b i (first p k (suc i)) < i + suc k → T (p (cond b i (first p k (suc i))))
-      go true e ih h = subst T (sym e) tt
-      go false e ih h = ih (omega arith)
-
-  pub first-only : (k i j : ℕ) → i ≤ j → j < i + k → T (p j) → ((m : ℕ) → m < i + k → T (p m) → m ≡ j) → first p k i ≡ j
-  unfolding first
-  first-only zero i j l h t only = absurd (omega arith)
-  first-only (suc k) i j l h t only = go (p i) refl (λ l′. first-only k (suc i) j l′ (omega arith) t (λ m q. only m (omega arith)))
-    where
-      go : (b : Bool) → p i ≡ b → (suc i ≤ j → first p k (suc i) ≡ j) → cond b i (first p k (suc i)) ≡ j
-      go true e ih = only i (omega arith) (subst T (sym e) tt)
-      go false e ih = ih (later (ℕ-discrete i j))
-        where
-          later : Dec (i ≡ j) → suc i ≤ j
-          later (yes q) = absurd (subst T (sym (ap p q) ∙ e) t)
-          later (no q) = omega arith
+use Rattle.bits.proofs.Search.{first-le, first-holds, first-only}
+use Rattle.golay.specs.Code.{nearest}
 
 -- ---- the nearest word
 

@@ -11,7 +11,6 @@
 --   Patterns t     t is the table of 2,048 error patterns, one for each remainder
 --   Checks t       t is the table of check bits
 use mathlib.Core.Path.{_≡_}
-use mathlib.Core.Bool.{Bool, cond}
 use Prim.Native.Nat.{ℕ, zero, suc, _+_, _-_, _*_, _/_, _%_, _^_, _≤_, _<_}
 use mathlib.Core.List.{List, [], _∷_}
 use mathlib.Core.Logic.{_⊎_}
@@ -20,6 +19,7 @@ use lib.Bits.{bitXor}
 use lib.ListN.{length, getD}
 use lib.Count.{ones}
 use Rattle.bits.specs.Bits.{flips}
+use Rattle.bits.specs.Search.{first}
 
 -- 4.3.6.1.3: G(x) = x^11 + x^10 + x^6 + x^5 + x^4 + x^2 + 1
 abbrev pub generator : List ℕ
@@ -74,11 +74,6 @@ product (suc k) q g = bitXor (q % 2 * g) (2 * product k (q / 2) g)
 -- "a polynomial which is a multiple of the generator polynomial G(x)": q(x) has degree 11, twelve bits
 unfoldable pub Multiple : ℕ → Type 0
 Multiple n = (q : ℕ) × (q < 2 ^ 12) × (n ≡ product 12 q G)
-
--- The least number from i on, of k numbers, that passes a test; i + k where none does.
-unfoldable pub first : (ℕ → Bool) → ℕ → ℕ → ℕ
-first p zero i = i
-first p (suc k) i = cond (p i) i (first p k (suc i))
 
 -- document 01, sections 1 and 2: a number is read as the word within three flips, if there is one
 unfoldable pub nearest : (ℕ → ℕ) → ℕ → ℕ
