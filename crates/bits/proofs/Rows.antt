@@ -1,6 +1,6 @@
 -- Laws of the orders of refusal: which row is hit, and that a call is refused exactly when a row holds.
 --
---   refusal-hit, refusal-miss     the first row, by its test
+--   refusal-hit, refusal-miss     the first row, by its test; refusal-passed: where nothing is refused
 --   refused-holds, holds-refused  refused exactly when a row holds, where no row gives 0
 --
 -- Assumes nothing.
@@ -8,7 +8,8 @@ use mathlib.Core.Path.{_≡_, refl, ap}
 use mathlib.Core.Bool.{Bool, true, false, cond}
 use mathlib.Core.List.{List, [], _∷_}
 use mathlib.Core.Logic.{_⊎_, inl, inr}
-use Prim.Native.Nat.{ℕ}
+use Prim.Native.Nat.{ℕ, _<_}
+use native.Mathlib.Omega.{arith}
 use Rattle.bits.specs.Rows.{Row, row, refusal}
 
 pub refusal-hit : (t : Bool) (n : ℕ) (rest : List Row) → t ≡ true → refusal (row t n ∷ rest) ≡ n
@@ -18,6 +19,12 @@ refusal-hit t n rest e = ap (λ (b : Bool). cond b n (refusal rest)) e
 pub refusal-miss : (t : Bool) (n : ℕ) (rest : List Row) → t ≡ false → refusal (row t n ∷ rest) ≡ refusal rest
 unfolding refusal
 refusal-miss t n rest e = ap (λ (b : Bool). cond b n (refusal rest)) e
+
+-- where nothing is refused, the first row does not hold, nor is anything refused by the rest
+pub refusal-passed : (t : Bool) (n : ℕ) (rest : List Row) → 0 < n → refusal (row t n ∷ rest) ≡ 0 → (t ≡ false) × (refusal rest ≡ 0)
+unfolding refusal
+refusal-passed true n rest h e = absurd (omega (arith, e))
+refusal-passed false n rest h e = (refl, e)
 
 -- a row of the order holds, and none before it does
 pub data Holds : List Row → ℕ → Type 0 where

@@ -3,15 +3,19 @@
 --   first-le       it is at most i + k
 --   first-holds    it passes, where it is below that
 --   first-only     it is the one that passes, where only one does
+--   first-agree    two tests that agree have the same first
+--   first-least    no number that passes is less
+--   and-left, and-right, or-right    parts of a joined test
+--   all-at, all-each    all pass exactly if each does
 --
 -- Assumes nothing.
-use mathlib.Core.Path.{_≡_, refl, sym, ap, _∙_, subst}
-use mathlib.Core.Bool.{Bool, true, false, cond}
+use mathlib.Core.Path.{_≡_, refl, sym, ap, ap₂, _∙_, subst}
+use mathlib.Core.Bool.{Bool, true, false, cond, _&&_, _||_}
 use Prim.Native.Nat.{ℕ, zero, suc, _+_, _≤_, _<_}
 use native.Mathlib.Omega.{arith}
 use native.Mathlib.Decide.{ℕ-discrete}
 use lib.Dec.{T}
-use Rattle.bits.specs.Search.{first}
+use Rattle.bits.specs.Search.{first, all}
 
 module _ (p : ℕ → Bool) where
   pub first-le : (k i : ℕ) → first p k i ≤ i + k
@@ -45,3 +49,50 @@ module _ (p : ℕ → Bool) where
           later : Dec (i ≡ j) → suc i ≤ j
           later (yes q) = absurd (subst T (sym (ap p q) ∙ e) t)
           later (no q) = omega arith
+
+pub first-agree : (p q : ℕ → Bool) (k i : ℕ) → ((j : ℕ) → i ≤ j → j < i + k → p j ≡ q j) → first p k i ≡ first q k i
+unfolding first
+first-agree p q zero i h = refl
+first-agree p q (suc k) i h =
+    ap₂ (λ (b : Bool) (n : ℕ). cond b i n) (h i (omega arith) (omega arith))
+    (first-agree p q k (suc i) (λ j l m. h j (omega arith) (omega arith)))
+
+-- no number that passes is less
+pub first-least : (p : ℕ → Bool) (k i j : ℕ) → i ≤ j → j < i + k → T (p j) → first p k i ≤ j
+unfolding first
+first-least p zero i j l h t = absurd (omega arith)
+first-least p (suc k) i j l h t = go (p i) refl (first-least p k (suc i) j) (ℕ-discrete i j)
+  where
+    go : (b : Bool) → p i ≡ b → (suc i ≤ j → j < suc i + k → T (p j) → first p k (suc i) ≤ j) → Dec (i ≡ j) → cond b i (first p k (suc i)) ≤ j
+    go true e rest d = l
+    go false e rest (yes q) = absurd (subst T (sym (ap p q) ∙ e) t)
+    go false e rest (no q) = rest (omega arith) (omega arith) t
+
+-- ---- all
+
+pub and-left : (a b : Bool) → (a && b) ≡ true → a ≡ true
+and-left true b e = refl
+and-left false b e = e
+
+pub and-right : (a b : Bool) → (a && b) ≡ true → b ≡ true
+and-right true b e = e
+and-right false b e = absurd (subst T (sym e) tt)
+
+pub or-right : (a b : Bool) → (a || b) ≡ true → a ≡ false → b ≡ true
+or-right true b e f = absurd (subst T f tt)
+or-right false b e f = e
+
+pub all-at : (p : ℕ → Bool) (k i : ℕ) → all p k i ≡ true → (j : ℕ) → i ≤ j → j < i + k → p j ≡ true
+unfolding all
+all-at p zero i e j l h = absurd (omega arith)
+all-at p (suc k) i e j l h = go (ℕ-discrete i j) (all-at p k (suc i) (and-right (p i) (all p k (suc i)) e) j)
+  where
+    go : Dec (i ≡ j) → (suc i ≤ j → j < suc i + k → p j ≡ true) → p j ≡ true
+    go (yes q) rest = subst (λ (n : ℕ). p n ≡ true) q (and-left (p i) (all p k (suc i)) e)
+    go (no q) rest = rest (omega arith) (omega arith)
+
+pub all-each : (p : ℕ → Bool) (k i : ℕ) → ((j : ℕ) → i ≤ j → j < i + k → p j ≡ true) → all p k i ≡ true
+unfolding all
+all-each p zero i h = refl
+all-each p (suc k) i h =
+    ap₂ (λ (a b : Bool). a && b) (h i (omega arith) (omega arith)) (all-each p k (suc i) (λ j l m. h j (omega arith) (omega arith)))

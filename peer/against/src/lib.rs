@@ -98,7 +98,18 @@ pub fn received_into(
     index: &mut u8,
     bytes: &mut [u8; USEFUL],
 ) -> u8 {
-    let protection = u8::from(protected);
+    received_raw(u8::from(protected), image, place, index, bytes)
+}
+
+/// The bare call with any protection and any room for the bytes.
+#[inline]
+pub fn received_raw(
+    protection: u8,
+    image: &[u8],
+    place: &mut u8,
+    index: &mut u8,
+    bytes: &mut [u8],
+) -> u8 {
     let (start, length) = (image.as_ptr(), image.len());
     let (room, room_length) = (bytes.as_mut_ptr(), bytes.len());
     // SAFETY: the call reads the image and writes two values and the buffer, each within its stated length. What it

@@ -1,6 +1,6 @@
 //! Received images: the library against both other implementations.
 
-use against::{received, received_whole, MARK};
+use against::{received, received_raw, received_whole, MARK};
 use second::fast;
 use second::image::{self, Received, IMAGE, TYPE_AT, USEFUL};
 use second::samples::{self, flip, sound, word_at, WORDS};
@@ -133,5 +133,41 @@ fn nothing_else_is_written() {
         assert_eq!(bytes, before);
         assert_eq!(room[..USEFUL], [MARK; USEFUL]);
         assert_eq!(room[2 * USEFUL..], [MARK; USEFUL]);
+    }
+}
+
+/// (number, place, index) of a call whose room holds marks. A refusal for how it was called leaves all of them.
+fn called(protection: u8, image: &[u8], room: &mut [u8]) -> (u8, u8, u8) {
+    let (mut place, mut index) = (MARK, MARK);
+    let number = received_raw(protection, image, &mut place, &mut index, room);
+    (number, place, index)
+}
+
+/// 23 before anything is known of the image, sound or not.
+#[test]
+fn no_such_protection() {
+    let image = sound(&mut Xorshift::new(39), true, DATA);
+    for protection in 2..=255 {
+        for length in [0, 1, IMAGE - 1, IMAGE] {
+            let mut room = [MARK; USEFUL];
+            let answer = called(protection, &image[..length], &mut room);
+            assert_eq!(answer, (23, MARK, MARK), "{protection} {length}");
+            assert_eq!(room, [MARK; USEFUL]);
+        }
+    }
+}
+
+/// 20 for the room, before 23 for the protection.
+#[test]
+fn no_such_room() {
+    let image = sound(&mut Xorshift::new(40), true, DATA);
+    let lengths = (0..=3 * USEFUL).filter(|&length| length != USEFUL);
+    for length in lengths {
+        for protection in [0, 1, 2, 255] {
+            let mut room = [MARK; 3 * USEFUL];
+            let answer = called(protection, &image, &mut room[..length]);
+            assert_eq!(answer, (20, MARK, MARK), "{protection} {length}");
+            assert_eq!(room, [MARK; 3 * USEFUL]);
+        }
     }
 }

@@ -1,6 +1,6 @@
 //! Whole images, sound and damaged, and what they are received as.
 
-use second::image::{protect, received, write_image, IMAGE};
+use second::image::{protect, received, write_image, IMAGE, USEFUL_AT};
 use second::samples::{flip, word_at, WORDS};
 use second::types::{CONTROL, DATA, RESERVED, SCRAMBLED};
 
@@ -18,6 +18,8 @@ pub fn print() {
     line("reserved", false, &plain(RESERVED));
     line("scrambled", false, &plain(SCRAMBLED));
     line("short", false, &plain(DATA)[..IMAGE - 1]);
+    line("index", true, &spare_bit());
+    line("noise", true, &noise());
 }
 
 fn line(name: &str, protected: bool, image: &[u8]) {
@@ -68,6 +70,21 @@ fn bad_type() -> Image {
     for bit in 23..27 {
         flip(&mut image, bit);
     }
+    image
+}
+
+/// Another address, index and data, with the spare bit set.
+fn spare_bit() -> Image {
+    let data = std::array::from_fn(|i| 200 + i as u8);
+    let mut image = write_image(1022, 2, DATA, &protect(&data));
+    flip(&mut image, USEFUL_AT.end);
+    image
+}
+
+/// Bytes that no packet was made of, with the spare bit 0.
+fn noise() -> Image {
+    let mut image: Image = std::array::from_fn(|k| (k * 37 + 11) as u8);
+    image[IMAGE - 1] %= 128;
     image
 }
 
