@@ -1,0 +1,70 @@
+-- One slot's bytes (document 01, section 3). This file alone has byte places; docs/LAYOUT.md is the same table for people.
+--
+--   from 0     the unfinished group: room for 360 bytes
+--   from 360   the last whole group: room for 360 bytes
+--   from 720   the head: address, limit and age, four bytes each, lowest first; then protection, awaited index, the mark
+--              that there is a whole group, the gap mark, one byte each
+--   736        the whole slot
+--
+--   four n, fourAt at s     a number as four bytes, and the number at a place
+--   headOf s                the head that a slot's bytes hold
+--   headBytes h             its sixteen bytes
+--   withHead h s            the slot with another head
+--   unfinished s, stored s  the two rooms
+--   withUnfinished, withStored
+use mathlib.Core.List.{List, [], _∷_, _++_}
+use Prim.Native.Nat.{ℕ, _+_, _*_, _/_, _%_}
+use lib.ListN.{getD}
+use Rattle.slot.specs.Part.{part, put}
+use Rattle.slot.specs.declared.Head.{Head}
+
+abbrev pub roomSize : ℕ
+roomSize = 360
+
+abbrev pub wholeAt : ℕ
+wholeAt = 360
+
+abbrev pub headAt : ℕ
+headAt = 720
+
+abbrev pub headSize : ℕ
+headSize = 16
+
+abbrev pub slotSize : ℕ
+slotSize = 736
+
+unfoldable pub four : ℕ → List ℕ
+four n = n % 256 ∷ n / 256 % 256 ∷ n / 65536 % 256 ∷ n / 16777216 % 256 ∷ []
+
+unfoldable pub fourAt : ℕ → List ℕ → ℕ
+fourAt at s = getD s at 0 + 256 * getD s (at + 1) 0 + 65536 * getD s (at + 2) 0 + 16777216 * getD s (at + 3) 0
+
+unfoldable pub headOf : List ℕ → Head
+headOf s = record {
+  address = fourAt headAt s;
+  limit = fourAt (headAt + 4) s;
+  age = fourAt (headAt + 8) s;
+  protection = getD s (headAt + 12) 0;
+  awaited = getD s (headAt + 13) 0;
+  group = getD s (headAt + 14) 0;
+  gap = getD s (headAt + 15) 0;
+}
+
+unfoldable pub headBytes : Head → List ℕ
+headBytes h =
+    four (h .address) ++ (four (h .limit) ++ (four (h .age) ++ (h .protection ∷ h .awaited ∷ h .group ∷ h .gap ∷ [])))
+
+unfoldable pub withHead : Head → List ℕ → List ℕ
+withHead h s = put headAt headSize (headBytes h) s
+
+unfoldable pub unfinished : List ℕ → List ℕ
+unfinished s = part 0 roomSize s
+
+unfoldable pub stored : List ℕ → List ℕ
+stored s = part wholeAt roomSize s
+
+unfoldable pub withUnfinished : List ℕ → List ℕ → List ℕ
+withUnfinished room s = put 0 roomSize room s
+
+unfoldable pub withStored : List ℕ → List ℕ → List ℕ
+withStored room s = put wholeAt roomSize room s
