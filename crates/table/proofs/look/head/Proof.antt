@@ -1,0 +1,32 @@
+use borrow.Author.Needs.{needs}
+use Rattle.table.proofs.look.head.Statement.{statement}
+use Rattle.table.proofs.look.head.Tie as tie
+use Rattle.table.proofs.look.head.Reads as reads
+use Rattle.table.proofs.look.head.Lts as lts
+use Rattle.slot.proofs.Head.load.Reads as load-reads
+
+mul-at : tie.Need-mul-at
+mul-at c = search needs
+
+add-load : tie.Need-add-load
+add-load c = search needs
+
+sub-load : tie.Need-sub-load
+sub-load c = search needs
+
+part-load-start : tie.Need-part-load-start
+part-load-start c = search needs
+
+part-load-end : tie.Need-part-load-end
+part-load-end c = search needs
+
+load-requires : tie.Need-load-requires
+load-requires c κs = search needs
+
+returns : tie.Need-returns
+returns c = ?
+
+pub head-spec : {M : Type 1} → statement M
+head-spec =
+    tie.close
+    (tie.spec mul-at add-load sub-load part-load-start part-load-end load-requires returns)
