@@ -20,6 +20,10 @@ pub refusal-miss : (t : Bool) (n : ℕ) (rest : List Row) → t ≡ false → re
 unfolding refusal
 refusal-miss t n rest e = ap (λ (b : Bool). cond b n (refusal rest)) e
 
+pub refusal-none : refusal [] ≡ 0
+unfolding refusal
+refusal-none = refl
+
 -- where nothing is refused, the first row does not hold, nor is anything refused by the rest
 pub refusal-passed : (t : Bool) (n : ℕ) (rest : List Row) → 0 < n → refusal (row t n ∷ rest) ≡ 0 → (t ≡ false) × (refusal rest ≡ 0)
 unfolding refusal

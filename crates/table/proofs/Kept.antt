@@ -1,26 +1,32 @@
 -- Every call keeps the state good, whatever it answers.
 --
---   Accepted-*      what holds where a call is accepted: none of its rows
+--   past-state, follow-passed, leave-passed    what holds where a call is accepted: none of its rows
 --   start-good, follow-good, leave-good, end-good
+--   age-waits       the age does not move before the first whole group
 --
 -- Assumes nothing.
 use mathlib.Core.Path.{_≡_, refl, sym, ap, _∙_, subst}
-use mathlib.Core.Bool.{Bool, true, false, not, _&&_}
+use mathlib.Core.Bool.{Bool, true, false, cond, not, _&&_}
 use mathlib.Core.List.{List, [], _∷_}
 use Prim.Native.Nat.{ℕ, zero, suc, _+_, _*_, _≤_, _<_}
 use native.Mathlib.Omega.{arith}
-use borrow.Author.Tests.{not-false, ltb-true, ltb-false, leb-true}
-use lib.Dec.{ltb, leb, eqb}
-use lib.ListN.{length}
+use borrow.Author.Tests.{not-false, ltb-true, ltb-false, leb-true, le-leb, eqb-true, eq-eqb, ne-eqb}
+use lib.Dec.{T, ltb, leb, eqb}
+use mathlib.Core.Logic.{_⊎_, inl, inr}
+use lib.ListN.{length, getD, length-replicate}
 use Rattle.bits.specs.Bits.{blank}
 use Rattle.bits.specs.Rows.{Row, row, refusal}
-use Rattle.bits.proofs.Rows.{refusal-passed}
+use Rattle.bits.proofs.Rows.{refusal-passed, refusal-miss, refusal-none}
 use Rattle.bits.proofs.Search.{and-left, and-right}
+use Rattle.slot.specs.Part.{part}
+use Rattle.slot.specs.declared.Head.{Head}
+use Rattle.slot.proofs.Laws.{good-new, good-load, good-store, good-free, good-cases, good-aged, head-blank, blank-free, blank-at, store-load, withHead-length}
 use Rattle.slot.specs.Slot.{slotSize, headOf, withHead}
-use Rattle.slot.specs.Head.{newHead, agedHead, within, goodSlot, free}
+use Rattle.slot.specs.Head.{freeHead, newHead, agedHead, within, goodHead, goodSlot, free}
 use Rattle.table.specs.State.{slots, stateSize, slotAt, withSlot, addressAt, find, good}
 use Rattle.table.specs.Calls.{done, stateRows, startAnswer, startAfter, followAnswer, followAfter, leaveAnswer, leaveAfter, endAnswer, ages, endAfter}
-use Rattle.table.proofs.States.{Good, good-each, each-good, find-has, find-le, slot-length, good-followed, good-left, good-change}
+use Rattle.table.proofs.Looking.{Passed}
+use Rattle.table.proofs.States.{Good, good-each, each-good, find-has, slot-length, with-length, good-followed, good-left, good-change, address-is}
 
 -- the bytes after, by cases of the answer
 pub done-either : (P : List ℕ → Type 0) (n : ℕ) (after before : List ℕ) → (n ≡ 0 → P after) → P before → P (done n after before)
@@ -29,13 +35,14 @@ done-either P zero after before a b = a refl
 done-either P (suc n) after before a b = b
 
 -- past the rows of the state
-pub state-passed : (s : List ℕ) (rest : List Row) → refusal (stateRows s rest) ≡ 0 → (good s ≡ true) × (refusal rest ≡ 0)
-state-passed s rest e =
+pub past-state : (s : List ℕ) (rest : List Row) → refusal (stateRows s rest) ≡ 0 → (Passed s) × (refusal rest ≡ 0)
+past-state s rest e =
     let one = refusal-passed (not (eqb (length s) stateSize)) 20 (row (not (good s)) 34 ∷ rest) (omega arith) e in
     let two = refusal-passed (not (good s)) 34 rest (omega arith) (one .1) in
-    (not-false (good s) (two .0), two .1)
+    (record { size = eqb-true (length s) stateSize (not-false (eqb (length s) stateSize) (one .0)); all-good = not-false (good s) (two .0) }, two .1)
 
 pub record Followed (s : List ℕ) (a p l : ℕ) : Type 0 where
+  pub state : Passed s
   pub address : within 1 1022 a ≡ true
   pub protection : p ≤ 1
   pub limit : within 1 1500 l ≡ true
@@ -45,12 +52,13 @@ pub record Followed (s : List ℕ) (a p l : ℕ) : Type 0 where
 pub follow-passed : (s : List ℕ) (a p l : ℕ) → followAnswer s a p l ≡ 0 → Followed s a p l
 unfolding followAnswer
 follow-passed s a p l e =
-    let r22 = refusal-passed (not (within 1 1022 a)) 22 _ (omega arith) (state-passed s _ e .1) in
+    let r22 = refusal-passed (not (within 1 1022 a)) 22 _ (omega arith) (past-state s _ e .1) in
     let r23 = refusal-passed (ltb 1 p) 23 _ (omega arith) (r22 .1) in
     let r24 = refusal-passed (not (within 1 1500 l)) 24 _ (omega arith) (r23 .1) in
     let r25 = refusal-passed (ltb (find s a) slots) 25 _ (omega arith) (r24 .1) in
     let r26 = refusal-passed (not (ltb (find s 0) slots)) 26 [] (omega arith) (r25 .1) in
     record {
+      state = past-state s _ e .0;
       address = not-false (within 1 1022 a) (r22 .0);
       protection = ltb-false 1 p (r23 .0);
       limit = not-false (within 1 1500 l) (r24 .0);
@@ -58,9 +66,115 @@ follow-passed s a p l e =
       room = ltb-true (find s 0) slots (not-false (ltb (find s 0) slots) (r26 .0))
     }
 
-pub leave-passed : (s : List ℕ) (a : ℕ) → leaveAnswer s a ≡ 0 → (within 1 1022 a ≡ true) × (find s a < slots)
+pub leave-passed : (s : List ℕ) (a : ℕ) → leaveAnswer s a ≡ 0 → (Passed s) × (within 1 1022 a ≡ true) × (find s a < slots)
 unfolding leaveAnswer
 leave-passed s a e =
-    let r22 = refusal-passed (not (within 1 1022 a)) 22 _ (omega arith) (state-passed s _ e .1) in
+    let r22 = refusal-passed (not (within 1 1022 a)) 22 _ (omega arith) (past-state s _ e .1) in
     let r27 = refusal-passed (not (ltb (find s a) slots)) 27 [] (omega arith) (r22 .1) in
-    (not-false (within 1 1022 a) (r22 .0), ltb-true (find s a) slots (not-false (ltb (find s a) slots) (r27 .0)))
+    (past-state s _ e .0, not-false (within 1 1022 a) (r22 .0), ltb-true (find s a) slots (not-false (ltb (find s a) slots) (r27 .0)))
+
+blank-length : (n : ℕ) → length (blank n) ≡ n
+unfolding blank
+blank-length n = length-replicate n 0
+
+-- ---- start
+
+part-blank : (at n m : ℕ) → at + n ≤ m → part at n (blank m) ≡ blank n
+unfolding part blank
+part-blank zero zero m h = refl
+part-blank zero (suc n) zero h = absurd (omega arith)
+part-blank zero (suc n) (suc m) h = ap (λ (x : List ℕ). 0 ∷ x) (part-blank zero n m (omega arith))
+part-blank (suc at) n zero h = absurd (omega arith)
+part-blank (suc at) n (suc m) h = part-blank at n m (omega arith)
+
+slot-blank : (k : ℕ) → k < slots → slotAt k (blank stateSize) ≡ blank slotSize
+unfolding slotAt
+slot-blank k h = part-blank (k * slotSize) slotSize stateSize (omega arith)
+
+blank-good : Good (blank stateSize)
+blank-good = record {
+  slot = λ k h. ap goodSlot (slot-blank k h) ∙ good-free slotSize;
+  first = λ k h f. absurd (subst T (sym (ap free (slot-blank k h) ∙ blank-free slotSize) ∙ f) tt)
+}
+
+pub start-good : (s : List ℕ) → length s ≡ stateSize → good (startAfter s) ≡ true
+unfolding startAfter startAnswer done
+start-good s l =
+    ap (λ (n : ℕ). good (done n (blank stateSize) s))
+    (refusal-miss (not (eqb (length s) stateSize)) 20 [] (ap not (eq-eqb (length s) stateSize l)) ∙ refusal-none)
+    ∙ each-good (blank stateSize) blank-good
+
+-- ---- follow
+
+pub follow-good : (s : List ℕ) (a p l : ℕ) → good s ≡ true → good (followAfter s a p l) ≡ true
+unfolding followAfter
+follow-good s a p l g =
+    done-either (λ (x : List ℕ). good x ≡ true) (followAnswer s a p l)
+    (withSlot (find s 0) (withHead (newHead a p l) (slotAt (find s 0) s)) s) s (λ e. taken (follow-passed s a p l e)) g
+  where
+    taken : Followed s a p l → good (withSlot (find s 0) (withHead (newHead a p l) (slotAt (find s 0) s)) s) ≡ true
+    taken f =
+        let k = find s 0 in
+        let lk = slot-length s (f .state .size) k (f .room) in
+        let gh = good-new a p l (f .address) (le-leb p 1 (f .protection)) (f .limit) in
+        let load = good-load (newHead a p l) gh (slotAt k s) lk in
+        let address : headOf (withHead (newHead a p l) (slotAt k s)) .address ≡ a = ap (λ (h : Head). h .address) load in
+        each-good _ (good-followed s (f .state .size) (good-each s g) k (withHead (newHead a p l) (slotAt k s)) (f .room)
+          (withHead-length (newHead a p l) (slotAt k s) lk ∙ lk) (good-store (newHead a p l) gh (slotAt k s) lk)
+          (find-has s 0 (f .room))
+          (subst (λ (x : ℕ). 0 < x) (sym address) (leb-true 1 a (and-left (leb 1 a) (leb a 1022) (f .address))))
+          (subst (λ (x : ℕ). slots ≤ find s x) (sym address) (f .absent)))
+
+-- ---- leave
+
+pub leave-good : (s : List ℕ) (a : ℕ) → good s ≡ true → good (leaveAfter s a) ≡ true
+unfolding leaveAfter
+leave-good s a g =
+    done-either (λ (x : List ℕ). good x ≡ true) (leaveAnswer s a) (withSlot (find s a) (blank slotSize) s) s
+    (λ e. let q = leave-passed s a e in
+      each-good _ (good-left s (q .0 .size) (good-each s g) (find s a) (blank slotSize) (q .2) (blank-length slotSize) (good-free slotSize) (blank-free slotSize)))
+    g
+
+-- ---- the end of a subframe
+
+-- a slot aged is good, and keeps its address
+aged-slot : (b : List ℕ) → length b ≡ slotSize → goodSlot b ≡ true
+    → (goodSlot (withHead (agedHead (headOf b)) b) ≡ true) × (headOf (withHead (agedHead (headOf b)) b) .address ≡ headOf b .address)
+aged-slot b l g = go (good-cases b g)
+  where
+    go : (b ≡ blank (length b)) ⊎ (goodHead (headOf b) ≡ true)
+        → (goodSlot (withHead (agedHead (headOf b)) b) ≡ true) × (headOf (withHead (agedHead (headOf b)) b) .address ≡ headOf b .address)
+    go (inr e) =
+        let ga = good-aged (headOf b) e in
+        (good-store (agedHead (headOf b)) ga b l, ap (λ (h : Head). h .address) (good-load (agedHead (headOf b)) ga b l))
+    go (inl e) =
+        let free-head : headOf b ≡ freeHead = ap headOf e ∙ head-blank (length b) in
+        let same : withHead (agedHead (headOf b)) b ≡ b =
+          ap (λ (h : Head). withHead h b) (ap agedHead free-head ∙ sym free-head)
+          ∙ store-load b l (λ k. subst (λ (x : ℕ). x < 256) (sym (ap (λ (x : List ℕ). getD x k 0) e ∙ blank-at (length b) k)) (omega arith)) in
+        (ap goodSlot same ∙ g, ap (λ (x : List ℕ). headOf x .address) same)
+
+ages-good : (n k : ℕ) (s : List ℕ) → n + k ≤ slots → length s ≡ stateSize → Good s → Good (ages n k s)
+unfolding ages
+ages-good zero k s h l g = g
+ages-good (suc n) k s h l g =
+    let hk : k < slots = omega arith in
+    let lk = slot-length s l k hk in
+    let b = withHead (agedHead (headOf (slotAt k s))) (slotAt k s) in
+    let lb : length b ≡ slotSize = withHead-length (agedHead (headOf (slotAt k s))) (slotAt k s) lk ∙ lk in
+    let q = aged-slot (slotAt k s) lk (g .slot k hk) in
+    ages-good n (suc k) (withSlot k b s) (omega arith) (with-length s l k b hk lb)
+    (good-change s l g k b hk lb (q .0) (at-slot s k (q .1)))
+  where
+    at-slot : (s : List ℕ) (k : ℕ) {x : ℕ} → x ≡ headOf (slotAt k s) .address → x ≡ addressAt s k
+    at-slot s k e = e ∙ address-is s k
+
+pub end-good : (s : List ℕ) → good s ≡ true → good (endAfter s) ≡ true
+unfolding endAfter endAnswer
+end-good s g =
+    done-either (λ (x : List ℕ). good x ≡ true) (endAnswer s) (ages slots 0 s) s
+    (λ e. each-good _ (ages-good slots 0 s (omega arith) (past-state s [] e .0 .size) (good-each s g))) g
+
+-- "age is not moved from the follow call on, only from the first whole group"
+pub age-waits : (h : Head) → h .group ≡ 0 → agedHead h .age ≡ h .age
+age-waits h e = ap (λ (b : Bool). cond (b && ltb (h .age) 1500) (h .age + 1) (h .age)) (ne-eqb (h .group) 1 (λ q. omega (arith, e, q)))

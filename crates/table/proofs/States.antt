@@ -60,9 +60,13 @@ module _ (s : List ℕ) (l : length s ≡ stateSize) where
     unfolding addressAt
     address-other j ne = ap (λ (x : List ℕ). headOf x .address) (slot-other j ne)
 
+pub address-is : (s : List ℕ) (k : ℕ) → headOf (slotAt k s) .address ≡ addressAt s k
+unfolding addressAt
+address-is s k = refl
+
 -- ---- find
 
-abbrev has : List ℕ → ℕ → ℕ → Bool
+abbrev pub has : List ℕ → ℕ → ℕ → Bool
 has s a k = eqb (addressAt s k) a
 
 pub find-le : (s : List ℕ) (a : ℕ) → find s a ≤ slots

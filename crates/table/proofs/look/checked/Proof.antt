@@ -1,3 +1,8 @@
+use mathlib.Core.Path.{_≡_, sym, ap, _∙_}
+use mathlib.Core.List.{[]}
+use Rattle.table.specs.Calls.{endAnswer}
+use Rattle.table.proofs.Looking.{state-20, state-34, state-rest}
+use Rattle.bits.proofs.Rows.{refusal-none}
 use borrow.Author.Needs.{needs}
 use Rattle.table.proofs.look.checked.Statement.{statement}
 use Rattle.table.proofs.look.checked.Tie as tie
@@ -6,16 +11,19 @@ use Rattle.table.proofs.look.checked.Lts as lts
 use Rattle.table.proofs.look.is_good.Reads as is-good-reads
 
 returns : tie.Need-returns
-returns c = ?
+unfolding endAnswer
+returns c = sym (state-20 (c .before .before .args .state .now) [] (c .if1 .taken))
 
 is-good-requires : tie.Need-is-good-requires
-is-good-requires c κs = search needs
+is-good-requires c κs = c .if1 .left
 
 returns-2 : tie.Need-returns-2
-returns-2 c = ?
+unfolding endAnswer
+returns-2 c = sym (state-rest (c .before .before .before .before .args .state .now) [] (c .before .before .if1 .left) (sym (c .before .is-good .ensures) ∙ c .if2 .taken) ∙ refusal-none)
 
 returns-3 : tie.Need-returns-3
-returns-3 c = ?
+unfolding endAnswer
+returns-3 c = sym (state-34 (c .before .before .before .before .args .state .now) [] (c .before .before .if1 .left) (sym (c .before .is-good .ensures) ∙ c .if2 .left))
 
 pub checked-spec : {M : Type 1} → statement M
 checked-spec = tie.close (tie.spec returns is-good-requires returns-2 returns-3)

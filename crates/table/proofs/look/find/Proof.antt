@@ -1,3 +1,15 @@
+use Rattle.table.proofs.Looking.{find-hit, find-pass, find-end}
+use mathlib.Core.Path.{_≡_, refl, sym, ap, _∙_}
+use Prim.Native.Nat.{ℕ, _-_, _≤_, suc}
+use native.Mathlib.Omega.{arith}
+use borrow.Author.Tests.{eq-eqb, ne-eqb}
+use mathlib.Core.Bool.{Bool, cond}
+use lib.Dec.{eqb}
+use Rattle.bits.specs.Search.{first}
+use Rattle.slot.specs.declared.Head.{Head}
+use Rattle.table.specs.State.{addressAt}
+use Rattle.table.proofs.States.{has}
+use Rattle.table.proofs.Looking.{find-down, find-end}
 use Rattle.table.proofs.look.find.Statement.{statement}
 use Rattle.table.proofs.look.find.Tie as tie
 use Rattle.table.proofs.look.find.Reads as reads
@@ -5,34 +17,35 @@ use Rattle.table.proofs.look.find.Lts as lts
 use Rattle.table.proofs.look.head.Reads as head-reads
 
 abbrev Inv-loop : tie.InvT-loop
-Inv-loop state address found₀ k₀ found k = ?
+Inv-loop state address found₀ k₀ found k = (k ≤ 16) × (found ≡ first (has state address) (16 - k) k)
 
 abbrev μ-loop : tie.MeasureT-loop
-μ-loop state address found₀ k₀ found k = ?
+μ-loop state address found₀ k₀ found k = k
 
 loop-holds : tie.Need-loop-holds Inv-loop μ-loop
-loop-holds c = ?
+unfolding first
+loop-holds c = (omega arith, refl)
 
 sub-k : tie.Need-sub-k Inv-loop μ-loop
-sub-k c = ?
+sub-k c = omega arith
 
 head-requires : tie.Need-head-requires Inv-loop μ-loop
-head-requires c κs = ?
+head-requires c κs = (c .before .before .before .pre, omega arith)
 
 loop-less : tie.Need-loop-less Inv-loop μ-loop
-loop-less c = ?
+loop-less c = omega arith
 
 loop-again : tie.Need-loop-again Inv-loop μ-loop
-loop-again c = ?
+loop-again c = (omega arith, find-hit (c .before .before .before .before .before .before .args .state .now) (c .before .before .before .before .before .before .args .address) (c .before .before .before .before .loop .k) (c .before .before .before .before .loop .found) (c .before .before .head .result) (c .before .before .before .loop-test .taken) (c .before .before .before .before .loop .inv .0) (c .before .before .before .before .loop .inv .1) (c .before .before .head .ensures) (c .if1 .taken))
 
 loop-less-2 : tie.Need-loop-less-2 Inv-loop μ-loop
-loop-less-2 c = ?
+loop-less-2 c = omega arith
 
 loop-again-2 : tie.Need-loop-again-2 Inv-loop μ-loop
-loop-again-2 c = ?
+loop-again-2 c = (omega arith, find-pass (c .before .before .before .before .before .before .args .state .now) (c .before .before .before .before .before .before .args .address) (c .before .before .before .before .loop .k) (c .before .before .before .before .loop .found) (c .before .before .head .result) (c .before .before .before .loop-test .taken) (c .before .before .before .before .loop .inv .0) (c .before .before .before .before .loop .inv .1) (c .before .before .head .ensures) (c .if1 .left))
 
 returns : tie.Need-returns Inv-loop μ-loop
-returns c = ?
+returns c = find-end (c .before .before .before .args .state .now) (c .before .before .before .args .address) (c .before .loop .k) (c .before .loop .found) (omega arith) (c .before .loop .inv .1)
 
 pub find-spec : {M : Type 1} → statement M
 find-spec =

@@ -1,16 +1,18 @@
+use mathlib.Core.Path.{sym}
+use Rattle.table.proofs.Looking.{shown-7, shown-6, shown-5}
 use Rattle.table.proofs.look.freshness.Statement.{statement}
 use Rattle.table.proofs.look.freshness.Tie as tie
 use Rattle.table.proofs.look.freshness.Reads as reads
 use Rattle.table.proofs.look.freshness.Lts as lts
 
 returns : tie.Need-returns
-returns c = ?
+returns c = λ ne. sym (shown-7 (c .before .before .args .head) ne (c .if1 .taken))
 
 returns-2 : tie.Need-returns-2
-returns-2 c = ?
+returns-2 c = λ ne. sym (shown-6 (c .before .before .before .before .args .head) ne (c .before .before .if1 .left) (c .if2 .taken))
 
 returns-3 : tie.Need-returns-3
-returns-3 c = ?
+returns-3 c = λ ne. sym (shown-5 (c .before .before .before .before .args .head) ne (c .before .before .if1 .left) (c .if2 .left))
 
 pub freshness-spec : {M : Type 1} → statement M
 freshness-spec = tie.close (tie.spec returns returns-2 returns-3)

@@ -1,3 +1,11 @@
+use mathlib.Core.Path.{_≡_, sym, ap, ap₂, _∙_}
+use mathlib.Core.Bool.{Bool, _&&_, _||_}
+use Prim.Native.Nat.{ℕ}
+use lib.Dec.{eqb}
+use Rattle.slot.specs.Head.{goodSlot}
+use Rattle.slot.specs.declared.Head.{Head}
+use Rattle.table.specs.State.{slotAt, addressAt, find}
+use Rattle.table.proofs.Looking.{slot-part, good-by-address}
 use borrow.Author.Needs.{needs}
 use Rattle.table.proofs.look.good_at.Statement.{statement}
 use Rattle.table.proofs.look.good_at.Tie as tie
@@ -32,7 +40,14 @@ find-requires : tie.Need-find-requires
 find-requires c κs = search needs
 
 returns : tie.Need-returns
-returns c = ?
+unfolding addressAt
+returns c = let s = c .before .before .before .before .before .args .state .now in
+    let k = c .before .before .before .before .before .args .k in
+    let a : c .before .head .result .address ≡ addressAt s k = ap (λ (h : Head). h .address) (c .before .head .ensures) in
+    let f : c .find .result ≡ find s (addressAt s k) = c .find .ensures ∙ ap (find s) a in
+    ap₂ (λ (g : Bool) (x : ℕ). g && (eqb x 0 || eqb (c .find .result) k)) (c .before .before .good2 .ensures ∙ ap goodSlot (slot-part k s)) a
+    ∙ ap (λ (x : ℕ). goodSlot (slotAt k s) && (eqb (addressAt s k) 0 || eqb x k)) f
+    ∙ good-by-address s k
 
 pub good-at-spec : {M : Type 1} → statement M
 good-at-spec =

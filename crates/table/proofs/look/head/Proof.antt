@@ -1,3 +1,9 @@
+use mathlib.Core.Path.{ap, _∙_}
+use native.Mathlib.Omega.{arith}
+use lib.ListN.{length}
+use Rattle.slot.specs.Slot.{headOf}
+use Rattle.table.proofs.Looking.{slot-part}
+use Rattle.table.proofs.States.{slot-length}
 use borrow.Author.Needs.{needs}
 use Rattle.table.proofs.look.head.Statement.{statement}
 use Rattle.table.proofs.look.head.Tie as tie
@@ -24,7 +30,7 @@ load-requires : tie.Need-load-requires
 load-requires c κs = search needs
 
 returns : tie.Need-returns
-returns c = ?
+returns c = c .load .ensures ∙ ap headOf (slot-part (c .before .before .before .args .k) (c .before .before .before .args .state .now))
 
 pub head-spec : {M : Type 1} → statement M
 head-spec =

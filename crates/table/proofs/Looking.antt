@@ -1,0 +1,287 @@
+-- What the functions of `look` rest on.
+--
+--   slot-part        a lent part of 736 bytes is a slot
+--   find-down, find-hit, find-pass, find-end     the search from the last slot to the first
+--   good-by-address  a good slot is free exactly if its address is 0
+--   all-next, all-end    the fold over the slots
+--   state-*          the rows of the state, before a call's own
+--   outside          a test on both sides of a range
+--   shown-*, asked-*, length-*   what ask says of a head
+--   leave-22 .., follow-22 ..    the rows of leave, ask and follow, in the code's tests
+--
+-- Assumes nothing.
+use mathlib.Core.Path.{_≡_, refl, sym, ap, ap₂, _∙_, subst}
+use mathlib.Core.Bool.{Bool, true, false, cond, not, _&&_, _||_}
+use mathlib.Core.List.{List, [], _∷_}
+use Prim.Native.Nat.{ℕ, zero, suc, _+_, _-_, _*_, _≤_, _<_}
+use native.Mathlib.Omega.{arith}
+use native.Mathlib.Decide.{decLt, decLe}
+use borrow.Author.Tests.{lt-ltb, le-ltb, le-leb, lt-leb, eq-eqb, ne-eqb, eqb-true, not-false}
+use lib.Dec.{leb, ltb, eqb}
+use lib.ListN.{length, take, drop}
+use Rattle.bits.specs.Rows.{Row, row, refusal}
+use Rattle.bits.specs.Search.{first, all}
+use Rattle.bits.proofs.Rows.{refusal-hit, refusal-miss, refusal-passed, refusal-none}
+use Rattle.slot.specs.Part.{part}
+use Rattle.slot.specs.Slot.{slotSize, wholeAt, headOf}
+use Rattle.slot.specs.Head.{within, free, goodSlot}
+use Rattle.slot.specs.declared.Head.{Head}
+use Rattle.table.specs.State.{slots, stateSize, slotAt, addressAt, find, goodAt, good}
+use Rattle.table.specs.declared.Asked.{Asked}
+use Rattle.table.specs.Calls.{stateRows, endAnswer, followAnswer, leaveAnswer, shown, askedAt, groupLength}
+use Rattle.table.proofs.States.{free-address, used-address, has}
+
+pub slot-part : (k : ℕ) (s : List ℕ) → take (k * 736 + 736 - k * 736) (drop (k * 736) s) ≡ slotAt k s
+unfolding slotAt part
+slot-part k s = ap (λ (n : ℕ). take n (drop (k * 736) s)) count
+  where
+    count : k * 736 + 736 - k * 736 ≡ 736
+    count = omega arith
+
+-- ---- the search
+
+pub find-down : (s : List ℕ) (a k j found : ℕ) → k ≡ suc j → k ≤ slots → found ≡ first (has s a) (slots - k) k
+    → cond (has s a j) j found ≡ first (has s a) (slots - j) j
+unfolding first
+find-down s a k j found e h f =
+    let more : slots - j ≡ suc (slots - k) = omega arith in
+    ap (λ (x : ℕ). cond (has s a j) j x) (f ∙ ap (first (has s a) (slots - k)) e)
+    ∙ sym (ap (λ (n : ℕ). first (has s a) n j) more)
+
+-- the two ways of a turn
+module _ (s : List ℕ) (a k found : ℕ) (h : Head) (pos : 0 < k) (top : k ≤ slots) (f : found ≡ first (has s a) (slots - k) k)
+    (e : h ≡ headOf (slotAt (k - 1) s)) where
+  down : cond (has s a (k - 1)) (k - 1) found ≡ first (has s a) (slots - (k - 1)) (k - 1)
+  down = find-down s a k (k - 1) found (omega arith) top f
+
+  pub find-hit : h .address ≡ a → k - 1 ≡ first (has s a) (slots - (k - 1)) (k - 1)
+  unfolding addressAt
+  find-hit q =
+      sym (ap (λ (b : Bool). cond b (k - 1) found) (eq-eqb (addressAt s (k - 1)) a (sym (ap (λ (x : Head). x .address) e) ∙ q))) ∙ down
+
+  pub find-pass : (h .address ≡ a → ⊥) → found ≡ first (has s a) (slots - (k - 1)) (k - 1)
+  unfolding addressAt
+  find-pass ne =
+      sym (ap (λ (b : Bool). cond b (k - 1) found) (ne-eqb (addressAt s (k - 1)) a (λ q. ne (ap (λ (x : Head). x .address) e ∙ q)))) ∙ down
+
+pub find-end : (s : List ℕ) (a k found : ℕ) → k ≡ 0 → found ≡ first (has s a) (slots - k) k → found ≡ find s a
+unfolding find
+find-end s a k found e f = f ∙ ap (λ (n : ℕ). first (has s a) (slots - n) n) e
+
+-- ---- good
+
+pub good-by-address : (s : List ℕ) (k : ℕ)
+    → (goodSlot (slotAt k s) && (eqb (addressAt s k) 0 || eqb (find s (addressAt s k)) k)) ≡ goodAt s k
+unfolding goodAt addressAt
+good-by-address s k = go (goodSlot (slotAt k s)) refl
+  where
+    b : List ℕ
+    b = slotAt k s
+    other : Bool
+    other = eqb (find s (headOf (slotAt k s) .address)) k
+    zero-is : goodSlot (slotAt k s) ≡ true → eqb (headOf (slotAt k s) .address) 0 ≡ free (slotAt k s)
+    zero-is g = at (free (slotAt k s)) refl
+      where
+        at : (f : Bool) → free (slotAt k s) ≡ f → eqb (headOf (slotAt k s) .address) 0 ≡ free (slotAt k s)
+        at true q = eq-eqb (headOf (slotAt k s) .address) 0 (free-address (slotAt k s) q) ∙ sym q
+        at false q = ne-eqb (headOf (slotAt k s) .address) 0 (λ z. omega (arith, z, used-address (slotAt k s) g q)) ∙ sym q
+    go : (g : Bool) → goodSlot (slotAt k s) ≡ g
+        → (goodSlot (slotAt k s) && (eqb (headOf (slotAt k s) .address) 0 || other)) ≡ (goodSlot (slotAt k s) && (free (slotAt k s) || other))
+    go true e = ap (λ (x : Bool). goodSlot (slotAt k s) && (x || other)) (zero-is e)
+    go false e =
+        ap (λ (x : Bool). x && (eqb (headOf (slotAt k s) .address) 0 || other)) e
+        ∙ sym (ap (λ (x : Bool). x && (free (slotAt k s) || other)) e)
+
+and-assoc : (a b c : Bool) → ((a && b) && c) ≡ (a && (b && c))
+and-assoc true b c = refl
+and-assoc false b c = refl
+
+and-true : (a : Bool) → (a && true) ≡ a
+and-true true = refl
+and-true false = refl
+
+pub all-next : (s : List ℕ) (so : Bool) (k : ℕ) → k < slots → (so && all (goodAt s) (slots - k) k) ≡ good s
+    → ((so && goodAt s k) && all (goodAt s) (slots - (k + 1)) (k + 1)) ≡ good s
+unfolding all
+all-next s so k h e =
+    let more : slots - k ≡ suc (slots - (k + 1)) = omega arith in
+    let next : k + 1 ≡ suc k = omega arith in
+    and-assoc so (goodAt s k) (all (goodAt s) (slots - (k + 1)) (k + 1))
+    ∙ ap (λ (n : ℕ). so && (goodAt s k && all (goodAt s) (slots - (k + 1)) n)) next
+    ∙ sym (ap (λ (n : ℕ). so && all (goodAt s) n k) more) ∙ e
+
+pub all-end : (s : List ℕ) (so : Bool) (k : ℕ) → slots ≤ k → (so && all (goodAt s) (slots - k) k) ≡ good s → so ≡ good s
+unfolding all
+all-end s so k h e =
+    let none : slots - k ≡ 0 = omega arith in
+    sym (and-true so) ∙ sym (ap (λ (n : ℕ). so && all (goodAt s) n k) none) ∙ e
+
+-- ---- the rows
+
+pub state-20 : (s : List ℕ) (rest : List Row) → (length s ≡ stateSize → ⊥) → refusal (stateRows s rest) ≡ 20
+state-20 s rest ne = refusal-hit (not (eqb (length s) stateSize)) 20 (row (not (good s)) 34 ∷ rest) (ap not (ne-eqb (length s) stateSize ne))
+
+pub state-34 : (s : List ℕ) (rest : List Row) → length s ≡ stateSize → good s ≡ false → refusal (stateRows s rest) ≡ 34
+state-34 s rest l g =
+    refusal-miss (not (eqb (length s) stateSize)) 20 (row (not (good s)) 34 ∷ rest) (ap not (eq-eqb (length s) stateSize l))
+    ∙ refusal-hit (not (good s)) 34 rest (ap not g)
+
+pub state-rest : (s : List ℕ) (rest : List Row) → length s ≡ stateSize → good s ≡ true → refusal (stateRows s rest) ≡ refusal rest
+state-rest s rest l g =
+    refusal-miss (not (eqb (length s) stateSize)) 20 (row (not (good s)) 34 ∷ rest) (ap not (eq-eqb (length s) stateSize l))
+    ∙ refusal-miss (not (good s)) 34 rest (ap not g)
+
+-- a state that passed
+pub record Passed (s : List ℕ) : Type 0 where
+  pub size : length s ≡ stateSize
+  pub all-good : good s ≡ true
+
+pub state-passed : (s : List ℕ) → endAnswer s ≡ 0 → Passed s
+unfolding endAnswer
+state-passed s e =
+    let one = refusal-passed (not (eqb (length s) stateSize)) 20 (row (not (good s)) 34 ∷ []) (omega arith) e in
+    let two = refusal-passed (not (good s)) 34 [] (omega arith) (one .1) in
+    record { size = eqb-true (length s) stateSize (not-false (eqb (length s) stateSize) (one .0)); all-good = not-false (good s) (two .0) }
+
+-- what the state is refused with is what any call is refused with
+pub state-refused : (s : List ℕ) (rest : List Row) (n : ℕ) → n ≡ endAnswer s → (n ≡ 0 → ⊥) → n ≡ refusal (stateRows s rest)
+unfolding endAnswer
+state-refused s rest n e ne = go (eqb (length s) stateSize) refl (good s) refl
+  where
+    go : (a : Bool) → eqb (length s) stateSize ≡ a → (g : Bool) → good s ≡ g → n ≡ refusal (stateRows s rest)
+    go false p g q =
+        e ∙ refusal-hit (not (eqb (length s) stateSize)) 20 (row (not (good s)) 34 ∷ []) (ap not p)
+        ∙ sym (refusal-hit (not (eqb (length s) stateSize)) 20 (row (not (good s)) 34 ∷ rest) (ap not p))
+    go true p false q =
+        e ∙ state-34 s [] (eqb-true (length s) stateSize p) q ∙ sym (state-34 s rest (eqb-true (length s) stateSize p) q)
+    go true p true q = absurd (ne (e ∙ state-rest s [] (eqb-true (length s) stateSize p) q ∙ refusal-none))
+
+-- ---- a range
+
+pub outside : (least most a : ℕ) → (ltb a least || ltb most a) ≡ not (within least most a)
+outside least most a = go (decLt a least) (decLt most a)
+  where
+    go : Dec (a < least) → Dec (most < a) → (ltb a least || ltb most a) ≡ not (within least most a)
+    go (yes p) q =
+        ap (λ (x : Bool). x || ltb most a) (lt-ltb a least p)
+        ∙ sym (ap (λ (x : Bool). not (x && leb a most)) (lt-leb least a p))
+    go (no p) (yes q) =
+        ap₂ (λ (x y : Bool). x || y) (le-ltb a least (omega arith)) (lt-ltb most a q)
+        ∙ sym (ap₂ (λ (x y : Bool). not (x && y)) (le-leb least a (omega arith)) (lt-leb a most q))
+    go (no p) (no q) =
+        ap₂ (λ (x y : Bool). x || y) (le-ltb a least (omega arith)) (le-ltb most a (omega arith))
+        ∙ sym (ap₂ (λ (x y : Bool). not (x && y)) (le-leb least a (omega arith)) (le-leb a most (omega arith)))
+
+-- ---- leave and ask, row by row, in the code's tests
+
+module _ (s : List ℕ) (a : ℕ) (ok : Passed s) where
+  leave-own : leaveAnswer s a ≡ refusal (row (not (within 1 1022 a)) 22 ∷ row (not (ltb (find s a) slots)) 27 ∷ [])
+  unfolding leaveAnswer
+  leave-own = state-rest s _ (ok .size) (ok .all-good)
+
+  pub leave-22 : (ltb a 1 || ltb 1022 a) ≡ true → leaveAnswer s a ≡ 22
+  leave-22 t = leave-own ∙ refusal-hit (not (within 1 1022 a)) 22 _ (sym (outside 1 1022 a) ∙ t)
+
+  leave-past : (ltb a 1 || ltb 1022 a) ≡ false → leaveAnswer s a ≡ refusal (row (not (ltb (find s a) slots)) 27 ∷ [])
+  leave-past t = leave-own ∙ refusal-miss (not (within 1 1022 a)) 22 _ (sym (outside 1 1022 a) ∙ t)
+
+  pub leave-27 : (ltb a 1 || ltb 1022 a) ≡ false → (n : ℕ) → n ≡ find s a → slots ≤ n → leaveAnswer s a ≡ 27
+  leave-27 t n e h =
+      leave-past t ∙ refusal-hit (not (ltb (find s a) slots)) 27 [] (ap not (le-ltb (find s a) slots (subst (λ (x : ℕ). slots ≤ x) e h)))
+
+  pub leave-0 : (ltb a 1 || ltb 1022 a) ≡ false → (n : ℕ) → n ≡ find s a → n < slots → leaveAnswer s a ≡ 0
+  leave-0 t n e h =
+      leave-past t
+      ∙ refusal-miss (not (ltb (find s a) slots)) 27 [] (ap not (lt-ltb (find s a) slots (subst (λ (x : ℕ). x < slots) e h)))
+      ∙ refusal-none
+
+-- ---- follow, row by row
+
+module _ (s : List ℕ) (a p l : ℕ) (ok : Passed s) where
+  abbrev from26 : List Row
+  from26 = row (not (ltb (find s 0) slots)) 26 ∷ []
+
+  abbrev from25 : List Row
+  from25 = row (ltb (find s a) slots) 25 ∷ from26
+
+  abbrev from24 : List Row
+  from24 = row (not (within 1 1500 l)) 24 ∷ from25
+
+  abbrev from23 : List Row
+  from23 = row (ltb 1 p) 23 ∷ from24
+
+  own : followAnswer s a p l ≡ refusal (row (not (within 1 1022 a)) 22 ∷ from23)
+  unfolding followAnswer
+  own = state-rest s _ (ok .size) (ok .all-good)
+
+  pub follow-22 : (ltb a 1 || ltb 1022 a) ≡ true → followAnswer s a p l ≡ 22
+  follow-22 t = own ∙ refusal-hit (not (within 1 1022 a)) 22 from23 (sym (outside 1 1022 a) ∙ t)
+
+  module _ (t22 : (ltb a 1 || ltb 1022 a) ≡ false) where
+    past22 : followAnswer s a p l ≡ refusal from23
+    past22 = own ∙ refusal-miss (not (within 1 1022 a)) 22 from23 (sym (outside 1 1022 a) ∙ t22)
+
+    pub follow-23 : 1 < p → followAnswer s a p l ≡ 23
+    follow-23 h = past22 ∙ refusal-hit (ltb 1 p) 23 from24 (lt-ltb 1 p h)
+
+    module _ (t23 : p ≤ 1) where
+      past23 : followAnswer s a p l ≡ refusal from24
+      past23 = past22 ∙ refusal-miss (ltb 1 p) 23 from24 (le-ltb 1 p t23)
+
+      pub follow-24 : (ltb l 1 || ltb 1500 l) ≡ true → followAnswer s a p l ≡ 24
+      follow-24 t = past23 ∙ refusal-hit (not (within 1 1500 l)) 24 from25 (sym (outside 1 1500 l) ∙ t)
+
+      module _ (t24 : (ltb l 1 || ltb 1500 l) ≡ false) (n : ℕ) (e : n ≡ find s a) where
+        past24 : followAnswer s a p l ≡ refusal from25
+        past24 = past23 ∙ refusal-miss (not (within 1 1500 l)) 24 from25 (sym (outside 1 1500 l) ∙ t24)
+
+        pub follow-25 : n < slots → followAnswer s a p l ≡ 25
+        follow-25 h = past24 ∙ refusal-hit (ltb (find s a) slots) 25 from26 (lt-ltb (find s a) slots (subst (λ (x : ℕ). x < slots) e h))
+
+        module _ (t25 : slots ≤ n) (m : ℕ) (f : m ≡ find s 0) where
+          past25 : followAnswer s a p l ≡ refusal from26
+          past25 = past24 ∙ refusal-miss (ltb (find s a) slots) 25 from26 (le-ltb (find s a) slots (subst (λ (x : ℕ). slots ≤ x) e t25))
+
+          pub follow-26 : slots ≤ m → followAnswer s a p l ≡ 26
+          follow-26 h =
+              past25 ∙ refusal-hit (not (ltb (find s 0) slots)) 26 [] (ap not (le-ltb (find s 0) slots (subst (λ (x : ℕ). slots ≤ x) f h)))
+
+          pub follow-0 : m < slots → followAnswer s a p l ≡ 0
+          follow-0 h =
+              past25 ∙ refusal-miss (not (ltb (find s 0) slots)) 26 [] (ap not (lt-ltb (find s 0) slots (subst (λ (x : ℕ). x < slots) f h)))
+              ∙ refusal-none
+
+-- ---- what ask says
+
+module _ (h : Head) (ne : h .group ≡ 0 → ⊥) where
+  shown-group : shown h ≡ cond (leb (h .limit) (h .age)) 7 (cond (eqb (h .gap) 1) 6 5)
+  unfolding shown
+  shown-group = ap (λ (b : Bool). cond b 4 (cond (leb (h .limit) (h .age)) 7 (cond (eqb (h .gap) 1) 6 5))) (ne-eqb (h .group) 0 ne)
+
+  pub shown-7 : h .limit ≤ h .age → shown h ≡ 7
+  shown-7 q = shown-group ∙ ap (λ (b : Bool). cond b 7 (cond (eqb (h .gap) 1) 6 5)) (le-leb (h .limit) (h .age) q)
+
+  shown-young : h .age < h .limit → shown h ≡ cond (eqb (h .gap) 1) 6 5
+  shown-young q = shown-group ∙ ap (λ (b : Bool). cond b 7 (cond (eqb (h .gap) 1) 6 5)) (lt-leb (h .limit) (h .age) q)
+
+  pub shown-6 : h .age < h .limit → h .gap ≡ 1 → shown h ≡ 6
+  shown-6 q g = shown-young q ∙ ap (λ (b : Bool). cond b 6 5) (eq-eqb (h .gap) 1 g)
+
+  pub shown-5 : h .age < h .limit → (h .gap ≡ 1 → ⊥) → shown h ≡ 5
+  shown-5 q g = shown-young q ∙ ap (λ (b : Bool). cond b 6 5) (ne-eqb (h .gap) 1 g)
+
+  pub asked-group : (k : ℕ) → askedAt k h ≡ record { number = shown h; at = k * slotSize + wholeAt; len = groupLength h }
+  unfolding askedAt
+  asked-group k = rw (ne-eqb (h .group) 0 ne)
+
+pub asked-none : (k : ℕ) (h : Head) → h .group ≡ 0 → askedAt k h ≡ record { number = 4; at = 0; len = 0 }
+unfolding askedAt
+asked-none k h e = rw (eq-eqb (h .group) 0 e)
+
+pub length-180 : (h : Head) → h .protection ≡ 1 → groupLength h ≡ 180
+unfolding groupLength
+length-180 h e = rw (eq-eqb (h .protection) 1 e)
+
+pub length-360 : (h : Head) → (h .protection ≡ 1 → ⊥) → groupLength h ≡ 360
+unfolding groupLength
+length-360 h e = rw (ne-eqb (h .protection) 1 e)
