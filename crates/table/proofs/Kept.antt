@@ -6,7 +6,7 @@
 --
 -- Assumes nothing.
 use mathlib.Core.Path.{_≡_, refl, sym, ap, _∙_, subst}
-use mathlib.Core.Bool.{Bool, true, false, cond, not, _&&_}
+use mathlib.Core.Bool.{Bool, true, cond, not, _&&_}
 use mathlib.Core.List.{List, [], _∷_}
 use Prim.Native.Nat.{ℕ, zero, suc, _+_, _*_, _≤_, _<_}
 use native.Mathlib.Omega.{arith}
@@ -17,7 +17,7 @@ use lib.ListN.{length, getD, length-replicate}
 use Rattle.bits.specs.Bits.{blank}
 use Rattle.bits.specs.Rows.{Row, row, refusal}
 use Rattle.bits.proofs.Rows.{refusal-passed, refusal-miss, refusal-none}
-use Rattle.bits.proofs.Search.{and-left, and-right}
+use Rattle.bits.proofs.Search.{and-left}
 use Rattle.slot.specs.Part.{part}
 use Rattle.slot.specs.declared.Head.{Head}
 use Rattle.slot.proofs.Laws.{good-new, good-load, good-store, good-free, good-cases, good-aged, head-blank, blank-free, blank-at, store-load, withHead-length}
@@ -63,7 +63,7 @@ follow-passed s a p l e =
       protection = ltb-false 1 p (r23 .0);
       limit = not-false (within 1 1500 l) (r24 .0);
       absent = ltb-false (find s a) slots (r25 .0);
-      room = ltb-true (find s 0) slots (not-false (ltb (find s 0) slots) (r26 .0))
+      room = ltb-true (find s 0) slots (not-false (ltb (find s 0) slots) (r26 .0));
     }
 
 pub leave-passed : (s : List ℕ) (a : ℕ) → leaveAnswer s a ≡ 0 → (Passed s) × (within 1 1022 a ≡ true) × (find s a < slots)
@@ -94,7 +94,7 @@ slot-blank k h = part-blank (k * slotSize) slotSize stateSize (omega arith)
 blank-good : Good (blank stateSize)
 blank-good = record {
   slot = λ k h. ap goodSlot (slot-blank k h) ∙ good-free slotSize;
-  first = λ k h f. absurd (subst T (sym (ap free (slot-blank k h) ∙ blank-free slotSize) ∙ f) tt)
+  first = λ k h f. absurd (subst T (sym (ap free (slot-blank k h) ∙ blank-free slotSize) ∙ f) tt);
 }
 
 pub start-good : (s : List ℕ) → length s ≡ stateSize → good (startAfter s) ≡ true
@@ -120,10 +120,10 @@ follow-good s a p l g =
         let load = good-load (newHead a p l) gh (slotAt k s) lk in
         let address : headOf (withHead (newHead a p l) (slotAt k s)) .address ≡ a = ap (λ (h : Head). h .address) load in
         each-good _ (good-followed s (f .state .size) (good-each s g) k (withHead (newHead a p l) (slotAt k s)) (f .room)
-          (withHead-length (newHead a p l) (slotAt k s) lk ∙ lk) (good-store (newHead a p l) gh (slotAt k s) lk)
-          (find-has s 0 (f .room))
-          (subst (λ (x : ℕ). 0 < x) (sym address) (leb-true 1 a (and-left (leb 1 a) (leb a 1022) (f .address))))
-          (subst (λ (x : ℕ). slots ≤ find s x) (sym address) (f .absent)))
+        (withHead-length (newHead a p l) (slotAt k s) lk ∙ lk) (good-store (newHead a p l) gh (slotAt k s) lk)
+        (find-has s 0 (f .room))
+        (subst (λ (x : ℕ). 0 < x) (sym address) (leb-true 1 a (and-left (leb 1 a) (leb a 1022) (f .address))))
+        (subst (λ (x : ℕ). slots ≤ find s x) (sym address) (f .absent)))
 
 -- ---- leave
 
@@ -132,7 +132,7 @@ unfolding leaveAfter
 leave-good s a g =
     done-either (λ (x : List ℕ). good x ≡ true) (leaveAnswer s a) (withSlot (find s a) (blank slotSize) s) s
     (λ e. let q = leave-passed s a e in
-      each-good _ (good-left s (q .0 .size) (good-each s g) (find s a) (blank slotSize) (q .2) (blank-length slotSize) (good-free slotSize) (blank-free slotSize)))
+    each-good _ (good-left s (q .0 .size) (good-each s g) (find s a) (blank slotSize) (q .2) (blank-length slotSize) (good-free slotSize) (blank-free slotSize)))
     g
 
 -- ---- the end of a subframe
@@ -150,8 +150,8 @@ aged-slot b l g = go (good-cases b g)
     go (inl e) =
         let free-head : headOf b ≡ freeHead = ap headOf e ∙ head-blank (length b) in
         let same : withHead (agedHead (headOf b)) b ≡ b =
-          ap (λ (h : Head). withHead h b) (ap agedHead free-head ∙ sym free-head)
-          ∙ store-load b l (λ k. subst (λ (x : ℕ). x < 256) (sym (ap (λ (x : List ℕ). getD x k 0) e ∙ blank-at (length b) k)) (omega arith)) in
+        ap (λ (h : Head). withHead h b) (ap agedHead free-head ∙ sym free-head)
+        ∙ store-load b l (λ k. subst (λ (x : ℕ). x < 256) (sym (ap (λ (x : List ℕ). getD x k 0) e ∙ blank-at (length b) k)) (omega arith)) in
         (ap goodSlot same ∙ g, ap (λ (x : List ℕ). headOf x .address) same)
 
 ages-good : (n k : ℕ) (s : List ℕ) → n + k ≤ slots → length s ≡ stateSize → Good s → Good (ages n k s)

@@ -1,3 +1,5 @@
+pub mod Determined
+pub mod Doing
 pub mod Kept
 pub mod Looking
 pub mod States

@@ -13,9 +13,9 @@
 use mathlib.Core.Path.{_≡_, refl, sym, ap, ap₂, _∙_, subst}
 use mathlib.Core.Bool.{Bool, true, false, cond, not, _&&_, _||_}
 use mathlib.Core.List.{List, [], _∷_}
-use Prim.Native.Nat.{ℕ, zero, suc, _+_, _-_, _*_, _≤_, _<_}
+use Prim.Native.Nat.{ℕ, suc, _+_, _-_, _*_, _≤_, _<_}
 use native.Mathlib.Omega.{arith}
-use native.Mathlib.Decide.{decLt, decLe}
+use native.Mathlib.Decide.{decLt}
 use borrow.Author.Tests.{lt-ltb, le-ltb, le-leb, lt-leb, eq-eqb, ne-eqb, eqb-true, not-false}
 use lib.Dec.{leb, ltb, eqb}
 use lib.ListN.{length, take, drop}
@@ -27,7 +27,6 @@ use Rattle.slot.specs.Slot.{slotSize, wholeAt, headOf}
 use Rattle.slot.specs.Head.{within, free, goodSlot}
 use Rattle.slot.specs.declared.Head.{Head}
 use Rattle.table.specs.State.{slots, stateSize, slotAt, addressAt, find, goodAt, good}
-use Rattle.table.specs.declared.Asked.{Asked}
 use Rattle.table.specs.Calls.{stateRows, endAnswer, followAnswer, leaveAnswer, shown, askedAt, groupLength}
 use Rattle.table.proofs.States.{free-address, used-address, has}
 
@@ -77,14 +76,17 @@ good-by-address s k = go (goodSlot (slotAt k s)) refl
   where
     b : List ℕ
     b = slotAt k s
+
     other : Bool
     other = eqb (find s (headOf (slotAt k s) .address)) k
+
     zero-is : goodSlot (slotAt k s) ≡ true → eqb (headOf (slotAt k s) .address) 0 ≡ free (slotAt k s)
     zero-is g = at (free (slotAt k s)) refl
       where
         at : (f : Bool) → free (slotAt k s) ≡ f → eqb (headOf (slotAt k s) .address) 0 ≡ free (slotAt k s)
         at true q = eq-eqb (headOf (slotAt k s) .address) 0 (free-address (slotAt k s) q) ∙ sym q
         at false q = ne-eqb (headOf (slotAt k s) .address) 0 (λ z. omega (arith, z, used-address (slotAt k s) g q)) ∙ sym q
+
     go : (g : Bool) → goodSlot (slotAt k s) ≡ g
         → (goodSlot (slotAt k s) && (eqb (headOf (slotAt k s) .address) 0 || other)) ≡ (goodSlot (slotAt k s) && (free (slotAt k s) || other))
     go true e = ap (λ (x : Bool). goodSlot (slotAt k s) && (x || other)) (zero-is e)

@@ -12,15 +12,14 @@
 use mathlib.Core.Path.{_≡_, refl, sym, ap, ap₂, _∙_, subst}
 use mathlib.Core.Bool.{Bool, true, false, _&&_, _||_}
 use mathlib.Core.List.{List, [], _∷_}
-use Prim.Native.Nat.{ℕ, zero, suc, _+_, _-_, _*_, _≤_, _<_}
+use Prim.Native.Nat.{ℕ, zero, suc, _*_, _≤_, _<_}
 use native.Mathlib.Omega.{arith}
 use native.Mathlib.Decide.{decLt, ℕ-discrete}
 use borrow.Author.Tests.{eq-eqb, ne-eqb, eqb-true, leb-true}
 use lib.Dec.{T, eqb, eqb-refl, eqb→eq}
 use lib.ListN.{length, drop, getD, length-drop}
 use lib.Seq.{length-take-le}
-use Rattle.bits.specs.Bits.{blank}
-use Rattle.bits.specs.Search.{first, all}
+use Rattle.bits.specs.Search.{first}
 use Rattle.bits.proofs.Search.{first-le, first-holds, first-only, first-agree, first-least, all-at, all-each, and-left, and-right, or-right}
 use Rattle.slot.specs.Part.{part, put}
 use Rattle.slot.specs.Slot.{slotSize, fourAt, headOf}
@@ -99,7 +98,7 @@ unfolding good goodAt
 good-each s e = record {
   slot = λ k h. and-left (goodSlot (slotAt k s)) _ (all-at (goodAt s) slots 0 e k (omega arith) h);
   first = λ k h f. eqb-true (find s (addressAt s k)) k
-    (or-right (free (slotAt k s)) _ (and-right (goodSlot (slotAt k s)) _ (all-at (goodAt s) slots 0 e k (omega arith) h)) f)
+      (or-right (free (slotAt k s)) _ (and-right (goodSlot (slotAt k s)) _ (all-at (goodAt s) slots 0 e k (omega arith) h)) f);
 }
 
 pub each-good : (s : List ℕ) → Good s → good s ≡ true
@@ -107,7 +106,7 @@ unfolding good goodAt
 each-good s g =
     all-each (goodAt s) slots 0
     (λ k l h. join (goodSlot (slotAt k s)) (free (slotAt k s)) (eqb (find s (addressAt s k)) k) (g .slot k h)
-      (λ f. eq-eqb (find s (addressAt s k)) k (g .first k h f)))
+    (λ f. eq-eqb (find s (addressAt s k)) k (g .first k h f)))
   where
     join : (a f e : Bool) → a ≡ true → (f ≡ false → e ≡ true) → (a && (f || e)) ≡ true
     join a true e p q = ap (λ (x : Bool). x && true) p
@@ -170,13 +169,14 @@ module _ (s : List ℕ) (l : length s ≡ stateSize) (g : Good s) (k : ℕ) (b :
       → (free b ≡ false → find (withSlot k b s) (headOf b .address) ≡ k) → Good (withSlot k b s)
   good-with apart found = record {
     slot = λ j hj. slot-at j hj (ℕ-discrete j k);
-    first = λ j hj f. first-at j hj f (ℕ-discrete j k)
+    first = λ j hj f. first-at j hj f (ℕ-discrete j k);
   }
     where
       slot-at : (j : ℕ) → j < slots → Dec (j ≡ k) → goodSlot (slotAt j (withSlot k b s)) ≡ true
       slot-at j hj (yes e) =
           subst (λ (i : ℕ). goodSlot (slotAt i (withSlot k b s)) ≡ true) (sym e) (ap goodSlot (slot-same s l k b h lb) ∙ gb)
       slot-at j hj (no e) = ap goodSlot (slot-other s l k b h lb j e) ∙ g .slot j hj
+
       other : (j : ℕ) → j < slots → (j ≡ k → ⊥) → free (slotAt j s) ≡ false → find (withSlot k b s) (addressAt s j) ≡ j
       other j hj ne f = find-agree (withSlot k b s) s (addressAt s j) (λ i hi. at i (ℕ-discrete i k)) ∙ g .first j hj f
         where
@@ -185,6 +185,7 @@ module _ (s : List ℕ) (l : length s ≡ stateSize) (g : Good s) (k : ℕ) (b :
               subst (λ (x : ℕ). eqb (addressAt (withSlot k b s) x) (addressAt s j) ≡ eqb (addressAt s x) (addressAt s j)) (sym e)
               (ap (λ (x : ℕ). eqb x (addressAt s j)) (address-same s l k b h lb) ∙ apart j hj ne f)
           at i (no e) = ap (λ (x : ℕ). eqb x (addressAt s j)) (address-other s l k b h lb i e)
+
       first-at : (j : ℕ) → j < slots → free (slotAt j (withSlot k b s)) ≡ false → Dec (j ≡ k)
           → find (withSlot k b s) (addressAt (withSlot k b s) j) ≡ j
       first-at j hj f (yes e) =
@@ -204,6 +205,7 @@ module _ (s : List ℕ) (l : length s ≡ stateSize) (g : Good s) (k : ℕ) (b :
           subst (λ (n : ℕ). eqb (addressAt (withSlot k b s) n) x ≡ eqb (addressAt s n) x) (sym q)
           (ap (λ (n : ℕ). eqb n x) (address-same s l k b h lb ∙ e))
       at x i (no q) = ap (λ (n : ℕ). eqb n x) (address-other s l k b h lb i q)
+
       found : free b ≡ false → find (withSlot k b s) (headOf b .address) ≡ k
       found fb =
           find-agree (withSlot k b s) s (headOf b .address) (λ i hi. at (headOf b .address) i (ℕ-discrete i k))
@@ -217,6 +219,7 @@ module _ (s : List ℕ) (l : length s ≡ stateSize) (g : Good s) (k : ℕ) (b :
       apart j hj ne f =
           ne-eqb (headOf b .address) (addressAt s j) (λ q. find-none s (headOf b .address) none j hj (sym q))
           ∙ sym (ne-eqb (addressAt s k) (addressAt s j) (λ q. omega (arith, q, z, used-pos s g j hj f)))
+
       found : find (withSlot k b s) (headOf b .address) ≡ k
       found =
           find-only (withSlot k b s) (headOf b .address) k h (address-same s l k b h lb)

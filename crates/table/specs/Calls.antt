@@ -9,7 +9,7 @@
 --   shown h                     what ask says of a followed address: 4, 7, 6, 5 in this order
 --   asked s a                   ask's answer (20, 34, 22, 27 before), and where the group stands in the state
 --   boardNumber, boardText      ask's number; the stored group where that is 5, otherwise the whole notice
-use mathlib.Core.Bool.{Bool, cond, not}
+use mathlib.Core.Bool.{cond, not}
 use mathlib.Core.List.{List, [], _∷_}
 use Prim.Native.Nat.{ℕ, zero, suc, _+_, _*_}
 use lib.Dec.{leb, ltb, eqb}

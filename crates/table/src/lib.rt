@@ -68,7 +68,9 @@ pub fn follow(state: &mut [u8], wish: Following) -> u8
     }
     let k = look::find(state, 0);
     let at = k * Slot::SIZE;
-    Head::new(wish.address, wish.protection as u8, wish.limit).store(&mut state[at..at + Slot::SIZE]);
+    Head::new(wish.address, wish.protection as u8, wish.limit).store(
+        &mut state[at..at + Slot::SIZE],
+    );
     0
 }
 

@@ -106,7 +106,11 @@ pub fn leave_answer(state: &[u8], address: u32) -> u8
     if (address < 1) | (Head::LAST_ADDRESS < address) {
         return 22;
     }
-    if find(state, address) < Table::SLOTS { 0 } else { 27 }
+    if find(state, address) < Table::SLOTS {
+        0
+    } else {
+        27
+    }
 }
 
 // What ask says of a followed address in slot k.
@@ -121,7 +125,11 @@ pub fn shown(k: usize, head: Head) -> Asked
             len: 0,
         };
     }
-    let len = if head.protection == 1 { Slot::PROTECTED } else { Slot::ROOM };
+    let len = if head.protection == 1 {
+        Slot::PROTECTED
+    } else {
+        Slot::ROOM
+    };
     Asked {
         number: freshness(head),
         at: k * Slot::SIZE + Slot::WHOLE,

@@ -1,12 +1,31 @@
+-- `table::follow` meets its contract: the answer first, then the new head in the lowest free slot. Assumes nothing.
+use mathlib.Core.Path.{_≡_, sym, _∙_}
+use Prim.Native.Nat.{_<_}
+use native.Mathlib.Omega.{arith}
+use lib.ListN.{length}
 use borrow.Author.Needs.{needs}
+use Rattle.table.specs.State.{slots, stateSize}
+use Rattle.table.specs.Calls.{followAnswer, followAfter}
+use Rattle.table.proofs.Doing.{refused, accepted, follow-length, slot-stored}
+use Rattle.table.proofs.Kept.{Followed, follow-passed}
 use Rattle.table.proofs.follow.Statement.{statement}
 use Rattle.table.proofs.follow.Tie as tie
-use Rattle.table.proofs.follow.Reads as reads
-use Rattle.table.proofs.follow.Lts as lts
-use Rattle.slot.proofs.Head.new.Reads as new-reads
-use Rattle.slot.proofs.Head.store.Reads as store-reads
-use Rattle.table.proofs.look.find.Reads as find-reads
-use Rattle.table.proofs.look.follow_answer.Reads as follow-answer-reads
+
+abbrev start : tie.Else1 → tie.Start
+start c = c .before .before .before .before
+
+module _ (c : tie.Else1) where
+  zero : followAnswer (start c .args .state .now) (start c .args .wish .address) (start c .args .wish .protection) (start c .args .wish .limit) ≡ 0
+  zero = sym (c .before .follow-answer .ensures) ∙ c .if1 .left
+
+  size : length (start c .args .state .now) ≡ stateSize
+  size = follow-length _ _ _ _ zero
+
+  passed : Followed (start c .args .state .now) (start c .args .wish .address) (start c .args .wish .protection) (start c .args .wish .limit)
+  passed = follow-passed _ _ _ _ zero
+
+place : (c : tie.After-find) → c .find .result < slots
+place c = omega (arith, c .find .ensures, passed (c .before .before) .room)
 
 follow-answer-requires : tie.Need-follow-answer-requires
 follow-answer-requires c κs = search needs
@@ -15,22 +34,23 @@ same-length : tie.Need-same-length
 same-length c = search needs
 
 returns : tie.Need-returns
-returns c = ?
+unfolding followAfter
+returns c = refused _ _ _ (c .before .before .before .before .args .state .now) (c .before .follow-answer .ensures) (c .if1 .taken)
 
 find-requires : tie.Need-find-requires
-find-requires c κs = ?
+find-requires c κs = size (c .before)
 
 mul-at : tie.Need-mul-at
-mul-at c = ?
+mul-at c = omega (arith, place c)
 
 cast-new : tie.Need-cast-new
-cast-new c = ?
+cast-new c = omega (arith, passed (c .before .before .before) .protection)
 
 new-requires : tie.Need-new-requires
 new-requires c κs = search needs
 
 add-store : tie.Need-add-store
-add-store c = ?
+add-store c = omega (arith, place (c .before .before))
 
 sub-store : tie.Need-sub-store
 sub-store c = search needs
@@ -39,7 +59,7 @@ part-store-start : tie.Need-part-store-start
 part-store-start c = search needs
 
 part-store-end : tie.Need-part-store-end
-part-store-end c = ?
+part-store-end c = omega (arith, place (c .before .before), size (c .before .before .before .before))
 
 store-requires : tie.Need-store-requires
 store-requires c κs = search needs
@@ -48,7 +68,13 @@ same-length-2 : tie.Need-same-length-2
 same-length-2 c = search needs
 
 returns-2 : tie.Need-returns-2
-returns-2 c = ?
+unfolding followAfter
+returns-2 c =
+    let found = c .before .before .before .before .before .before in
+    let passed = found .before .before in
+    let s = start passed .args .state .now in
+    accepted _ _ _ s (passed .before .follow-answer .ensures) _ (passed .if1 .left)
+    (slot-stored _ _ (found .find .result) _ s _ (c .before .before .before .before .new .ensures) (found .find .ensures) (c .before .before .store .ensures))
 
 pub follow-spec : {M : Type 1} → statement M
 follow-spec =

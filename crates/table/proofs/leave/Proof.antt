@@ -1,11 +1,21 @@
+-- `table::leave` meets its contract: the answer first, then the slot cleared. Assumes nothing.
+use Prim.Native.Nat.{_<_}
+use native.Mathlib.Omega.{arith}
 use borrow.Author.Needs.{needs}
+use Rattle.table.specs.State.{slots}
+use Rattle.table.specs.Calls.{leaveAfter}
+use Rattle.table.proofs.Doing.{refused, accepted, slot-cleared, Known, known}
 use Rattle.table.proofs.leave.Statement.{statement}
 use Rattle.table.proofs.leave.Tie as tie
-use Rattle.table.proofs.leave.Reads as reads
-use Rattle.table.proofs.leave.Lts as lts
-use Rattle.table.proofs.clear.Reads as clear-reads
-use Rattle.table.proofs.look.find.Reads as find-reads
-use Rattle.table.proofs.look.leave_answer.Reads as leave-answer-reads
+
+abbrev start : tie.Else1 → tie.Start
+start c = c .before .before .before .before
+
+follows : (c : tie.Else1) → Known (start c .args .state .now) (start c .args .address)
+follows c = known _ _ _ (c .before .leave-answer .ensures) (c .if1 .left)
+
+place : (c : tie.After-find) → c .find .result < slots
+place c = omega (arith, c .find .ensures, follows (c .before .before) .place)
 
 leave-answer-requires : tie.Need-leave-answer-requires
 leave-answer-requires c κs = search needs
@@ -14,16 +24,17 @@ same-length : tie.Need-same-length
 same-length c = search needs
 
 returns : tie.Need-returns
-returns c = ?
+unfolding leaveAfter
+returns c = refused _ _ _ (c .before .before .before .before .args .state .now) (c .before .leave-answer .ensures) (c .if1 .taken)
 
 find-requires : tie.Need-find-requires
-find-requires c κs = ?
+find-requires c κs = follows (c .before) .size
 
 mul-at : tie.Need-mul-at
-mul-at c = ?
+mul-at c = omega (arith, place c)
 
 add-clear : tie.Need-add-clear
-add-clear c = ?
+add-clear c = omega (arith, place c)
 
 sub-clear : tie.Need-sub-clear
 sub-clear c = search needs
@@ -32,7 +43,7 @@ part-clear-start : tie.Need-part-clear-start
 part-clear-start c = search needs
 
 part-clear-end : tie.Need-part-clear-end
-part-clear-end c = ?
+part-clear-end c = omega (arith, place c, follows (c .before .before) .size)
 
 clear-requires : tie.Need-clear-requires
 clear-requires c κs = search needs
@@ -41,7 +52,14 @@ same-length-2 : tie.Need-same-length-2
 same-length-2 c = search needs
 
 returns-2 : tie.Need-returns-2
-returns-2 c = ?
+unfolding leaveAfter
+returns-2 c =
+    let found = c .before .before .before .before in
+    let passed = found .before .before in
+    let s = start passed .args .state .now in
+    accepted _ _ _ s (passed .before .leave-answer .ensures) _ (passed .if1 .left)
+    (slot-cleared (found .find .result) _ s _ (follows passed .size) (follows passed .place) (found .find .ensures)
+    (c .before .before .clear .ensures))
 
 pub leave-spec : {M : Type 1} → statement M
 leave-spec =

@@ -1,10 +1,10 @@
+-- `table::subframe_end` meets its contract: the answer first, then every slot aged. Assumes nothing.
+use mathlib.Core.Path.{sym, _∙_}
 use borrow.Author.Needs.{needs}
+use Rattle.table.specs.Calls.{endAfter}
+use Rattle.table.proofs.Doing.{refused, accepted, end-length}
 use Rattle.table.proofs.subframe_end.Statement.{statement}
 use Rattle.table.proofs.subframe_end.Tie as tie
-use Rattle.table.proofs.subframe_end.Reads as reads
-use Rattle.table.proofs.subframe_end.Lts as lts
-use Rattle.table.proofs.age.Reads as age-reads
-use Rattle.table.proofs.look.checked.Reads as checked-reads
 
 checked-requires : tie.Need-checked-requires
 checked-requires c κs = search needs
@@ -13,16 +13,21 @@ same-length : tie.Need-same-length
 same-length c = search needs
 
 returns : tie.Need-returns
-returns c = ?
+unfolding endAfter
+returns c = refused _ _ _ (c .before .before .before .before .args .state .now) (c .before .checked .ensures) (c .if1 .taken)
 
 age-requires : tie.Need-age-requires
-age-requires c κs = ?
+age-requires c κs = end-length (c .before .before .before .before .before .args .state .now) (sym (c .before .before .checked .ensures) ∙ c .before .if1 .left)
 
 same-length-2 : tie.Need-same-length-2
 same-length-2 c = search needs
 
 returns-2 : tie.Need-returns-2
-returns-2 c = ?
+unfolding endAfter
+returns-2 c =
+    let passed = c .before .before .before .before in
+    accepted _ _ _ (passed .before .before .before .before .args .state .now) (passed .before .checked .ensures) _ (passed .if1 .left)
+    (c .before .before .age .ensures)
 
 pub subframe-end-spec : {M : Type 1} → statement M
 subframe-end-spec =

@@ -1,14 +1,12 @@
-use mathlib.Core.Path.{_≡_, sym, ap, _∙_}
+-- `table::look::checked` meets its contract: the rows 20 and 34.
+-- Assumes nothing.
+use mathlib.Core.Path.{sym, _∙_}
 use mathlib.Core.List.{[]}
 use Rattle.table.specs.Calls.{endAnswer}
 use Rattle.table.proofs.Looking.{state-20, state-34, state-rest}
 use Rattle.bits.proofs.Rows.{refusal-none}
-use borrow.Author.Needs.{needs}
 use Rattle.table.proofs.look.checked.Statement.{statement}
 use Rattle.table.proofs.look.checked.Tie as tie
-use Rattle.table.proofs.look.checked.Reads as reads
-use Rattle.table.proofs.look.checked.Lts as lts
-use Rattle.table.proofs.look.is_good.Reads as is-good-reads
 
 returns : tie.Need-returns
 unfolding endAnswer

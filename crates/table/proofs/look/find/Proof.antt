@@ -1,20 +1,14 @@
+-- `table::look::find` meets its contract: the loop goes from the last slot to the first; what is found is the first of those passed.
+-- Assumes nothing.
 use Rattle.table.proofs.Looking.{find-hit, find-pass, find-end}
-use mathlib.Core.Path.{_≡_, refl, sym, ap, _∙_}
-use Prim.Native.Nat.{ℕ, _-_, _≤_, suc}
+use mathlib.Core.Path.{_≡_, refl}
+use Prim.Native.Nat.{_-_, _≤_}
 use native.Mathlib.Omega.{arith}
-use borrow.Author.Tests.{eq-eqb, ne-eqb}
-use mathlib.Core.Bool.{Bool, cond}
-use lib.Dec.{eqb}
 use Rattle.bits.specs.Search.{first}
-use Rattle.slot.specs.declared.Head.{Head}
-use Rattle.table.specs.State.{addressAt}
 use Rattle.table.proofs.States.{has}
-use Rattle.table.proofs.Looking.{find-down, find-end}
+use Rattle.table.proofs.Looking.{find-end}
 use Rattle.table.proofs.look.find.Statement.{statement}
 use Rattle.table.proofs.look.find.Tie as tie
-use Rattle.table.proofs.look.find.Reads as reads
-use Rattle.table.proofs.look.find.Lts as lts
-use Rattle.table.proofs.look.head.Reads as head-reads
 
 abbrev Inv-loop : tie.InvT-loop
 Inv-loop state address found₀ k₀ found k = (k ≤ 16) × (found ≡ first (has state address) (16 - k) k)

@@ -1,9 +1,9 @@
+-- `table::look::freshness` meets its contract: stale before doubtful before fresh.
+-- Assumes nothing.
 use mathlib.Core.Path.{sym}
 use Rattle.table.proofs.Looking.{shown-7, shown-6, shown-5}
 use Rattle.table.proofs.look.freshness.Statement.{statement}
 use Rattle.table.proofs.look.freshness.Tie as tie
-use Rattle.table.proofs.look.freshness.Reads as reads
-use Rattle.table.proofs.look.freshness.Lts as lts
 
 returns : tie.Need-returns
 returns c = λ ne. sym (shown-7 (c .before .before .args .head) ne (c .if1 .taken))

@@ -1,4 +1,6 @@
-use mathlib.Core.Path.{_≡_, sym, ap, ap₂, _∙_}
+-- `table::look::good_at` meets its contract: a good slot is free exactly if its address is 0.
+-- Assumes nothing.
+use mathlib.Core.Path.{_≡_, ap, ap₂, _∙_}
 use mathlib.Core.Bool.{Bool, _&&_, _||_}
 use Prim.Native.Nat.{ℕ}
 use lib.Dec.{eqb}
@@ -9,11 +11,6 @@ use Rattle.table.proofs.Looking.{slot-part, good-by-address}
 use borrow.Author.Needs.{needs}
 use Rattle.table.proofs.look.good_at.Statement.{statement}
 use Rattle.table.proofs.look.good_at.Tie as tie
-use Rattle.table.proofs.look.good_at.Reads as reads
-use Rattle.table.proofs.look.good_at.Lts as lts
-use Rattle.slot.proofs.Slot.good.Reads as good-reads
-use Rattle.table.proofs.look.find.Reads as find-reads
-use Rattle.table.proofs.look.head.Reads as head-reads
 
 mul-at : tie.Need-mul-at
 mul-at c = search needs

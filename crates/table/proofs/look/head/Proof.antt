@@ -1,15 +1,11 @@
+-- `table::look::head` meets its contract: a lent slot is loaded.
+-- Assumes nothing.
 use mathlib.Core.Path.{ap, _∙_}
-use native.Mathlib.Omega.{arith}
-use lib.ListN.{length}
 use Rattle.slot.specs.Slot.{headOf}
 use Rattle.table.proofs.Looking.{slot-part}
-use Rattle.table.proofs.States.{slot-length}
 use borrow.Author.Needs.{needs}
 use Rattle.table.proofs.look.head.Statement.{statement}
 use Rattle.table.proofs.look.head.Tie as tie
-use Rattle.table.proofs.look.head.Reads as reads
-use Rattle.table.proofs.look.head.Lts as lts
-use Rattle.slot.proofs.Head.load.Reads as load-reads
 
 mul-at : tie.Need-mul-at
 mul-at c = search needs

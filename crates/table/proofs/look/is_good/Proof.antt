@@ -1,15 +1,14 @@
-use mathlib.Core.Path.{_≡_, refl, sym, ap, _∙_, subst}
+-- `table::look::is_good` meets its contract: the loop folds the slots together.
+-- Assumes nothing.
+use mathlib.Core.Path.{_≡_, refl, sym, subst}
 use mathlib.Core.Bool.{Bool, _&&_}
-use Prim.Native.Nat.{ℕ, _-_, _+_, _≤_}
+use Prim.Native.Nat.{_-_, _+_, _≤_}
 use native.Mathlib.Omega.{arith}
 use Rattle.bits.specs.Search.{all as allOf}
 use Rattle.table.specs.State.{goodAt, good}
 use Rattle.table.proofs.Looking.{all-next, all-end}
 use Rattle.table.proofs.look.is_good.Statement.{statement}
 use Rattle.table.proofs.look.is_good.Tie as tie
-use Rattle.table.proofs.look.is_good.Reads as reads
-use Rattle.table.proofs.look.is_good.Lts as lts
-use Rattle.table.proofs.look.good_at.Reads as good-at-reads
 
 abbrev Inv-loop : tie.InvT-loop
 Inv-loop state all₀ k₀ all k = (k ≤ 16) × ((all && allOf (goodAt state) (16 - k) k) ≡ good state)

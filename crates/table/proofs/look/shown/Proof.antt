@@ -1,15 +1,13 @@
+-- `table::look::shown` meets its contract: 4, or the freshness with the place and length of the group.
+-- Assumes nothing.
 use mathlib.Core.Path.{_≡_, sym, _∙_}
 use mathlib.Core.Logic.{⊎-elim}
 use Prim.Native.Nat.{_+_, _*_}
-use native.Mathlib.Omega.{arith}
 use Rattle.table.specs.Calls.{groupLength}
 use Rattle.table.proofs.Looking.{asked-none, asked-group, length-180, length-360}
 use borrow.Author.Needs.{needs}
 use Rattle.table.proofs.look.shown.Statement.{statement}
 use Rattle.table.proofs.look.shown.Tie as tie
-use Rattle.table.proofs.look.shown.Reads as reads
-use Rattle.table.proofs.look.shown.Lts as lts
-use Rattle.table.proofs.look.freshness.Reads as freshness-reads
 
 returns : tie.Need-returns
 returns c = sym (asked-none (c .before .before .args .k) (c .before .before .args .head) (c .if1 .taken))
@@ -26,7 +24,7 @@ add-t8 c = search needs
 returns-2 : tie.Need-returns-2
 returns-2 c = let h = c .before .before .before .before .before .args .head in
     let size : c .before .if2 .len ≡ groupLength h =
-      ⊎-elim (λ w. w .1 ∙ sym (length-180 h (w .0 .taken))) (λ w. w .1 ∙ sym (length-360 h (w .0 .left))) (c .before .if2 .came) in
+    ⊎-elim (λ w. w .1 ∙ sym (length-180 h (w .0 .taken))) (λ w. w .1 ∙ sym (length-360 h (w .0 .left))) (c .before .if2 .came) in
     (λ i. record { number = c .freshness .ensures (c .before .before .before .if1 .left) i; at = c .before .before .before .before .before .args .k * 736 + 360; len = size i })
     ∙ sym (asked-group h (c .before .before .before .if1 .left) (c .before .before .before .before .before .args .k))
 

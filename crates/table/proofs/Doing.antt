@@ -1,0 +1,210 @@
+-- What the calls' code does, against their definitions.
+--
+--   refused, accepted            a call that answers first and changes the state after: its answer with the bytes after
+--   start-refused, start-passed  start's one row, by the test of the length
+--   follow-length, end-length    an accepted call's state has 11,776 bytes
+--   Known, known                 what holds of a followed address
+--   span-length                  the part that is lent of slot k is a slot's length
+--   slot-stored, slot-cleared    and the state with what came back of it
+--   cleared                      the end of the loop that clears
+--   ages-turn, ages-end          a turn and the end of the loop that ages the slots
+--   asked-refused, asked-found   ask's answer, by the answer of the rows
+--   asked-within, asked-part     the group's place is in the state, and the slice is that part
+--   board-notice, board-group    the board text, by the number
+--
+-- Assumes nothing.
+use mathlib.Core.Path.{_≡_, refl, sym, ap, ap₂, _∙_, subst}
+use mathlib.Core.Bool.{Bool, true, false, cond, not}
+use mathlib.Core.List.{List, [], _∷_, _++_, append-nil}
+use Prim.Native.Nat.{ℕ, zero, suc, _+_, _-_, _*_, _≤_, _<_}
+use native.Mathlib.Omega.{arith}
+use native.Mathlib.Numerals.{add-one}
+use borrow.Author.Tests.{not-false, eqb-true, eq-eqb, ne-eqb}
+use lib.Dec.{eqb}
+use lib.ListN.{length, take, drop, replicate}
+use lib.Seq.{drop-length}
+use Rattle.bits.specs.Bits.{blank}
+use Rattle.bits.specs.Rows.{Row, row, refusal}
+use Rattle.bits.proofs.Rows.{refusal-hit, refusal-miss, refusal-passed}
+use Rattle.slot.specs.Part.{part, put}
+use Rattle.slot.specs.Slot.{slotSize, wholeAt, headOf, withHead}
+use Rattle.slot.specs.Head.{agedHead}
+use Rattle.slot.specs.declared.Head.{Head}
+use Rattle.slot.proofs.Laws.{withHead-length}
+use Rattle.table.specs.State.{stateSize, slots, slotAt, withSlot, find, good}
+use Rattle.table.specs.Calls.{done, stateRows, startAnswer, followAnswer, leaveAnswer, endAnswer, ages, shown, groupLength, askedAt, askedBy, asked, askPart, boardText}
+use Rattle.table.specs.declared.Asked.{Asked}
+use Rattle.table.proofs.States.{slot-length, with-length}
+use Rattle.table.proofs.Kept.{leave-passed}
+
+-- ---- the answer first, then the change
+
+module _ (r n : ℕ) (after before : List ℕ) (e : r ≡ n) where
+  pub refused : (r ≡ 0 → ⊥) → (r ≡ n) × (before ≡ done n after before)
+  unfolding done
+  refused ne = (e, go n e)
+    where
+      go : (m : ℕ) → r ≡ m → before ≡ done m after before
+      go zero q = absurd (ne q)
+      go (suc m) q = refl
+
+  pub accepted : (now : List ℕ) → r ≡ 0 → now ≡ after → (0 ≡ n) × (now ≡ done n after before)
+  unfolding done
+  accepted now z q = (sym z ∙ e, q ∙ ap (λ (m : ℕ). done m after before) (sym z ∙ e))
+
+pub start-refused : (s : List ℕ) → (length s ≡ stateSize → ⊥) → 20 ≡ startAnswer s
+unfolding startAnswer
+start-refused s ne = sym (refusal-hit (not (eqb (length s) stateSize)) 20 [] (ap not (ne-eqb (length s) stateSize ne)))
+
+pub start-passed : (s : List ℕ) → length s ≡ stateSize → 0 ≡ startAnswer s
+unfolding startAnswer refusal
+start-passed s e = sym (refusal-miss (not (eqb (length s) stateSize)) 20 [] (ap not (eq-eqb (length s) stateSize e)))
+
+state-length : (s : List ℕ) (rest : List Row) → refusal (stateRows s rest) ≡ 0 → length s ≡ stateSize
+state-length s rest e =
+    eqb-true (length s) stateSize
+    (not-false (eqb (length s) stateSize)
+    (refusal-passed (not (eqb (length s) stateSize)) 20 (row (not (good s)) 34 ∷ rest) (omega arith) e .0))
+
+pub follow-length : (s : List ℕ) (a p l : ℕ) → followAnswer s a p l ≡ 0 → length s ≡ stateSize
+unfolding followAnswer
+follow-length s a p l e = state-length s _ e
+
+leave-length : (s : List ℕ) (a : ℕ) → leaveAnswer s a ≡ 0 → length s ≡ stateSize
+unfolding leaveAnswer
+leave-length s a e = state-length s _ e
+
+-- a followed address: no row of leave's and ask's
+pub record Known (s : List ℕ) (a : ℕ) : Type 0 where
+  pub zero : leaveAnswer s a ≡ 0
+  pub size : length s ≡ stateSize
+  pub place : find s a < slots
+
+pub known : (s : List ℕ) (a r : ℕ) → r ≡ leaveAnswer s a → r ≡ 0 → Known s a
+known s a r e z =
+    let q : leaveAnswer s a ≡ 0 = sym e ∙ z in
+    record { zero = q; size = leave-length s a q; place = leave-passed s a q .2 }
+
+pub end-length : (s : List ℕ) → endAnswer s ≡ 0 → length s ≡ stateSize
+unfolding endAnswer
+end-length s e = state-length s [] e
+
+-- ---- a slot that is lent and comes back
+
+abbrev pub span : ℕ → ℕ
+span at = at + slotSize - at
+
+slot-span : (k : ℕ) (s : List ℕ) → take (span (k * slotSize)) (drop (k * slotSize) s) ≡ slotAt k s
+unfolding slotAt part
+slot-span k s =
+    let e : span (k * slotSize) ≡ slotSize = omega arith in
+    ap (λ (n : ℕ). take n (drop (k * slotSize) s)) e
+
+pub span-length : (k : ℕ) (s : List ℕ) → length s ≡ stateSize → k < slots → length (take (span (k * slotSize)) (drop (k * slotSize) s)) ≡ slotSize
+span-length k s l h = ap length (slot-span k s) ∙ slot-length s l k h
+
+slot-given : (f : List ℕ → List ℕ) (k j : ℕ) (s b : List ℕ) → k ≡ j → b ≡ f (take (span (k * slotSize)) (drop (k * slotSize) s))
+    → (take (k * slotSize) s ++ (b ++ drop (span (k * slotSize)) (drop (k * slotSize) s))) ≡ withSlot j (f (slotAt j s)) s
+unfolding withSlot put
+slot-given f k j s b q e =
+    let n : span (k * slotSize) ≡ slotSize = omega arith in
+    ap₂ (λ (x : List ℕ) (m : ℕ). take (k * slotSize) s ++ (x ++ drop m (drop (k * slotSize) s))) (e ∙ ap f (slot-span k s)) n
+    ∙ ap (λ (i : ℕ). put (i * slotSize) slotSize (f (slotAt i s)) s) q
+
+pub slot-stored : (g h : Head) (k j : ℕ) (s b : List ℕ) → g ≡ h → k ≡ j
+    → b ≡ withHead g (take (span (k * slotSize)) (drop (k * slotSize) s))
+    → (take (k * slotSize) s ++ (b ++ drop (span (k * slotSize)) (drop (k * slotSize) s))) ≡ withSlot j (withHead h (slotAt j s)) s
+slot-stored g h k j s b p q e =
+    slot-given (withHead g) k j s b q e ∙ ap (λ (x : Head). withSlot j (withHead x (slotAt j s)) s) p
+
+pub slot-cleared : (k j : ℕ) (s b : List ℕ) → length s ≡ stateSize → j < slots → k ≡ j
+    → b ≡ blank (length (take (span (k * slotSize)) (drop (k * slotSize) s)))
+    → (take (k * slotSize) s ++ (b ++ drop (span (k * slotSize)) (drop (k * slotSize) s))) ≡ withSlot j (blank slotSize) s
+slot-cleared k j s b l h q e =
+    slot-given (λ (x : List ℕ). blank (length x)) k j s b q e ∙ ap (λ (n : ℕ). withSlot j (blank n) s) (slot-length s l j h)
+
+-- ---- the loops: the first k bytes are 0; the slots from k on are still to be aged
+
+pub cleared : (k : ℕ) (d b : List ℕ) → k ≡ length d → b ≡ replicate k 0 ++ drop k d → b ≡ blank (length d)
+unfolding blank
+cleared k d b q e =
+    e ∙ ap (λ (n : ℕ). replicate n 0 ++ drop n d) q ∙ ap (λ (x : List ℕ). replicate (length d) 0 ++ x) (drop-length d)
+    ∙ append-nil (replicate (length d) 0)
+
+pub ages-turn : (k : ℕ) (s t : List ℕ) → length s ≡ stateSize → k < slots
+    → t ≡ withSlot k (withHead (agedHead (headOf (slotAt k s))) (slotAt k s)) s
+    → (length t ≡ stateSize) × (ages (slots - (k + 1)) (k + 1) t ≡ ages (slots - k) k s)
+unfolding ages
+ages-turn k s t l h e =
+    let n : slots - k ≡ suc (slots - (k + 1)) = omega arith in
+    let b = withHead (agedHead (headOf (slotAt k s))) (slotAt k s) in
+    let lb : length b ≡ slotSize = withHead-length (agedHead (headOf (slotAt k s))) (slotAt k s) (slot-length s l k h) ∙ slot-length s l k h in (
+      ap length e ∙ with-length s l k b h lb,
+      ap₂ (λ (x : ℕ) (y : List ℕ). ages (slots - (k + 1)) x y) (add-one k) e ∙ ap (λ (m : ℕ). ages m k s) (sym n),
+    )
+
+pub ages-end : (k : ℕ) (s t : List ℕ) → slots ≤ k → ages (slots - k) k s ≡ t → s ≡ t
+unfolding ages
+ages-end k s t h e =
+    let n : 0 ≡ slots - k = omega arith in
+    ap (λ (m : ℕ). ages m k s) n ∙ e
+
+-- ---- ask
+
+abbrev pub bare : ℕ → Asked
+bare n = record { number = n; at = 0; len = 0 }
+
+pub asked-refused : (s : List ℕ) (a r : ℕ) → r ≡ leaveAnswer s a → (r ≡ 0 → ⊥) → bare r ≡ asked s a
+unfolding asked askedBy
+asked-refused s a r e ne = ap bare e ∙ go (leaveAnswer s a) e
+  where
+    go : (m : ℕ) → r ≡ m → bare m ≡ askedBy m (askedAt (find s a) (headOf (slotAt (find s a) s)))
+    go zero q = absurd (ne q)
+    go (suc m) q = refl
+
+pub asked-found : (s : List ℕ) (a k : ℕ) (h : Head) (x : Asked) → leaveAnswer s a ≡ 0 → k ≡ find s a → h ≡ headOf (slotAt k s)
+    → x ≡ askedAt k h → x ≡ asked s a
+unfolding asked askedBy
+asked-found s a k h x z e eh ex =
+    ex ∙ ap (askedAt k) eh ∙ ap (λ (j : ℕ). askedAt j (headOf (slotAt j s))) e
+    ∙ ap (λ (m : ℕ). askedBy m (askedAt (find s a) (headOf (slotAt (find s a) s)))) (sym z)
+
+-- a group's place is in its slot
+abbrev ends : Asked → ℕ
+ends x = x .at + x .len
+
+group-ends : (k : ℕ) (h : Head) → k < slots → ends (askedAt k h) ≤ stateSize
+unfolding askedAt groupLength
+group-ends k h l = go (eqb (h .group) 0) (eqb (h .protection) 1)
+  where
+    go : (g p : Bool) → ends (cond g (bare 4) (record { number = shown h; at = k * slotSize + wholeAt; len = cond p 180 360 })) ≤ stateSize
+    go true p = omega arith
+    go false true = omega arith
+    go false false = omega arith
+
+pub asked-within : (s : List ℕ) (a : ℕ) (r : Asked) → r ≡ asked s a → r .at + r .len ≤ length s
+unfolding asked askedBy
+asked-within s a r e = subst (λ (x : Asked). ends x ≤ length s) (sym e) (go (leaveAnswer s a) refl)
+  where
+    go : (m : ℕ) → leaveAnswer s a ≡ m → ends (askedBy m (askedAt (find s a) (headOf (slotAt (find s a) s)))) ≤ length s
+    go zero q = omega (arith, leave-length s a q, group-ends (find s a) (headOf (slotAt (find s a) s)) (leave-passed s a q .2))
+    go (suc m) q = omega arith
+
+pub asked-part : (s : List ℕ) (a : ℕ) (r : Asked) → r ≡ asked s a → take (r .at + r .len - r .at) (drop (r .at) s) ≡ askPart s a
+unfolding askPart part
+asked-part s a r e =
+    let n : r .at + r .len - r .at ≡ r .len = omega arith in
+    ap (λ (m : ℕ). take m (drop (r .at) s)) n ∙ ap (λ (x : Asked). part (x .at) (x .len) s) e
+
+-- ---- board text
+
+module _ (s : List ℕ) (a : ℕ) (notice : List ℕ) (r : Asked) (e : r ≡ asked s a) where
+  by-number : (b : Bool) → eqb (r .number) 5 ≡ b → cond b (askPart s a) notice ≡ boardText s a notice
+  unfolding boardText
+  by-number b q = ap (λ (t : Bool). cond t (askPart s a) notice) (sym q ∙ ap (λ (x : Asked). eqb (x .number) 5) e)
+
+  pub board-notice : (r .number ≡ 5 → ⊥) → notice ≡ boardText s a notice
+  board-notice ne = by-number false (ne-eqb (r .number) 5 ne)
+
+  pub board-group : r .number ≡ 5 → take (r .at + r .len - r .at) (drop (r .at) s) ≡ boardText s a notice
+  board-group q = asked-part s a r e ∙ by-number true (eq-eqb (r .number) 5 q)
