@@ -5,9 +5,9 @@
 --   agedHead                     by a subframe end, section 5
 --   goodHead h                   within the bounds of section 3
 --   goodSlot s                   free, all 736 bytes 0, or with a good head
-use mathlib.Core.Bool.{Bool, true, false, cond, _&&_, _||_}
+use mathlib.Core.Bool.{Bool, true, cond, _&&_, _||_}
 use mathlib.Core.List.{List, [], _∷_}
-use Prim.Native.Nat.{ℕ, zero, suc, _+_}
+use Prim.Native.Nat.{ℕ, _+_}
 use lib.Dec.{leb, ltb, eqb}
 use Rattle.slot.specs.Slot.{headOf}
 use Rattle.slot.specs.declared.Head.{Head}
