@@ -2,6 +2,7 @@
 --
 --   stored     a list that agrees with another up to a place agrees one further after the right store there
 --   getD-map   what stands at a place of a list that was mapped
+--   blank-length   n bytes of 0 are n bytes
 --   agreed     two lists that agree up to their common length are equal
 --
 -- Assumes nothing.
@@ -9,7 +10,8 @@ use mathlib.Core.Path.{_≡_, refl, sym, ap, ap₂, _∙_}
 use mathlib.Core.List.{List, [], _∷_, _++_, map}
 use Prim.Native.Nat.{ℕ, zero, suc, _≤_, _<_}
 use native.Mathlib.Omega.{arith}
-use lib.ListN.{length, take, getD, set}
+use lib.ListN.{length, take, getD, set, length-replicate}
+use Rattle.bits.specs.Bits.{blank}
 use lib.Seq.{take-suc, take-suc-set, take-all}
 
 pub stored : (out target : List ℕ) (j n v : ℕ) → take j out ≡ take j target → j < length out → j < length target
@@ -26,3 +28,7 @@ pub getD-map : (f : ℕ → ℕ) (ns : List ℕ) (k : ℕ) → k < length ns →
 getD-map f [] k h = absurd (omega arith)
 getD-map f (n ∷ ns) zero h = refl
 getD-map f (n ∷ ns) (suc k) h = getD-map f ns k (omega arith)
+
+pub blank-length : (n : ℕ) → length (blank n) ≡ n
+unfolding blank
+blank-length n = length-replicate n 0

@@ -11,9 +11,10 @@ use Prim.Native.Nat.{ℕ, zero, suc, _+_, _-_, _≤_, _<_}
 use native.Mathlib.Omega.{arith}
 use native.Mathlib.Nat.{sub-zero, suc-sub-suc, zero-sub, zero-add}
 use native.Mathlib.Numerals.{add-one, one-add}
-use lib.ListN.{length, take, drop, getD, set, length-replicate, drop-of-length-le}
+use lib.ListN.{length, take, drop, getD, set, drop-of-length-le}
 use lib.Seq.{paste, paste-suc, length-paste, take-length}
 use Rattle.bits.specs.Bits.{blank}
+use Rattle.bits.proofs.Storing.{blank-length}
 use Rattle.packet.specs.Received.{filled}
 
 drop-blank : (n m : ℕ) → drop n (blank m) ≡ blank (m - n)
@@ -33,10 +34,6 @@ copied d s b at p k e q hd hs =
 -- so the room stays as long as it was
 pub copied-length : (d s b : List ℕ) (at k : ℕ) → b ≡ paste d at s k → at + k ≤ length d → k ≤ length s → length b ≡ length d
 copied-length d s b at k e hd hs = ap length e ∙ length-paste d at s k hd hs
-
-pub blank-length : (n : ℕ) → length (blank n) ≡ n
-unfolding blank
-blank-length n = length-replicate n 0
 
 pub room-filled : (from : List ℕ) (k : ℕ) → k ≡ length from → paste (blank 90) 0 from k ≡ filled 0 from
 unfolding filled

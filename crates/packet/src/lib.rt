@@ -10,6 +10,7 @@ ghost use Rattle.packet.specs.Received.{received, written, refusedAs, pa
 use bare::Header;
 use bare::TypeByte;
 use image::Packet;
+use words::Data;
 
 // What a packet is read as: its number, 0 or a refusal; with 31 the place of the first word that cannot be read; the
 // index; the 90 useful bytes, or the 45 of protected data with 0 behind them. A refused packet has 0 for the others.
@@ -107,7 +108,7 @@ fn unprotected(patterns: &[u32], index: u8, useful: &[u8]) -> Reading
 {
     let data = words::unprotect(patterns, useful);
     let place = data.place;
-    if place < 30 {
+    if place < Data::ALL {
         return refused(31, place);
     }
     let bytes = data.bytes;

@@ -15,27 +15,28 @@
 -- Assumes nothing.
 use mathlib.Core.Path.{_≡_, refl, sym, ap, ap₂, _∙_, subst}
 use mathlib.Core.Bool.{Bool, true, false, cond, not}
-use mathlib.Core.List.{List, [], _∷_, _++_, append-nil}
+use mathlib.Core.List.{List, [], _++_, append-nil}
 use Prim.Native.Nat.{ℕ, zero, suc, _+_, _-_, _*_, _≤_, _<_}
 use native.Mathlib.Omega.{arith}
 use native.Mathlib.Numerals.{add-one}
-use borrow.Author.Tests.{not-false, eqb-true, eq-eqb, ne-eqb}
+use borrow.Author.Tests.{eq-eqb, ne-eqb}
 use lib.Dec.{eqb}
 use lib.ListN.{length, take, drop, replicate}
 use lib.Seq.{drop-length}
 use Rattle.bits.specs.Bits.{blank}
-use Rattle.bits.specs.Rows.{Row, row, refusal}
-use Rattle.bits.proofs.Rows.{refusal-hit, refusal-miss, refusal-passed}
+use Rattle.bits.specs.Rows.{refusal}
+use Rattle.bits.proofs.Rows.{refusal-hit, refusal-miss}
 use Rattle.slot.specs.Part.{part, put}
 use Rattle.slot.specs.Slot.{slotSize, wholeAt, headOf, withHead}
 use Rattle.slot.specs.Head.{agedHead}
 use Rattle.slot.specs.declared.Head.{Head}
 use Rattle.slot.proofs.Laws.{withHead-length}
-use Rattle.table.specs.State.{stateSize, slots, slotAt, withSlot, find, good}
-use Rattle.table.specs.Calls.{done, stateRows, startAnswer, followAnswer, leaveAnswer, endAnswer, ages, shown, groupLength, askedAt, askedBy, asked, askPart, boardText}
+use Rattle.table.specs.State.{stateSize, slots, slotAt, withSlot, find}
+use Rattle.table.specs.Calls.{done, startAnswer, followAnswer, leaveAnswer, endAnswer, ages, shown, groupLength, askedAt, askedBy, asked, askPart, boardText}
 use Rattle.table.specs.declared.Asked.{Asked}
 use Rattle.table.proofs.States.{slot-length, with-length}
-use Rattle.table.proofs.Kept.{leave-passed}
+use Rattle.table.proofs.Kept.{follow-passed, leave-passed}
+use Rattle.table.proofs.Looking.{state-passed}
 
 -- ---- the answer first, then the change
 
@@ -60,19 +61,11 @@ pub start-passed : (s : List ℕ) → length s ≡ stateSize → 0 ≡ startAnsw
 unfolding startAnswer refusal
 start-passed s e = sym (refusal-miss (not (eqb (length s) stateSize)) 20 [] (ap not (eq-eqb (length s) stateSize e)))
 
-state-length : (s : List ℕ) (rest : List Row) → refusal (stateRows s rest) ≡ 0 → length s ≡ stateSize
-state-length s rest e =
-    eqb-true (length s) stateSize
-    (not-false (eqb (length s) stateSize)
-    (refusal-passed (not (eqb (length s) stateSize)) 20 (row (not (good s)) 34 ∷ rest) (omega arith) e .0))
-
 pub follow-length : (s : List ℕ) (a p l : ℕ) → followAnswer s a p l ≡ 0 → length s ≡ stateSize
-unfolding followAnswer
-follow-length s a p l e = state-length s _ e
+follow-length s a p l e = follow-passed s a p l e .state .size
 
 leave-length : (s : List ℕ) (a : ℕ) → leaveAnswer s a ≡ 0 → length s ≡ stateSize
-unfolding leaveAnswer
-leave-length s a e = state-length s _ e
+leave-length s a e = leave-passed s a e .0 .size
 
 -- a followed address: no row of leave's and ask's
 pub record Known (s : List ℕ) (a : ℕ) : Type 0 where
@@ -86,8 +79,7 @@ known s a r e z =
     record { zero = q; size = leave-length s a q; place = leave-passed s a q .2 }
 
 pub end-length : (s : List ℕ) → endAnswer s ≡ 0 → length s ≡ stateSize
-unfolding endAnswer
-end-length s e = state-length s [] e
+end-length s e = state-passed s e .size
 
 -- ---- a slot that is lent and comes back
 

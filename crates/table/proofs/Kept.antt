@@ -1,6 +1,6 @@
 -- Every call keeps the state good, whatever it answers.
 --
---   past-state, follow-passed, leave-passed    what holds where a call is accepted: none of its rows
+--   follow-passed, leave-passed    what holds where a call is accepted: none of its rows
 --   start-good, follow-good, leave-good, end-good
 --   age-waits       the age does not move before the first whole group
 --
@@ -10,22 +10,22 @@ use mathlib.Core.Bool.{Bool, true, cond, not, _&&_}
 use mathlib.Core.List.{List, [], _∷_}
 use Prim.Native.Nat.{ℕ, zero, suc, _+_, _*_, _≤_, _<_}
 use native.Mathlib.Omega.{arith}
-use borrow.Author.Tests.{not-false, ltb-true, ltb-false, leb-true, le-leb, eqb-true, eq-eqb, ne-eqb}
+use borrow.Author.Tests.{not-false, ltb-true, ltb-false, leb-true, le-leb, eq-eqb, ne-eqb}
 use lib.Dec.{T, ltb, leb, eqb}
 use mathlib.Core.Logic.{_⊎_, inl, inr}
-use lib.ListN.{length, getD, length-replicate}
+use lib.ListN.{length, getD}
 use Rattle.bits.specs.Bits.{blank}
-use Rattle.bits.specs.Rows.{Row, row, refusal}
 use Rattle.bits.proofs.Rows.{refusal-passed, refusal-miss, refusal-none}
 use Rattle.bits.proofs.Search.{and-left}
+use Rattle.bits.proofs.Storing.{blank-length}
 use Rattle.slot.specs.Part.{part}
 use Rattle.slot.specs.declared.Head.{Head}
 use Rattle.slot.proofs.Laws.{good-new, good-load, good-store, good-free, good-cases, good-aged, head-blank, blank-free, blank-at, store-load, withHead-length}
 use Rattle.slot.specs.Slot.{slotSize, headOf, withHead}
 use Rattle.slot.specs.Head.{freeHead, newHead, agedHead, within, goodHead, goodSlot, free}
 use Rattle.table.specs.State.{slots, stateSize, slotAt, withSlot, addressAt, find, good}
-use Rattle.table.specs.Calls.{done, stateRows, startAnswer, startAfter, followAnswer, followAfter, leaveAnswer, leaveAfter, endAnswer, ages, endAfter}
-use Rattle.table.proofs.Looking.{Passed}
+use Rattle.table.specs.Calls.{done, startAnswer, startAfter, followAnswer, followAfter, leaveAnswer, leaveAfter, endAnswer, ages, endAfter}
+use Rattle.table.proofs.Looking.{Passed, past-state}
 use Rattle.table.proofs.States.{Good, good-each, each-good, find-has, slot-length, with-length, good-followed, good-left, good-change, address-is}
 
 -- the bytes after, by cases of the answer
@@ -33,13 +33,6 @@ pub done-either : (P : List ℕ → Type 0) (n : ℕ) (after before : List ℕ) 
 unfolding done
 done-either P zero after before a b = a refl
 done-either P (suc n) after before a b = b
-
--- past the rows of the state
-pub past-state : (s : List ℕ) (rest : List Row) → refusal (stateRows s rest) ≡ 0 → (Passed s) × (refusal rest ≡ 0)
-past-state s rest e =
-    let one = refusal-passed (not (eqb (length s) stateSize)) 20 (row (not (good s)) 34 ∷ rest) (omega arith) e in
-    let two = refusal-passed (not (good s)) 34 rest (omega arith) (one .1) in
-    (record { size = eqb-true (length s) stateSize (not-false (eqb (length s) stateSize) (one .0)); all-good = not-false (good s) (two .0) }, two .1)
 
 pub record Followed (s : List ℕ) (a p l : ℕ) : Type 0 where
   pub state : Passed s
@@ -72,10 +65,6 @@ leave-passed s a e =
     let r22 = refusal-passed (not (within 1 1022 a)) 22 _ (omega arith) (past-state s _ e .1) in
     let r27 = refusal-passed (not (ltb (find s a) slots)) 27 [] (omega arith) (r22 .1) in
     (past-state s _ e .0, not-false (within 1 1022 a) (r22 .0), ltb-true (find s a) slots (not-false (ltb (find s a) slots) (r27 .0)))
-
-blank-length : (n : ℕ) → length (blank n) ≡ n
-unfolding blank
-blank-length n = length-replicate n 0
 
 -- ---- start
 

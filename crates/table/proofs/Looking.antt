@@ -138,12 +138,16 @@ pub record Passed (s : List ℕ) : Type 0 where
   pub size : length s ≡ stateSize
   pub all-good : good s ≡ true
 
+-- past the rows of the state
+pub past-state : (s : List ℕ) (rest : List Row) → refusal (stateRows s rest) ≡ 0 → (Passed s) × (refusal rest ≡ 0)
+past-state s rest e =
+    let one = refusal-passed (not (eqb (length s) stateSize)) 20 (row (not (good s)) 34 ∷ rest) (omega arith) e in
+    let two = refusal-passed (not (good s)) 34 rest (omega arith) (one .1) in
+    (record { size = eqb-true (length s) stateSize (not-false (eqb (length s) stateSize) (one .0)); all-good = not-false (good s) (two .0) }, two .1)
+
 pub state-passed : (s : List ℕ) → endAnswer s ≡ 0 → Passed s
 unfolding endAnswer
-state-passed s e =
-    let one = refusal-passed (not (eqb (length s) stateSize)) 20 (row (not (good s)) 34 ∷ []) (omega arith) e in
-    let two = refusal-passed (not (good s)) 34 [] (omega arith) (one .1) in
-    record { size = eqb-true (length s) stateSize (not-false (eqb (length s) stateSize) (one .0)); all-good = not-false (good s) (two .0) }
+state-passed s e = past-state s [] e .0
 
 -- what the state is refused with is what any call is refused with
 pub state-refused : (s : List ℕ) (rest : List Row) (n : ℕ) → n ≡ endAnswer s → (n ≡ 0 → ⊥) → n ≡ refusal (stateRows s rest)

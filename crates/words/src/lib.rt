@@ -32,7 +32,15 @@ pub struct Pass {
 }
 
 impl Words {
+    // How many words there are in a packet, and pairs of them: two informations are three bytes.
     pub const COUNT: usize = 30;
+
+    pub const PAIRS: usize = Self::COUNT / 2;
+}
+
+impl Data {
+    // The place that says that every word can be read.
+    pub const ALL: u8 = 30;
 }
 
 // What 90 protected bytes are read as. Where every word is right, no table of patterns is set up; otherwise one is, unless
@@ -47,7 +55,7 @@ pub fn unprotect(patterns: &[u32], useful: &[u8]) -> Data
     if pass.wrong == 0 {
         let informations = pass.informations;
         return Data {
-            place: 30,
+            place: Data::ALL,
             flips: 0,
             bytes: gathered(informations),
         };
@@ -131,7 +139,7 @@ fn read(checks: &[u16; 128], patterns: &[u32], useful: &[u8]) -> Words
         w += 1;
     }
     Words {
-        place: 30,
+        place: Data::ALL,
         flips,
         informations,
     }
@@ -144,7 +152,7 @@ fn gathered(informations: [u16; 30]) -> [u8; 45]
 {
     let mut bytes = [0u8; 45];
     let mut v: usize = 0;
-    while v < 15 {
+    while v < Words::PAIRS {
         let a = informations[v * 2];
         let b = informations[v * 2 + 1];
         bytes[v * 3] = (a & 255) as u8;
@@ -171,7 +179,7 @@ fn segments(bytes: &[u8]) -> [u16; 30]
 {
     let mut informations = [0u16; 30];
     let mut v: usize = 0;
-    while v < 15 {
+    while v < Words::PAIRS {
         let a = bytes[v * 3] as u16;
         let b = bytes[v * 3 + 1] as u16;
         let c = bytes[v * 3 + 2] as u16;
