@@ -2,15 +2,16 @@
 --
 --   refusal-hit, refusal-miss     the first row, by its test; refusal-passed: where nothing is refused
 --   refused-holds, holds-refused  refused exactly when a row holds, where no row gives 0
+--   further-refused, further-passed, done-refused, done-passed    the answer and the bytes left, by the number
 --
 -- Assumes nothing.
 use mathlib.Core.Path.{_≡_, refl, ap}
 use mathlib.Core.Bool.{Bool, true, false, cond}
 use mathlib.Core.List.{List, [], _∷_}
 use mathlib.Core.Logic.{_⊎_, inl, inr}
-use Prim.Native.Nat.{ℕ, _<_}
+use Prim.Native.Nat.{ℕ, zero, suc, _<_}
 use native.Mathlib.Omega.{arith}
-use Rattle.bits.specs.Rows.{Row, row, refusal}
+use Rattle.bits.specs.Rows.{Row, row, refusal, further, done}
 
 pub refusal-hit : (t : Bool) (n : ℕ) (rest : List Row) → t ≡ true → refusal (row t n ∷ rest) ≡ n
 unfolding refusal
@@ -50,3 +51,23 @@ refused-exactly (row false n ∷ rest) = go (refused-exactly rest)
     go : Holds rest (refusal rest) ⊎ (refusal rest ≡ 0) → Holds (row false n ∷ rest) (refusal rest) ⊎ (refusal rest ≡ 0)
     go (inl h) = inl (later h)
     go (inr e) = inr e
+
+-- ---- the answer and the bytes left, by the number
+
+pub further-refused : (n m : ℕ) → (n ≡ 0 → ⊥) → further n m ≡ n
+unfolding further
+further-refused zero m ne = absurd (ne refl)
+further-refused (suc n) m ne = refl
+
+pub further-passed : (n m : ℕ) → n ≡ 0 → further n m ≡ m
+unfolding further
+further-passed n m e = ap (λ (x : ℕ). further x m) e
+
+pub done-refused : (n : ℕ) (after before : List ℕ) → (n ≡ 0 → ⊥) → done n after before ≡ before
+unfolding done
+done-refused zero after before ne = absurd (ne refl)
+done-refused (suc n) after before ne = refl
+
+pub done-passed : (n : ℕ) (after before : List ℕ) → n ≡ 0 → done n after before ≡ after
+unfolding done
+done-passed n after before e = ap (λ (x : ℕ). done x after before) e

@@ -5,19 +5,24 @@
 --   answer-plain, answer-protected    a data packet: its 90 bytes; its 45, or 31
 --   type-found, type-missed           what the type reader's answer says of the type
 --   useful-part, useful-length        the 90 useful bytes
+--   received-length                   whatever is received, there are 90 bytes
+--   received-either                   94 bytes are read, or refused with 28 to 31
 --
 -- Assumes nothing.
-use mathlib.Core.Path.{_≡_, refl, sym, ap, _∙_}
+use mathlib.Core.Path.{_≡_, refl, sym, ap, _∙_, subst}
 use mathlib.Core.Bool.{Bool, true, false, cond, not}
 use mathlib.Core.List.{List, [], _∷_}
-use Prim.Native.Nat.{ℕ, _≤_, _<_}
+use mathlib.Core.Logic.{_⊎_, inl, inr}
+use Prim.Native.Nat.{ℕ, zero, suc, _-_, _≤_, _<_}
 use borrow.Author.Tests.{le-leb, lt-leb, lt-ltb, le-ltb, eq-eqb, ne-eqb}
 use lib.Dec.{leb, eqb, ltb}
 use native.Mathlib.Omega.{arith}
-use lib.ListN.{length, getD, take, drop, length-drop}
+use lib.ListN.{length, getD, take, drop, length-drop, length-append}
 use lib.Seq.{take-all}
+use Rattle.bits.specs.Bits.{blank}
 use Rattle.bits.specs.Rows.{row, refusal, given}
 use Rattle.bits.proofs.Rows.{refusal-hit, refusal-miss}
+use Rattle.bits.proofs.Storing.{blank-length}
 use Rattle.bare.specs.Bare.{headerRead, typeRead}
 use Rattle.bare.specs.declared.TypeByte.{TypeByte}
 use Rattle.bare.proofs.Types.{type-readable, type-unreadable}
@@ -25,7 +30,9 @@ use Rattle.image.specs.Image.{headerOf, bytesOf}
 use Rattle.image.proofs.Laws.{bytes-length}
 use Rattle.words.specs.Protected.{dataRead}
 use Rattle.words.specs.declared.Data.{Data}
+use Rattle.words.proofs.Each.{read-length}
 use Rattle.packet.specs.Received.{typeOf, usefulOf, unreadable, receivedNumber, receivedBytes, filled, received, refusedAs, partAs, dataAs}
+use Rattle.packet.specs.Damage.{Refused}
 use Rattle.packet.specs.declared.Reading.{Reading}
 
 -- the index that the header is read with
@@ -157,3 +164,34 @@ useful-part s bytes e =
 pub useful-length : (s : List ℕ) → length (usefulOf s) ≡ 90
 unfolding usefulOf
 useful-length s = length-drop 1 (bytesOf s) ∙ omega (arith, bytes-length s)
+
+-- ---- the sizes, and the numbers that there are
+
+filled-length : (n : ℕ) (b : List ℕ) → length b ≤ 90 → length (filled n b) ≡ 90
+unfolding filled
+filled-length zero b h = length-append b (blank (90 - length b)) ∙ omega (arith, blank-length (90 - length b))
+filled-length (suc n) b h = blank-length 90
+
+bytes-le : (p : Bool) (s : List ℕ) → length (receivedBytes p s) ≤ 90
+unfolding receivedBytes
+bytes-le false s = omega (arith, useful-length s)
+bytes-le true s = omega (arith, read-length (usefulOf s))
+
+pub received-length : (p : Bool) (s : List ℕ) → length (received p s .bytes) ≡ 90
+unfolding received
+received-length p s = filled-length (receivedNumber p s) (receivedBytes p s) (bytes-le p s)
+
+pub received-either : (p : Bool) (s : List ℕ) → length s ≡ 94 → (received p s .number ≡ 0) ⊎ Refused (received p s)
+unfolding received refusal
+received-either p s l =
+    subst (λ (n : ℕ). (n ≡ 0) ⊎ ((n ≡ 28) ⊎ ((n ≡ 29) ⊎ ((n ≡ 30) ⊎ (n ≡ 31))))) (sym (typed p s l))
+    (go (leb 256 (typeOf s)) (eqb (typeOf s) 0x3F) (eqb (typeOf s) 0xC7) (eqb (typeOf s) 0xF8) (unreadable p (usefulOf s)))
+  where
+    go : (a b c d e : Bool) → let n = refusal (row a 28 ∷ row b 29 ∷ row c 29 ∷ row d 30 ∷ row e 31 ∷ []) in
+        (n ≡ 0) ⊎ ((n ≡ 28) ⊎ ((n ≡ 29) ⊎ ((n ≡ 30) ⊎ (n ≡ 31))))
+    go true b c d e = inr (inl refl)
+    go false true c d e = inr (inr (inl refl))
+    go false false true d e = inr (inr (inl refl))
+    go false false false true e = inr (inr (inr (inl refl)))
+    go false false false false true = inr (inr (inr (inr refl)))
+    go false false false false false = inl refl

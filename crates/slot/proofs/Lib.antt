@@ -1,2 +1,4 @@
 pub mod Laws
+pub mod Moves
+pub mod Rooms
 pub mod Steps

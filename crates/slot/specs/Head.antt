@@ -3,6 +3,7 @@
 --   freeHead, newHead            all 0; as follow makes it: awaited index, marks and age 0
 --   startedHead .. droppedHead   by the rows of section 4's table
 --   agedHead                     by a subframe end, section 5
+--   shown h                      what ask says of a followed address: 4, 7, 6 or 5
 --   goodHead h                   within the bounds of section 3
 --   goodSlot s                   free, all 736 bytes 0, or with a good head
 use mathlib.Core.Bool.{Bool, true, cond, _&&_, _||_}
@@ -78,6 +79,11 @@ agedHead h = record {
   group = h .group;
   gap = h .gap;
 }
+
+-- Section 5, what ask says of a followed address: "4 nothing yet; otherwise 7 stale if the age is the limit or more; otherwise
+-- 6 doubtful if a gap is marked; otherwise 5 fresh"
+unfoldable pub shown : Head → ℕ
+shown h = cond (eqb (h .group) 0) 4 (cond (leb (h .limit) (h .age)) 7 (cond (eqb (h .gap) 1) 6 5))
 
 abbrev pub within : ℕ → ℕ → ℕ → Bool
 within least most n = leb least n && leb n most

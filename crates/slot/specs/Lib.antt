@@ -1,3 +1,4 @@
 pub mod Head
+pub mod Move
 pub mod Part
 pub mod Slot

@@ -12,9 +12,11 @@
 --   withHead h s            the slot with another head
 --   unfinished s, stored s  the two rooms
 --   withUnfinished, withStored
+--   kept n room             a room of which n bytes are kept, and 0 behind them
 use mathlib.Core.List.{List, [], _∷_, _++_}
-use Prim.Native.Nat.{ℕ, _+_, _*_, _/_, _%_}
+use Prim.Native.Nat.{ℕ, _+_, _-_, _*_, _/_, _%_}
 use lib.ListN.{getD}
+use Rattle.bits.specs.Bits.{blank}
 use Rattle.slot.specs.Part.{part, put}
 use Rattle.slot.specs.declared.Head.{Head}
 
@@ -68,3 +70,6 @@ withUnfinished room s = put 0 roomSize room s
 
 unfoldable pub withStored : List ℕ → List ℕ → List ℕ
 withStored room s = put wholeAt roomSize room s
+
+unfoldable pub kept : ℕ → List ℕ → List ℕ
+kept n room = part 0 n room ++ blank (roomSize - n)

@@ -1,5 +1,7 @@
 // One slot's bytes: its head as a value, taken out, changed and stored again, and its two rooms. Byte places stand in
 // specs/Slot.antt and in the constants below, and nowhere else.
+//
+// room     runs of bytes in a slot
 ghost use mathlib.Core.Path.{_≡_};
 ghost use Prim.Native.Nat.{_+_, _<_, _≤_};
 ghost use lib.Dec.{eqb};
@@ -7,6 +9,8 @@ ghost use lib.ListN.{length};
 ghost use Rattle.slot.specs.Part.{part, put};
 ghost use Rattle.slot.specs.Slot.{four, fourAt, headOf, withHead};
 ghost use Rattle.slot.specs.Head.{freeHead, newHead, startedHead, heldHead, wholeHead, droppedHead, agedHead, goodHead, free, goodSlot};
+
+pub mod room;
 
 pub struct Slot {}
 

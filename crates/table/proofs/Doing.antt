@@ -5,8 +5,7 @@
 --   follow-length, end-length    an accepted call's state has 11,776 bytes
 --   Known, known                 what holds of a followed address
 --   span-length                  the part that is lent of slot k is a slot's length
---   slot-stored, slot-cleared    and the state with what came back of it
---   cleared                      the end of the loop that clears
+--   slot-given, slot-stored, slot-cleared    and the state with what came back of it
 --   ages-turn, ages-end          a turn and the end of the loop that ages the slots
 --   asked-refused, asked-found   ask's answer, by the answer of the rows
 --   asked-within, asked-part     the group's place is in the state, and the slice is that part
@@ -24,15 +23,15 @@ use lib.Dec.{eqb}
 use lib.ListN.{length, take, drop, replicate}
 use lib.Seq.{drop-length}
 use Rattle.bits.specs.Bits.{blank}
-use Rattle.bits.specs.Rows.{refusal}
-use Rattle.bits.proofs.Rows.{refusal-hit, refusal-miss}
+use Rattle.bits.specs.Rows.{refusal, done}
+use Rattle.bits.proofs.Rows.{refusal-hit, refusal-miss, done-refused, done-passed}
 use Rattle.slot.specs.Part.{part, put}
 use Rattle.slot.specs.Slot.{slotSize, wholeAt, headOf, withHead}
-use Rattle.slot.specs.Head.{agedHead}
+use Rattle.slot.specs.Head.{agedHead, shown}
 use Rattle.slot.specs.declared.Head.{Head}
 use Rattle.slot.proofs.Laws.{withHead-length}
 use Rattle.table.specs.State.{stateSize, slots, slotAt, withSlot, find}
-use Rattle.table.specs.Calls.{done, startAnswer, followAnswer, leaveAnswer, endAnswer, ages, shown, groupLength, askedAt, askedBy, asked, askPart, boardText}
+use Rattle.table.specs.Calls.{startAnswer, followAnswer, leaveAnswer, endAnswer, ages, groupLength, askedAt, askedBy, asked, askPart, boardText}
 use Rattle.table.specs.declared.Asked.{Asked}
 use Rattle.table.proofs.States.{slot-length, with-length}
 use Rattle.table.proofs.Kept.{follow-passed, leave-passed}
@@ -42,16 +41,10 @@ use Rattle.table.proofs.Looking.{state-passed}
 
 module _ (r n : ℕ) (after before : List ℕ) (e : r ≡ n) where
   pub refused : (r ≡ 0 → ⊥) → (r ≡ n) × (before ≡ done n after before)
-  unfolding done
-  refused ne = (e, go n e)
-    where
-      go : (m : ℕ) → r ≡ m → before ≡ done m after before
-      go zero q = absurd (ne q)
-      go (suc m) q = refl
+  refused ne = (e, sym (done-refused n after before (λ z. ne (e ∙ z))))
 
   pub accepted : (now : List ℕ) → r ≡ 0 → now ≡ after → (0 ≡ n) × (now ≡ done n after before)
-  unfolding done
-  accepted now z q = (sym z ∙ e, q ∙ ap (λ (m : ℕ). done m after before) (sym z ∙ e))
+  accepted now z q = (sym z ∙ e, q ∙ sym (done-passed n after before (sym e ∙ z)))
 
 pub start-refused : (s : List ℕ) → (length s ≡ stateSize → ⊥) → 20 ≡ startAnswer s
 unfolding startAnswer
@@ -95,7 +88,7 @@ slot-span k s =
 pub span-length : (k : ℕ) (s : List ℕ) → length s ≡ stateSize → k < slots → length (take (span (k * slotSize)) (drop (k * slotSize) s)) ≡ slotSize
 span-length k s l h = ap length (slot-span k s) ∙ slot-length s l k h
 
-slot-given : (f : List ℕ → List ℕ) (k j : ℕ) (s b : List ℕ) → k ≡ j → b ≡ f (take (span (k * slotSize)) (drop (k * slotSize) s))
+pub slot-given : (f : List ℕ → List ℕ) (k j : ℕ) (s b : List ℕ) → k ≡ j → b ≡ f (take (span (k * slotSize)) (drop (k * slotSize) s))
     → (take (k * slotSize) s ++ (b ++ drop (span (k * slotSize)) (drop (k * slotSize) s))) ≡ withSlot j (f (slotAt j s)) s
 unfolding withSlot put
 slot-given f k j s b q e =
@@ -115,13 +108,7 @@ pub slot-cleared : (k j : ℕ) (s b : List ℕ) → length s ≡ stateSize → j
 slot-cleared k j s b l h q e =
     slot-given (λ (x : List ℕ). blank (length x)) k j s b q e ∙ ap (λ (n : ℕ). withSlot j (blank n) s) (slot-length s l j h)
 
--- ---- the loops: the first k bytes are 0; the slots from k on are still to be aged
-
-pub cleared : (k : ℕ) (d b : List ℕ) → k ≡ length d → b ≡ replicate k 0 ++ drop k d → b ≡ blank (length d)
-unfolding blank
-cleared k d b q e =
-    e ∙ ap (λ (n : ℕ). replicate n 0 ++ drop n d) q ∙ ap (λ (x : List ℕ). replicate (length d) 0 ++ x) (drop-length d)
-    ∙ append-nil (replicate (length d) 0)
+-- ---- the loop: the slots from k on are still to be aged
 
 pub ages-turn : (k : ℕ) (s t : List ℕ) → length s ≡ stateSize → k < slots
     → t ≡ withSlot k (withHead (agedHead (headOf (slotAt k s))) (slotAt k s)) s

@@ -15,6 +15,7 @@ use lib.Dec.{T, ltb, leb, eqb}
 use mathlib.Core.Logic.{_⊎_, inl, inr}
 use lib.ListN.{length, getD}
 use Rattle.bits.specs.Bits.{blank}
+use Rattle.bits.specs.Rows.{done}
 use Rattle.bits.proofs.Rows.{refusal-passed, refusal-miss, refusal-none}
 use Rattle.bits.proofs.Search.{and-left}
 use Rattle.bits.proofs.Storing.{blank-length}
@@ -24,7 +25,7 @@ use Rattle.slot.proofs.Laws.{good-new, good-load, good-store, good-free, good-c
 use Rattle.slot.specs.Slot.{slotSize, headOf, withHead}
 use Rattle.slot.specs.Head.{freeHead, newHead, agedHead, within, goodHead, goodSlot, free}
 use Rattle.table.specs.State.{slots, stateSize, slotAt, withSlot, addressAt, find, good}
-use Rattle.table.specs.Calls.{done, startAnswer, startAfter, followAnswer, followAfter, leaveAnswer, leaveAfter, endAnswer, ages, endAfter}
+use Rattle.table.specs.Calls.{startAnswer, startAfter, followAnswer, followAfter, leaveAnswer, leaveAfter, endAnswer, ages, endAfter}
 use Rattle.table.proofs.Looking.{Passed, past-state}
 use Rattle.table.proofs.States.{Good, good-each, each-good, find-has, slot-length, with-length, good-followed, good-left, good-change, address-is}
 
@@ -127,7 +128,7 @@ leave-good s a g =
 -- ---- the end of a subframe
 
 -- a slot aged is good, and keeps its address
-aged-slot : (b : List ℕ) → length b ≡ slotSize → goodSlot b ≡ true
+pub aged-slot : (b : List ℕ) → length b ≡ slotSize → goodSlot b ≡ true
     → (goodSlot (withHead (agedHead (headOf b)) b) ≡ true) × (headOf (withHead (agedHead (headOf b)) b) .address ≡ headOf b .address)
 aged-slot b l g = go (good-cases b g)
   where
@@ -143,7 +144,7 @@ aged-slot b l g = go (good-cases b g)
         ∙ store-load b l (λ k. subst (λ (x : ℕ). x < 256) (sym (ap (λ (x : List ℕ). getD x k 0) e ∙ blank-at (length b) k)) (omega arith)) in
         (ap goodSlot same ∙ g, ap (λ (x : List ℕ). headOf x .address) same)
 
-ages-good : (n k : ℕ) (s : List ℕ) → n + k ≤ slots → length s ≡ stateSize → Good s → Good (ages n k s)
+pub ages-good : (n k : ℕ) (s : List ℕ) → n + k ≤ slots → length s ≡ stateSize → Good s → Good (ages n k s)
 unfolding ages
 ages-good zero k s h l g = g
 ages-good (suc n) k s h l g =

@@ -24,10 +24,10 @@ use Rattle.bits.specs.Search.{first, all}
 use Rattle.bits.proofs.Rows.{refusal-hit, refusal-miss, refusal-passed, refusal-none}
 use Rattle.slot.specs.Part.{part}
 use Rattle.slot.specs.Slot.{slotSize, wholeAt, headOf}
-use Rattle.slot.specs.Head.{within, free, goodSlot}
+use Rattle.slot.specs.Head.{within, free, goodSlot, shown}
 use Rattle.slot.specs.declared.Head.{Head}
 use Rattle.table.specs.State.{slots, stateSize, slotAt, addressAt, find, goodAt, good}
-use Rattle.table.specs.Calls.{stateRows, endAnswer, followAnswer, leaveAnswer, shown, askedAt, groupLength}
+use Rattle.table.specs.Calls.{stateRows, endAnswer, followAnswer, leaveAnswer, askedAt, groupLength}
 use Rattle.table.proofs.States.{free-address, used-address, has}
 
 pub slot-part : (k : ℕ) (s : List ℕ) → take (k * 736 + 736 - k * 736) (drop (k * 736) s) ≡ slotAt k s

@@ -1,12 +1,10 @@
 -- The calls on the state, each as two functions of what was lent: its answer, and the bytes after (document 01, sections 3,
 -- 5 and 6). A refused call changes nothing.
 --
---   done answer after before    the bytes after a call: changed where it is accepted, otherwise as they were
 --   startAnswer, startAfter     20
 --   followAnswer, followAfter   20, 34, 22, 23, 24, 25, 26
 --   leaveAnswer, leaveAfter     20, 34, 22, 27
 --   endAnswer, endAfter         20, 34: the end of a subframe
---   shown h                     what ask says of a followed address: 4, 7, 6, 5 in this order
 --   asked s a                   ask's answer (20, 34, 22, 27 before), and where the group stands in the state
 --   boardNumber, boardText      ask's number; the stored group where that is 5, otherwise the whole notice
 use mathlib.Core.Bool.{cond, not}
@@ -15,17 +13,13 @@ use Prim.Native.Nat.{ℕ, zero, suc, _+_, _*_}
 use lib.Dec.{leb, ltb, eqb}
 use lib.ListN.{length}
 use Rattle.bits.specs.Bits.{blank}
-use Rattle.bits.specs.Rows.{Row, row, refusal}
+use Rattle.bits.specs.Rows.{Row, row, refusal, done}
 use Rattle.slot.specs.Part.{part}
 use Rattle.slot.specs.Slot.{slotSize, wholeAt, headOf, withHead}
-use Rattle.slot.specs.Head.{newHead, agedHead, within}
+use Rattle.slot.specs.Head.{newHead, agedHead, within, shown}
 use Rattle.slot.specs.declared.Head.{Head}
 use Rattle.table.specs.State.{slots, stateSize, slotAt, withSlot, find, good}
 use Rattle.table.specs.declared.Asked.{Asked}
-
-unfoldable pub done : ℕ → List ℕ → List ℕ → List ℕ
-done zero after before = after
-done (suc number) after before = before
 
 -- 20: state not 11,776; 34: state not good; then the call's own rows
 abbrev pub stateRows : List ℕ → List Row → List Row
@@ -79,11 +73,7 @@ ages (suc n) k s = ages n (suc k) (withSlot k (withHead (agedHead (headOf (slotA
 unfoldable pub endAfter : List ℕ → List ℕ
 endAfter s = done (endAnswer s) (ages slots 0 s) s
 
--- ---- ask: "4 nothing yet; otherwise 7 stale if the age is the limit or more; otherwise 6 doubtful if a gap is marked;
--- otherwise 5 fresh. Answers 5 to 7 come with the part of the state that holds the group, at its true length"
-
-unfoldable pub shown : Head → ℕ
-shown h = cond (eqb (h .group) 0) 4 (cond (leb (h .limit) (h .age)) 7 (cond (eqb (h .gap) 1) 6 5))
+-- ---- ask, by `shown`: "Answers 5 to 7 come with the part of the state that holds the group, at its true length"
 
 -- 360 bytes plain, 180 protected
 unfoldable pub groupLength : Head → ℕ

@@ -4,10 +4,10 @@
 // look     what the state is asked before a change: heads, the slot of an address, whether it is good
 ghost use mathlib.Core.Path.{_≡_};
 ghost use lib.ListN.{length};
-ghost use Rattle.bits.specs.Bits.{blank};
 ghost use Rattle.table.specs.Calls.{startAnswer, startAfter, followAnswer, followAfter, leaveAnswer, leaveAfter, endAnswer, endAfter, ages, asked, askPart, boardText};
 use slot::Head;
 use slot::Slot;
+use slot::room;
 
 pub mod look;
 
@@ -53,7 +53,7 @@ pub fn start(state: &mut [u8]) -> u8
     if state.len() != Table::SIZE {
         return 20;
     }
-    clear(state);
+    room::clear(state);
     0
 }
 
@@ -85,7 +85,7 @@ pub fn leave(state: &mut [u8], address: u32) -> u8
     }
     let k = look::find(state, address);
     let at = k * Slot::SIZE;
-    clear(&mut state[at..at + Slot::SIZE]);
+    room::clear(&mut state[at..at + Slot::SIZE]);
     0
 }
 
@@ -143,17 +143,6 @@ pub fn board_text<'a>(state: &'a [u8], address: u32, notice: &'a [u8], number: &
     let at = shown.at;
     let end = at + shown.len;
     &state[at..end]
-}
-
-// Every byte 0.
-fn clear(bytes: &mut [u8])
-    ensures { λ _. ⌜ now (bytes .exit) ≡ blank (length (now (bytes .entry))) ⌝ }
-{
-    let mut k: usize = 0;
-    while k < bytes.len() {
-        bytes[k] = 0;
-        k += 1;
-    }
 }
 
 // Every slot's head aged.

@@ -17,7 +17,7 @@ const SUFFIX_BITS: usize = 11;
 const WORD23_BITS: usize = INFORMATION_BITS + SUFFIX_BITS;
 const WORD24_BITS: usize = WORD23_BITS + 1;
 /// Both codes put right up to three flips.
-const MOST_FLIPS: u8 = 3;
+const MOST_FLIPS: u32 = 3;
 
 /// The header word of twelve information bits: M(x) = x^11 m(x) + r(x).
 pub fn word23(information: u32) -> u32 {
@@ -46,12 +46,12 @@ fn generator() -> Vec<bool> {
     powers.map(|power| GENERATOR.contains(&power)).collect()
 }
 
-/// Reads a header as the word nearest to it: (number, address, index, flips).
+/// Reads a header as the word within three flips; there always is one: (number, address, index, flips).
 pub fn read_header(n: u32) -> (u8, u16, u8, u8) {
     if !fits(n, WORD23_BITS) {
         return (TOO_LARGE, 0, 0, 0);
     }
-    let (information, flips) = nearest(words23(), n);
+    let (information, flips) = near(words23(), n).expect("each number is near to a word");
     let row = bits::of_number(information, INFORMATION_BITS);
     let (address, index) = row.split_at(ADDRESS_BITS);
     let address = bits::to_number(address) as u16;
@@ -74,11 +74,10 @@ pub fn read_word(n: u32) -> (u8, u16, u8) {
     if !fits(n, WORD24_BITS) {
         return (TOO_LARGE, 0, 0);
     }
-    let (information, flips) = nearest(words24(), n);
-    if flips > MOST_FLIPS {
-        return (WORD_UNREADABLE, 0, 0);
+    match near(words24(), n) {
+        Some((information, flips)) => (DONE, information as u16, flips),
+        None => (WORD_UNREADABLE, 0, 0),
     }
-    (DONE, information as u16, flips)
 }
 
 /// The (24,12) word of an information: (number, word).
@@ -93,14 +92,11 @@ fn fits(n: u32, count: usize) -> bool {
     n >> count == 0
 }
 
-/// The information of the word with the fewest flips from `n`, and these flips.
-fn nearest(words: &[u32], n: u32) -> (u32, u8) {
+/// The information of the word within three flips of `n`, and these flips. No two words are as near as that to one number.
+fn near(words: &[u32], n: u32) -> Option<(u32, u8)> {
     let flips = |word: u32| (word ^ n).count_ones();
-    let all = (0u32..).zip(words);
-    let (information, &word) = all
-        .min_by_key(|&(_, &word)| flips(word))
-        .expect("there are words");
-    (information, flips(word) as u8)
+    let information = words.iter().position(|&word| flips(word) <= MOST_FLIPS)?;
+    Some((information as u32, flips(words[information]) as u8))
 }
 
 /// All header words by their information. Kept, because every reading looks at all of them.

@@ -7,8 +7,8 @@ use native.Mathlib.Nat.{zero-add}
 use lib.ListN.{length}
 use lib.Seq.{paste, paste-zero}
 use Rattle.bits.specs.Bits.{blank}
-use Rattle.bits.proofs.Storing.{blank-length}
-use Rattle.packet.proofs.Copying.{copied, copied-length, room-filled}
+use Rattle.bits.proofs.Storing.{blank-length, copied, copied-length}
+use Rattle.packet.proofs.Copying.{room-filled}
 use Rattle.packet.proofs.part.Statement.{statement}
 use Rattle.packet.proofs.part.Tie as tie
 

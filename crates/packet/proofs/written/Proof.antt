@@ -9,8 +9,8 @@ use lib.Seq.{paste, paste-zero}
 use Rattle.bits.specs.Bits.{blank}
 use Rattle.golay.proofs.Words.{word23-lt}
 use Rattle.image.specs.Image.{imageOf}
-use Rattle.bits.proofs.Storing.{blank-length}
-use Rattle.packet.proofs.Copying.{copied, copied-length, behind-first}
+use Rattle.bits.proofs.Storing.{blank-length, copied, copied-length}
+use Rattle.packet.proofs.Copying.{behind-first}
 use Rattle.packet.specs.Received.{written}
 use lib.Dec.{lit<}
 use Rattle.packet.proofs.written.Statement.{statement}

@@ -1,6 +1,10 @@
 //! The rival for measuring: the same readings as a practised programmer would write them, with tables and shifts.
 
+mod group;
+mod state;
 mod tables;
+
+pub use group::{packet, write_group};
 
 use crate::image::{IMAGE, PROTECTED, USEFUL};
 use crate::numbers::{DONE, LENGTH, TOO_LARGE, WORD_UNREADABLE};
@@ -38,8 +42,7 @@ pub fn received(protected: bool, image: &[u8], bytes: &mut [u8; USEFUL]) -> (u8,
     let Ok(image) = <&[u8; IMAGE]>::try_from(image) else {
         return refused(LENGTH, 0, bytes);
     };
-    let kind = image[2] >> 7 | image[3] << 1;
-    let number = TYPE_NUMBERS[usize::from(kind)];
+    let number = type_number(image);
     if number != DONE {
         return refused(number, 0, bytes);
     }
@@ -48,9 +51,21 @@ pub fn received(protected: bool, image: &[u8], bytes: &mut [u8; USEFUL]) -> (u8,
     } else if let Some(place) = take_protected(image, bytes) {
         return refused(WORD_UNREADABLE, place, bytes);
     }
+    let (_, index) = header(image);
+    (DONE, 0, index as u8)
+}
+
+/// Address and index.
+fn header(image: &[u8; IMAGE]) -> (u32, usize) {
     let header = u32::from_le_bytes([image[0], image[1], image[2] & 0x7F, 0]);
     let (information, _) = correct23(header);
-    (DONE, 0, (information >> 10) as u8)
+    (information & 0x3FF, (information >> 10) as usize)
+}
+
+/// The number that the type byte is answered with.
+fn type_number(image: &[u8; IMAGE]) -> u8 {
+    let kind = image[2] >> 7 | image[3] << 1;
+    TYPE_NUMBERS[usize::from(kind)]
 }
 
 fn refused(number: u8, place: u8, bytes: &mut [u8; USEFUL]) -> (u8, u8, u8) {
@@ -64,9 +79,14 @@ fn take_plain(image: &[u8; IMAGE], bytes: &mut [u8; USEFUL]) {
     }
 }
 
-/// Two words give three bytes. Gives the place of the first word that cannot be read.
 fn take_protected(image: &[u8; IMAGE], bytes: &mut [u8; USEFUL]) -> Option<u8> {
-    let (data, rest) = bytes.split_at_mut(PROTECTED);
+    let (data, rest) = bytes.split_first_chunk_mut().expect("45 are less than 90");
+    rest.fill(0);
+    take_words(image, data)
+}
+
+/// Two words give three bytes. Gives the place of the first word that cannot be read.
+fn take_words(image: &[u8; IMAGE], data: &mut [u8; PROTECTED]) -> Option<u8> {
     for (pair, three) in data.chunks_exact_mut(3).enumerate() {
         let (low, low_flips) = correct24(word_at(image, 2 * pair));
         let (high, high_flips) = correct24(word_at(image, 2 * pair + 1));
@@ -79,7 +99,6 @@ fn take_protected(image: &[u8; IMAGE], bytes: &mut [u8; USEFUL]) -> Option<u8> {
         let both = low | high << 12;
         three.copy_from_slice(&both.to_le_bytes()[..3]);
     }
-    rest.fill(0);
     None
 }
 

@@ -18,6 +18,8 @@ pub const WEIGHT_SHIFT: u32 = 24;
 pub static CHECKS: [[u16; 256]; 3] = [checks(0), checks(8), checks(16)];
 /// For each remainder the one pattern of at most three flips that leaves it, with its weight.
 pub static PATTERNS: [u32; 2048] = patterns();
+/// The (24,12) word of each information.
+pub static WORDS: [u32; 4096] = words();
 /// The number that a type byte is answered with.
 pub static TYPE_NUMBERS: [u8; 256] = type_numbers();
 
@@ -69,6 +71,18 @@ const fn patterns() -> [u32; 2048] {
             b += 1;
         }
         a += 1;
+    }
+    table
+}
+
+const fn words() -> [u32; 4096] {
+    let mut table = [0; 4096];
+    let mut information = 0;
+    while information < 4096 {
+        let word = information | suffix(information) << 12;
+        let even = word.count_ones() & 1 ^ 1;
+        table[information as usize] = word | even << 23;
+        information += 1;
     }
     table
 }

@@ -1,4 +1,8 @@
-//! Images for differential tests: sound ones, damaged ones and noise, all made from a seed.
+//! Inputs for differential tests, all made from a seed: images here, sound ones, damaged ones and noise; states made by
+//! hand and calls in the folder.
+
+pub mod calls;
+pub mod states;
 
 use crate::image::{self, HEADER_AT, IMAGE, PROTECTED, TYPE_AT, USEFUL, USEFUL_AT, WORD};
 use crate::types::{DATA, TYPES};
@@ -7,6 +11,22 @@ use std::ops::Range;
 
 /// Words in the useful part of an image.
 pub const WORDS: usize = 30;
+
+/// How often a test goes round: as often as it says, or so many times that as PEER_TIMES says.
+pub fn rounds(usual: usize) -> usize {
+    let times = std::env::var("PEER_TIMES").unwrap_or("1".into());
+    usual * times.parse::<usize>().expect("PEER_TIMES is a number")
+}
+
+/// The first place where two rows of bytes differ. A state is too long to be printed.
+pub fn difference(one: &[u8], other: &[u8]) -> Option<usize> {
+    if one == other {
+        return None;
+    }
+    let both = one.iter().zip(other);
+    let same = both.take_while(|(a, b)| a == b).count();
+    Some(same)
+}
 
 /// Turns one bit of a row of bytes over.
 pub fn flip(bytes: &mut [u8], bit: usize) {

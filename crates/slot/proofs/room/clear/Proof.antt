@@ -1,13 +1,13 @@
--- `table::clear` meets its contract. The loop's invariant: the first k bytes are 0, the others as they were. Assumes nothing.
+-- `slot::room::clear` meets its contract. The loop's invariant: the first k bytes are 0, the others as they were. Assumes nothing.
 use mathlib.Core.Path.{_≡_, refl, ap, _∙_}
 use mathlib.Core.List.{List, _++_}
 use Prim.Native.Nat.{ℕ, _-_, _≤_}
 use native.Mathlib.Omega.{arith}
 use lib.ListN.{length, drop, set, replicate, length-set}
 use borrow.Author.Fill.{fill-none, fill-more}
-use Rattle.table.proofs.Doing.{cleared}
-use Rattle.table.proofs.clear.Statement.{statement}
-use Rattle.table.proofs.clear.Tie as tie
+use Rattle.slot.proofs.Rooms.{cleared}
+use Rattle.slot.proofs.room.clear.Statement.{statement}
+use Rattle.slot.proofs.room.clear.Tie as tie
 
 abbrev Inv-loop : tie.InvT-loop
 Inv-loop bytes₀ k₀ bytes k = (k ≤ length bytes₀) × (length bytes ≡ length bytes₀) × (bytes ≡ replicate k 0 ++ drop k bytes₀)

@@ -1,0 +1,173 @@
+-- The packet call's rows, and what its code does against their definitions.
+--
+--   image-20, image-state, image-21, image-0     the rows that need no slot, in the code's tests
+--   Sized, image-sized           where none of them holds, the image and the state have their lengths
+--   Placed                       an answer with the state after it, past those rows
+--   packet-refused, packet-placed     the answer with the bytes after, by the answer of those rows
+--   place-27, place-lt           27 by the code's test; where that fails, there is a slot of the address
+--   slot-served                  the answer with the state after, by what the lent slot answered
+--   reading-at                   the reading by the slot's protection
+--
+-- Assumes nothing.
+use mathlib.Core.Path.{_≡_, refl, sym, ap, ap₂, _∙_, subst}
+use mathlib.Core.Bool.{Bool, true, false, not, _&&_, _||_}
+use mathlib.Core.List.{List, [], _∷_, _++_}
+use Prim.Native.Nat.{ℕ, zero, suc, _*_, _<_}
+use native.Mathlib.Omega.{arith}
+use native.Mathlib.Decide.{decLt}
+use borrow.Author.Tests.{ltb-true, lt-ltb, le-ltb, eq-eqb, ne-eqb, eqb-true, not-false}
+use lib.Dec.{ltb, eqb}
+use lib.ListN.{length, take, drop}
+use Rattle.bits.specs.Rows.{Row, row, refusal, further, done}
+use Rattle.bits.proofs.Rows.{refusal-hit, refusal-miss, refusal-passed, refusal-none, further-refused, further-passed, done-refused, done-passed}
+use Rattle.bits.proofs.Search.{and-right}
+use Rattle.image.specs.Image.{spareOf}
+use Rattle.packet.specs.Received.{received}
+use Rattle.packet.specs.declared.Reading.{Reading}
+use Rattle.slot.specs.Slot.{slotSize, headOf}
+use Rattle.slot.specs.declared.Head.{Head}
+use Rattle.table.specs.State.{slots, stateSize, slotAt, find}
+use Rattle.table.specs.Calls.{stateRows, endAnswer}
+use Rattle.table.proofs.States.{find-le}
+use Rattle.table.proofs.Looking.{state-rest, state-refused, state-passed, past-state, slot-part}
+use Rattle.table.proofs.Doing.{span, slot-given}
+use Rattle.group.specs.Group.{takenNumber, takenAfter}
+use Rattle.adapter.specs.Calls.{addressOf, followed, imageRows, placeRow, unplaced, readingAt, slotAnswer, slotAfter, packetAnswer, packetAfter}
+
+-- ---- the rows that need no slot
+
+module _ (s image : List ℕ) where
+  abbrev answer : ℕ
+  answer = refusal (imageRows s image [])
+
+  pub image-20 : (length image ≡ 94 → ⊥) → 20 ≡ answer
+  image-20 ne = sym (refusal-hit (not (eqb (length image) 94)) 20 _ (ap not (ne-eqb (length image) 94 ne)))
+
+  module _ (l : length image ≡ 94) (r : ℕ) (e : r ≡ endAnswer s) where
+    past-20 : answer ≡ refusal (stateRows s (row (eqb (spareOf image) 1) 21 ∷ []))
+    past-20 = refusal-miss (not (eqb (length image) 94)) 20 _ (ap not (eq-eqb (length image) 94 l))
+
+    pub image-state : (r ≡ 0 → ⊥) → r ≡ answer
+    image-state ne = state-refused s (row (eqb (spareOf image) 1) 21 ∷ []) r e ne ∙ sym past-20
+
+    module _ (z : r ≡ 0) (n : ℕ) (q : n ≡ spareOf image) where
+      past-34 : answer ≡ refusal (row (eqb n 1) 21 ∷ [])
+      past-34 =
+          let ok = state-passed s (sym e ∙ z) in
+          past-20 ∙ state-rest s _ (ok .size) (ok .all-good) ∙ ap (λ (x : ℕ). refusal (row (eqb x 1) 21 ∷ [])) (sym q)
+
+      pub image-21 : n ≡ 1 → 21 ≡ answer
+      image-21 t = sym (past-34 ∙ refusal-hit (eqb n 1) 21 [] (eq-eqb n 1 t))
+
+      pub image-0 : (n ≡ 1 → ⊥) → 0 ≡ answer
+      image-0 t = sym (past-34 ∙ refusal-miss (eqb n 1) 21 [] (ne-eqb n 1 t) ∙ refusal-none)
+
+-- none of them holds
+pub record Sized (s image : List ℕ) : Type 0 where
+  pub image-size : length image ≡ 94
+  pub state-size : length s ≡ stateSize
+
+pub image-sized : (s image : List ℕ) (r : ℕ) → r ≡ refusal (imageRows s image []) → r ≡ 0 → Sized s image
+image-sized s image r e z =
+    let rest = row (eqb (spareOf image) 1) 21 ∷ [] in
+    let one = refusal-passed (not (eqb (length image) 94)) 20 (stateRows s rest) (omega arith) (sym e ∙ z) in
+    record {
+      image-size = eqb-true (length image) 94 (not-false (eqb (length image) 94) (one .0));
+      state-size = past-state s rest (one .1) .0 .size;
+    }
+
+-- they are refused first, and then the others
+rows-further : (a b c d : Bool) (rest : List Row)
+    → refusal (row a 20 ∷ row b 20 ∷ row c 34 ∷ row d 21 ∷ rest)
+    ≡ further (refusal (row a 20 ∷ row b 20 ∷ row c 34 ∷ row d 21 ∷ [])) (refusal rest)
+unfolding refusal further
+rows-further true b c d rest = refl
+rows-further false true c d rest = refl
+rows-further false false true d rest = refl
+rows-further false false false true rest = refl
+rows-further false false false false rest = refl
+
+-- an answer with the state after it, by the row of 27 and the slot
+abbrev pub Placed : List ℕ → List ℕ → ℕ → List ℕ → Type 0
+Placed s image n t =
+    (n ≡ further (refusal (placeRow s image)) (slotAnswer s image)) × (t ≡ done (refusal (placeRow s image)) (slotAfter s image) s)
+
+module _ (s image : List ℕ) (r : ℕ) (e : r ≡ refusal (imageRows s image [])) where
+  unplaced-further : unplaced s image ≡ further r (refusal (placeRow s image))
+  unfolding unplaced
+  unplaced-further = rows-further _ _ _ _ (placeRow s image) ∙ ap (λ (n : ℕ). further n (refusal (placeRow s image))) (sym e)
+
+  pub packet-refused : (r ≡ 0 → ⊥) → (r ≡ packetAnswer s image) × (s ≡ packetAfter s image)
+  unfolding packetAnswer packetAfter
+  packet-refused ne =
+      let same : r ≡ unplaced s image = sym (unplaced-further ∙ further-refused r _ ne) in (
+        same ∙ sym (further-refused (unplaced s image) (slotAnswer s image) (λ z. ne (same ∙ z))),
+        sym (done-refused (unplaced s image) (slotAfter s image) s (λ z. ne (same ∙ z))),
+      )
+
+  pub packet-placed : (n : ℕ) (t : List ℕ) → r ≡ 0 → Placed s image n t
+      → (n ≡ packetAnswer s image) × (t ≡ packetAfter s image)
+  unfolding packetAnswer packetAfter
+  packet-placed n t z q =
+      let same : refusal (placeRow s image) ≡ unplaced s image = sym (unplaced-further ∙ further-passed r _ z) in (
+        q .0 ∙ ap (λ (x : ℕ). further x (slotAnswer s image)) same,
+        q .1 ∙ ap (λ (x : ℕ). done x (slotAfter s image) s) same,
+      )
+
+-- ---- 27, by an address and what was found of it
+
+no-place : (s : List ℕ) (a : ℕ) → (eqb a 0 || eqb (find s a) slots) ≡ not (followed s a)
+unfolding followed
+no-place s zero = refl
+no-place s (suc a) =
+    ap₂ (λ (x y : Bool). x || y) (ne-eqb (suc a) 0 (λ q. omega (arith, q))) (go (decLt (find s (suc a)) slots))
+    ∙ sym (ap (λ (x : Bool). not (x && ltb (find s (suc a)) slots)) (lt-ltb 0 (suc a) (omega arith)))
+  where
+    go : Dec (find s (suc a) < slots) → eqb (find s (suc a)) slots ≡ not (ltb (find s (suc a)) slots)
+    go (yes h) = ne-eqb (find s (suc a)) slots (λ q. omega (arith, q)) ∙ sym (ap not (lt-ltb (find s (suc a)) slots h))
+    go (no h) =
+        eq-eqb (find s (suc a)) slots (omega (arith, find-le s (suc a)))
+        ∙ sym (ap not (le-ltb (find s (suc a)) slots (omega arith)))
+
+module _ (s image : List ℕ) (a k : ℕ) (ea : a ≡ addressOf image) (ek : k ≡ find s a) where
+  test : (eqb a 0 || eqb k slots) ≡ not (followed s (addressOf image))
+  test = ap (λ (x : ℕ). eqb a 0 || eqb x slots) ek ∙ no-place s a ∙ ap (λ (x : ℕ). not (followed s x)) ea
+
+  pub place-27 : (eqb a 0 || eqb k slots) ≡ true → Placed s image 27 s
+  unfolding further done
+  place-27 t =
+      let hit : 27 ≡ refusal (placeRow s image) = sym (refusal-hit (not (followed s (addressOf image))) 27 [] (sym test ∙ t)) in
+      (ap (λ (x : ℕ). further x (slotAnswer s image)) hit, ap (λ (x : ℕ). done x (slotAfter s image) s) hit)
+
+  pub place-lt : (eqb a 0 || eqb k slots) ≡ false → k < slots
+  unfolding followed
+  place-lt t =
+      subst (λ (x : ℕ). x < slots) (sym (ek ∙ ap (find s) ea))
+      (ltb-true (find s (addressOf image)) slots
+      (and-right (ltb 0 (addressOf image)) _ (not-false (followed s (addressOf image)) (sym test ∙ t))))
+
+  place-found : (eqb a 0 || eqb k slots) ≡ false → refusal (placeRow s image) ≡ 0
+  place-found t = refusal-miss (not (followed s (addressOf image))) 27 [] (sym test ∙ t) ∙ refusal-none
+
+  -- the slot was lent and came back
+  pub slot-served : (n : ℕ) (b : List ℕ) → (eqb a 0 || eqb k slots) ≡ false
+      → let x = take (span (k * slotSize)) (drop (k * slotSize) s) in
+      (n ≡ takenNumber (readingAt x image) (headOf x)) × (b ≡ takenAfter (readingAt x image) x)
+      → Placed s image n (take (k * slotSize) s ++ (b ++ drop (span (k * slotSize)) (drop (k * slotSize) s)))
+  unfolding slotAnswer slotAfter
+  slot-served n b t q =
+      let j : k ≡ find s (addressOf image) = ek ∙ ap (find s) ea in
+      let x : take (span (k * slotSize)) (drop (k * slotSize) s) ≡ slotAt (find s (addressOf image)) s =
+      slot-part k s ∙ ap (λ (i : ℕ). slotAt i s) j in (
+        q .0 ∙ ap (λ (y : List ℕ). takenNumber (readingAt y image) (headOf y)) x
+            ∙ sym (further-passed (refusal (placeRow s image)) _ (place-found t)),
+        slot-given (λ (y : List ℕ). takenAfter (readingAt y image) y) k _ s b j (q .1)
+            ∙ sym (done-passed (refusal (placeRow s image)) _ s (place-found t)),
+      )
+
+-- ---- the reading by the slot's protection
+
+pub reading-at : (h : Head) (x image : List ℕ) (r : Reading) → h ≡ headOf x
+    → r ≡ received (eqb (h .protection) 1) image → r ≡ readingAt x image
+unfolding readingAt
+reading-at h x image r e q = q ∙ ap (λ (y : Head). received (eqb (y .protection) 1) image) e

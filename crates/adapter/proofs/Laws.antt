@@ -1,0 +1,83 @@
+-- Laws of the packet call's rows.
+--
+--   followed-both, both-followed     followed: an address above 0 that a slot has
+--   Placed s image                   no row of 20, 34, 21 and 27 holds
+--   placed, placed-zero              exactly then nothing is refused before the slot is asked
+--   lost-refused                     20 or 21 where the image is not 94 bytes or its spare bit is set
+--   packet-refused, packet-placed    the call's answer with the state after it, by these rows
+--
+-- Assumes nothing.
+use mathlib.Core.Path.{_≡_, refl, sym, ap, ap₂, _∙_}
+use mathlib.Core.Bool.{Bool, true, false, not, _&&_}
+use mathlib.Core.List.{List, [], _∷_}
+use mathlib.Core.Logic.{_⊎_, inl, inr}
+use Prim.Native.Nat.{ℕ, _<_}
+use native.Mathlib.Omega.{arith}
+use native.Mathlib.Decide.{ℕ-discrete}
+use borrow.Author.Tests.{not-false, eqb-true, eq-eqb, ne-eqb, lt-ltb, ltb-true}
+use lib.Dec.{ltb, eqb}
+use lib.ListN.{length}
+use Rattle.bits.specs.Rows.{row, refusal}
+use Rattle.bits.proofs.Rows.{refusal-hit, refusal-miss, refusal-passed, refusal-none, further-refused, further-passed, done-refused, done-passed}
+use Rattle.bits.proofs.Search.{and-left, and-right}
+use Rattle.image.specs.Image.{spareOf}
+use Rattle.table.specs.State.{stateSize, slots, find, good}
+use Rattle.table.proofs.Looking.{Passed, past-state, state-rest}
+use Rattle.adapter.specs.Calls.{addressOf, followed, placeRow, unplaced, slotAnswer, slotAfter, packetAnswer, packetAfter}
+
+pub followed-both : (s : List ℕ) (a : ℕ) → followed s a ≡ true → (0 < a) × (find s a < slots)
+unfolding followed
+followed-both s a e = (ltb-true 0 a (and-left (ltb 0 a) _ e), ltb-true (find s a) slots (and-right (ltb 0 a) _ e))
+
+pub both-followed : (s : List ℕ) (a : ℕ) → 0 < a → find s a < slots → followed s a ≡ true
+unfolding followed
+both-followed s a h k = ap₂ _&&_ (lt-ltb 0 a h) (lt-ltb (find s a) slots k)
+
+pub record Placed (s image : List ℕ) : Type 0 where
+  pub size : length image ≡ 94
+  pub state : Passed s
+  pub spare : eqb (spareOf image) 1 ≡ false
+  pub place : followed s (addressOf image) ≡ true
+
+pub placed : (s image : List ℕ) → unplaced s image ≡ 0 → Placed s image
+unfolding unplaced
+placed s image e =
+    let r20 = refusal-passed (not (eqb (length image) 94)) 20 _ (omega arith) e in
+    let rest = past-state s _ (r20 .1) in
+    let r21 = refusal-passed (eqb (spareOf image) 1) 21 _ (omega arith) (rest .1) in
+    let r27 = refusal-passed (not (followed s (addressOf image))) 27 [] (omega arith) (r21 .1) in
+    record {
+      size = eqb-true (length image) 94 (not-false (eqb (length image) 94) (r20 .0));
+      state = rest .0;
+      spare = r21 .0;
+      place = not-false (followed s (addressOf image)) (r27 .0);
+    }
+
+-- past the rows of lengths and of the state
+past : (s image : List ℕ) → length image ≡ 94 → Passed s → unplaced s image ≡ refusal (row (eqb (spareOf image) 1) 21 ∷ placeRow s image)
+unfolding unplaced
+past s image l p =
+    refusal-miss (not (eqb (length image) 94)) 20 _ (ap not (eq-eqb (length image) 94 l)) ∙ state-rest s _ (p .size) (p .all-good)
+
+pub placed-zero : (s image : List ℕ) → Placed s image → unplaced s image ≡ 0
+placed-zero s image p =
+    past s image (p .size) (p .state) ∙ refusal-miss (eqb (spareOf image) 1) 21 _ (p .spare)
+    ∙ refusal-miss (not (followed s (addressOf image))) 27 [] (ap not (p .place)) ∙ refusal-none
+
+pub lost-refused : (s image : List ℕ) → Passed s → (length image ≡ 94 → ⊥) ⊎ (spareOf image ≡ 1) → (unplaced s image ≡ 20) ⊎ (unplaced s image ≡ 21)
+unfolding unplaced
+lost-refused s image p (inl ne) = inl (refusal-hit (not (eqb (length image) 94)) 20 _ (ap not (ne-eqb (length image) 94 ne)))
+lost-refused s image p (inr e) = go (ℕ-discrete (length image) 94)
+  where
+    go : Dec (length image ≡ 94) → (unplaced s image ≡ 20) ⊎ (unplaced s image ≡ 21)
+    go (no ne) = inl (refusal-hit (not (eqb (length image) 94)) 20 _ (ap not (ne-eqb (length image) 94 ne)))
+    go (yes l) = inr (past s image l p ∙ refusal-hit (eqb (spareOf image) 1) 21 _ (eq-eqb (spareOf image) 1 e))
+
+module _ (s image : List ℕ) where
+  pub packet-refused : (unplaced s image ≡ 0 → ⊥) → (packetAnswer s image ≡ unplaced s image) × (packetAfter s image ≡ s)
+  unfolding packetAnswer packetAfter
+  packet-refused ne = (further-refused (unplaced s image) _ ne, done-refused (unplaced s image) _ s ne)
+
+  pub packet-placed : unplaced s image ≡ 0 → (packetAnswer s image ≡ slotAnswer s image) × (packetAfter s image ≡ slotAfter s image)
+  unfolding packetAnswer packetAfter
+  packet-placed e = (further-passed (unplaced s image) _ e, done-passed (unplaced s image) _ s e)

@@ -1,0 +1,3 @@
+pub mod Arriving
+pub mod Laws
+pub mod Writing

@@ -1,0 +1,96 @@
+-- The packet call and the group writer (document 01, sections 4 and 6), each as two functions of what was lent: its answer,
+-- and the bytes after.
+--
+--   addressOf image          the address that its header is read with
+--   followed s a             a slot of the state follows the address
+--   unplaced s image         20, 34, 21, which need no slot, and 27
+--   readingAt x image        what an image is received as where its slot has the bytes x
+--   slotAnswer, slotAfter    what the slot of its address answers, and the state with that slot after
+--   packetAnswer, packetAfter
+--   groupSize p              the message of a group: 360 bytes plain, 180 protected
+--   groupImages p a m        its four images, indices 0 to 3
+--   writeAnswer, writeAfter  22, 23, 20
+use mathlib.Core.Bool.{Bool, true, false, not, _&&_}
+use mathlib.Core.List.{List, [], _∷_, _++_}
+use Prim.Native.Nat.{ℕ, _*_}
+use lib.Dec.{ltb, eqb}
+use lib.ListN.{length}
+use Rattle.bits.specs.Rows.{Row, row, refusal, further, done}
+use Rattle.bare.specs.Bare.{headerRead}
+use Rattle.image.specs.Image.{headerOf, spareOf}
+use Rattle.packet.specs.Received.{received}
+use Rattle.packet.specs.Damage.{dataSize, sentImage}
+use Rattle.packet.specs.declared.Reading.{Reading}
+use Rattle.slot.specs.Part.{part}
+use Rattle.slot.specs.Slot.{headOf}
+use Rattle.slot.specs.Head.{within}
+use Rattle.table.specs.State.{slots, slotAt, withSlot, find}
+use Rattle.table.specs.Calls.{stateRows}
+use Rattle.group.specs.Group.{takenNumber, takenAfter}
+
+-- ---- packet: 20, 34, 21, 27, 28, 29, 30, 31, 32
+
+unfoldable pub addressOf : List ℕ → ℕ
+addressOf image = headerRead (headerOf image) .address
+
+-- a free slot has address 0, which is never followed
+unfoldable pub followed : List ℕ → ℕ → Bool
+followed s a = ltb 0 a && ltb (find s a) slots
+
+-- the rows that need no slot, and then others
+abbrev pub imageRows : List ℕ → List ℕ → List Row → List Row
+imageRows s image rest = row (not (eqb (length image) 94)) 20 ∷ stateRows s (row (eqb (spareOf image) 1) 21 ∷ rest)
+
+abbrev pub placeRow : List ℕ → List ℕ → List Row
+placeRow s image = row (not (followed s (addressOf image))) 27 ∷ []
+
+unfoldable pub unplaced : List ℕ → List ℕ → ℕ
+unplaced s image = refusal (imageRows s image (placeRow s image))
+
+unfoldable pub readingAt : List ℕ → List ℕ → Reading
+readingAt x image = received (eqb (headOf x .protection) 1) image
+
+-- what the slot of the address answers, and the state with it after
+unfoldable pub slotAnswer : List ℕ → List ℕ → ℕ
+slotAnswer s image =
+    let x = slotAt (find s (addressOf image)) s in
+    takenNumber (readingAt x image) (headOf x)
+
+unfoldable pub slotAfter : List ℕ → List ℕ → List ℕ
+slotAfter s image =
+    let k = find s (addressOf image) in
+    withSlot k (takenAfter (readingAt (slotAt k s) image) (slotAt k s)) s
+
+unfoldable pub packetAnswer : List ℕ → List ℕ → ℕ
+packetAnswer s image = further (unplaced s image) (slotAnswer s image)
+
+unfoldable pub packetAfter : List ℕ → List ℕ → List ℕ
+packetAfter s image = done (unplaced s image) (slotAfter s image) s
+
+-- ---- write group
+
+abbrev pub groupSize : Bool → ℕ
+groupSize p = 4 * dataSize p
+
+abbrev pub imagesSize : ℕ
+imagesSize = 376
+
+unfoldable pub packetOf : Bool → ℕ → List ℕ → ℕ → List ℕ
+packetOf p a m i = sentImage p a i (part (i * dataSize p) (dataSize p) m)
+
+unfoldable pub groupImages : Bool → ℕ → List ℕ → List ℕ
+groupImages p a m = packetOf p a m 0 ++ (packetOf p a m 1 ++ (packetOf p a m 2 ++ packetOf p a m 3))
+
+-- by the lengths of the message and of the output
+unfoldable pub writeAnswer : ℕ → ℕ → ℕ → ℕ → ℕ
+writeAnswer address protection message output =
+    refusal
+    (row (not (within 1 1022 address)) 22
+    ∷ row (ltb 1 protection) 23
+    ∷ row (not (eqb message (groupSize (eqb protection 1)))) 20
+    ∷ row (not (eqb output imagesSize)) 20
+    ∷ [])
+
+unfoldable pub writeAfter : ℕ → ℕ → List ℕ → List ℕ → List ℕ
+writeAfter address protection message output =
+    done (writeAnswer address protection (length message) (length output)) (groupImages (eqb protection 1) address message) output

@@ -1,0 +1,89 @@
+// The packet call and the group writer. No call has a `requires`: every slice and every number is answered.
+//
+// write    the four images of a group
+ghost use mathlib.Core.Path.{_≡_};
+ghost use mathlib.Core.List.{[]};
+ghost use lib.ListN.{length};
+ghost use Rattle.bits.specs.Rows.{refusal, further, done};
+ghost use Rattle.bare.specs.Bare.{headerRead};
+ghost use Rattle.golay.specs.Code.{Lent};
+ghost use Rattle.image.specs.Image.{headerOf};
+ghost use Rattle.slot.specs.Slot.{headOf};
+ghost use Rattle.group.specs.Group.{takenNumber, takenAfter};
+ghost use Rattle.adapter.specs.Calls.{readingAt, slotAnswer, slotAfter, packetAnswer, packetAfter, imageRows, placeRow};
+use bare::Header;
+use image::Packet;
+use slot::Head;
+use slot::Slot;
+use table::Table;
+use table::look;
+
+pub mod write;
+
+// One image: 20, 34, 21, 27, 28, 29, 30, 31, 32, or 1 started, 2 held, 3 whole. The table of patterns is set up once at
+// most, for a damaged header and for the words after it.
+pub fn packet(state: &mut [u8], image: &[u8]) -> u8
+    ensures { λ r. ⌜ r ≡ packetAnswer (now (state .entry)) (now (image .entry)) ⌝ }
+    ensures { λ _. ⌜ now (state .exit) ≡ packetAfter (now (state .entry)) (now (image .entry)) ⌝ }
+{
+    let refused = checked(state, image);
+    if refused != 0 {
+        return refused;
+    }
+    let checks = lookup::checks();
+    let n = image::header(image);
+    if bare::code::remainder(&checks, n) == 0 {
+        let none = [0u32; 1];
+        return arrived(state, &none[..0], bare::header_of(n, n), image);
+    }
+    let patterns = lookup::patterns();
+    let word = bare::code::corrected(&checks, &patterns, n);
+    arrived(state, &patterns, bare::header_of(n, word), image)
+}
+
+// The rows that need no slot: 20, 34, 21.
+fn checked(state: &[u8], image: &[u8]) -> u8
+    ensures { λ r. ⌜ r ≡ refusal (imageRows (now (state .entry)) (now (image .entry)) []) ⌝ }
+{
+    if image.len() != Packet::IMAGE {
+        return 20;
+    }
+    let refused = look::checked(state);
+    if refused != 0 {
+        return refused;
+    }
+    if image::spare(image) == 1 { 21 } else { 0 }
+}
+
+// 27, or what the slot of the address answers.
+fn arrived(state: &mut [u8], patterns: &[u32], header: Header, image: &[u8]) -> u8
+    requires { ⌜ length (now state) ≡ 11776 ⌝ }
+    requires { ⌜ Lent (now patterns) ⌝ }
+    requires { ⌜ header ≡ headerRead (headerOf (now image)) ⌝ }
+    requires { ⌜ length (now image) ≡ 94 ⌝ }
+    ensures { λ r. ⌜ r ≡ further (refusal (placeRow (now (state .entry)) (now (image .entry)))) (slotAnswer (now (state .entry)) (now (image .entry))) ⌝ }
+    ensures { λ _. ⌜ now (state .exit)
+        ≡ done (refusal (placeRow (now (state .entry)) (now (image .entry)))) (slotAfter (now (state .entry)) (now (image .entry))) (now (state .entry)) ⌝ }
+{
+    let address = header.address as u32;
+    let k = look::find(state, address);
+    if (address == 0) | (k == Table::SLOTS) {
+        return 27;
+    }
+    let at = k * Slot::SIZE;
+    served(&mut state[at..at + Slot::SIZE], patterns, header, image)
+}
+
+// What the slot of its address answers to an image: the one function on its bytes and what the image is received as.
+fn served(slot: &mut [u8], patterns: &[u32], header: Header, image: &[u8]) -> u8
+    requires { ⌜ length (now slot) ≡ 736 ⌝ }
+    requires { ⌜ Lent (now patterns) ⌝ }
+    requires { ⌜ header ≡ headerRead (headerOf (now image)) ⌝ }
+    requires { ⌜ length (now image) ≡ 94 ⌝ }
+    ensures { λ r. ⌜ r ≡ takenNumber (readingAt (now (slot .entry)) (now (image .entry))) (headOf (now (slot .entry))) ⌝ }
+    ensures { λ _. ⌜ now (slot .exit) ≡ takenAfter (readingAt (now (slot .entry)) (now (image .entry))) (now (slot .entry)) ⌝ }
+{
+    let head = Head::load(slot);
+    let reading = packet::received_by(patterns, header, head.protection == 1, image);
+    group::taken(slot, head, reading)
+}

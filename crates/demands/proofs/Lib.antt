@@ -1,0 +1,4 @@
+pub mod Acting
+pub mod Calling
+pub mod Serving
+pub mod View

@@ -1,0 +1,58 @@
+-- Demand 2, the read-back: "A group that we write and then read in order, at its address followed with the same protection, is
+-- the group that went in." With damage too: no more than the codes correct, three flips in each header, two in each type
+-- byte, three in each protected word.
+--
+--   Follows s a p     the state is good, and an address is followed with this protection
+--   imageAt o i       image i of what was written
+--   Sound p o i t     t came of image i with no more damage than that, its spare bit 0
+--   Demand2 m
+use mathlib.Core.Path.{_≡_}
+use mathlib.Core.Bool.{Bool, true}
+use mathlib.Core.List.{List, [], _∷_}
+use Prim.Native.Nat.{ℕ, _*_, _≤_, _<_}
+use lib.Dec.{eqb}
+use lib.ListN.{length}
+use Rattle.image.specs.Image.{spareOf}
+use Rattle.packet.specs.Damage.{Corrected}
+use Rattle.slot.specs.Part.{part}
+use Rattle.slot.specs.Slot.{headOf}
+use Rattle.table.specs.State.{stateSize, slots, slotAt, find, good}
+use Rattle.adapter.specs.Calls.{groupSize, imagesSize, followed}
+use Rattle.demands.specs.Machine.{Call, packet, ask, Machine, Bytes, run}
+
+pub record Follows (s : List ℕ) (a p : ℕ) : Type 0 where
+  pub size : length s ≡ stateSize
+  pub good : good s ≡ true
+  pub found : followed s a ≡ true
+  pub protection : headOf (slotAt (find s a) s) .protection ≡ p
+
+abbrev pub imageAt : List ℕ → ℕ → List ℕ
+imageAt o i = part (i * 94) 94 o
+
+pub record Sound (p : Bool) (o : List ℕ) (i : ℕ) (t : List ℕ) : Type 0 where
+  pub corrected : Corrected p (imageAt o i) t
+  pub spare : spareOf t ≡ 0
+
+-- the answers to four images in turn
+unfoldable pub answersTo : Machine → List (List ℕ) → List ℕ → List ℕ
+answersTo m [] s = []
+answersTo m (t ∷ ts) s = m .answer (packet t) s ∷ answersTo m ts (m .after (packet t) s)
+
+unfoldable pub packets : List (List ℕ) → List Call
+packets [] = []
+packets (t ∷ ts) = packet t ∷ packets ts
+
+pub record ReadBack (m : Machine) (s : List ℕ) (a : ℕ) (message : List ℕ) (ts : List (List ℕ)) : Type 0 where
+  pub answers : answersTo m ts s ≡ 1 ∷ 2 ∷ 2 ∷ 3 ∷ []
+  pub fresh : m .answer (ask a) (run m (packets ts) s) ≡ 5
+  pub group : m .shown a (run m (packets ts) s) ≡ message
+  pub others : (j : ℕ) → j < slots → (j ≡ find s a → ⊥) → slotAt j (run m (packets ts) s) ≡ slotAt j s
+
+pub record Demand2 (m : Machine) : Type 0 where
+  pub writes : (a p : ℕ) (message output : List ℕ) → 1 ≤ a → a ≤ 1022 → p ≤ 1 → length message ≡ groupSize (eqb p 1)
+      → length output ≡ imagesSize → m .writes a p message output ≡ 0
+  pub back : (s : List ℕ) (a p : ℕ) (message output t0 t1 t2 t3 : List ℕ) → Follows s a p → length message ≡ groupSize (eqb p 1)
+      → Bytes message → length output ≡ imagesSize
+      → Sound (eqb p 1) (m .written a p message output) 0 t0 → Sound (eqb p 1) (m .written a p message output) 1 t1
+      → Sound (eqb p 1) (m .written a p message output) 2 t2 → Sound (eqb p 1) (m .written a p message output) 3 t3
+      → ReadBack m s a message (t0 ∷ t1 ∷ t2 ∷ t3 ∷ [])

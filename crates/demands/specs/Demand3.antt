@@ -1,0 +1,133 @@
+-- Demand 3: "Follow an address with the protection it is sent with, and let it carry only whole groups of four data packets. Let
+-- these arrive in order, each at most once, no more than three lost in a row, no header at any address with more than three
+-- flipped bits, no protected word with more than four, and no flip in unprotected data. Then, from follow to leave or start,
+-- the groups handed out are exactly those sent groups whose four packets all arrived readable in that time, each once and in
+-- order, the first one after damage among them. The last of them is called fresh exactly while fewer subframes than its limit
+-- have ended since it was handed out and no gap has been marked since. Packets for other addresses alter none of this."
+--
+--   Stays a x              a call that neither leaves the address nor starts
+--   Carries p sent         what is sent are packets of 90 bytes, or of 45 protected ones
+--   Lost image             refused with 20 or 21: it counts as lost
+--   Happening              what came of packet c of group i, or any other call
+--   Channel p a sent n h   the words of the demand up to "Then", over what happens from packet n on
+--   Arrived p h i          all four packets of group i arrived readable: not refused with 20, 21 or 28 to 31
+--   handedOut m a h s      what ask shows of the address after each answer 3 to a packet read as it
+--   tells m a h s t        the transcript at the address: its answers and the subframe ends, the newest first
+--   Demand3 m
+use mathlib.Core.Path.{_≡_}
+use mathlib.Core.Bool.{Bool, false, cond, not, _&&_, _||_}
+use mathlib.Core.List.{List, [], _∷_}
+use mathlib.Core.Logic.{_⊎_}
+use Prim.Native.Nat.{ℕ, suc, _+_, _*_, _<_}
+use lib.Dec.{eqb}
+use lib.ListN.{length}
+use Rattle.image.specs.Image.{spareOf}
+use Rattle.packet.specs.Received.{received}
+use Rattle.packet.specs.Damage.{dataSize, sentImage, Came}
+use Rattle.table.specs.Calls.{followAnswer}
+use Rattle.history.specs.Sent.{Sent, Next, Exactly}
+use Rattle.history.specs.Transcript.{Entry, answered, subframe, called}
+use Rattle.adapter.specs.Calls.{addressOf}
+use Rattle.demands.specs.Machine.{Call, start, follow, leave, packet, subframeEnd, ask, Machine, Bytes, run}
+
+-- ---- from follow to leave or start
+
+unfoldable pub Stays : ℕ → Call → Type 0
+Stays a start = ⊥
+Stays a (follow b p l) = Unit {0}
+Stays a (leave b) = b ≡ a → ⊥
+Stays a (packet image) = Unit {0}
+Stays a subframeEnd = Unit {0}
+Stays a (ask b) = Unit {0}
+
+unfoldable pub AllStay : ℕ → List Call → Type 0
+AllStay a [] = Unit {0}
+AllStay a (x ∷ h) = Stays a x × AllStay a h
+
+-- ---- what is sent and what comes
+
+pub record Carries (p : Bool) (sent : Sent) : Type 0 where
+  pub size : (i c : ℕ) → c < 4 → length (sent i c) ≡ dataSize p
+  pub bytes : (i c : ℕ) → c < 4 → Bytes (sent i c)
+
+abbrev pub Lost : List ℕ → Type 0
+Lost image = (length image ≡ 94 → ⊥) ⊎ (spareOf image ≡ 1)
+
+pub data Happening : Type 0 where
+  -- group, index, image
+  arrives : ℕ → ℕ → List ℕ → Happening
+  call : Call → Happening
+
+unfoldable pub callOf : Happening → Call
+callOf (arrives i c image) = packet image
+callOf (call x) = x
+
+unfoldable pub calls : List Happening → List Call
+calls [] = []
+calls (x ∷ h) = callOf x ∷ calls h
+
+-- a packet that comes of none sent to the address is lost, or it is read as another one
+unfoldable pub Apart : ℕ → Call → Type 0
+Apart a start = ⊥
+Apart a (follow b p l) = Unit {0}
+Apart a (leave b) = b ≡ a → ⊥
+Apart a (packet image) = Lost image ⊎ (addressOf image ≡ a → ⊥)
+Apart a subframeEnd = Unit {0}
+Apart a (ask b) = Unit {0}
+
+pub record Comes (p : Bool) (a : ℕ) (sent : Sent) (n i c : ℕ) (image : List ℕ) : Type 0 where
+  pub next : Next 3 n i c
+  pub came : Came p (sentImage p a c (sent i c)) image
+  pub spare : spareOf image ≡ 0
+
+unfoldable pub Channel : Bool → ℕ → Sent → ℕ → List Happening → Type 0
+Channel p a sent n [] = Unit {0}
+Channel p a sent n (arrives i c image ∷ h) = Comes p a sent n i c image × Channel p a sent (suc (4 * i + c)) h
+Channel p a sent n (call x ∷ h) = Apart a x × Channel p a sent n h
+
+-- packet c of group i arrived readable
+unfoldable pub ReadableIn : Bool → ℕ → ℕ → List Happening → Type 0
+ReadableIn p i c [] = ⊥
+ReadableIn p i c (arrives j d image ∷ h) = ((j ≡ i) × (d ≡ c) × (received p image .number ≡ 0)) ⊎ ReadableIn p i c h
+ReadableIn p i c (call x ∷ h) = ReadableIn p i c h
+
+unfoldable pub Arrived : Bool → List Happening → ℕ → Type 0
+Arrived p h i = (c : ℕ) → c < 4 → ReadableIn p i c h
+
+-- ---- what is handed out, and what the answers tell
+
+unfoldable pub handsOut : ℕ → Call → ℕ → Bool
+handsOut a start n = false
+handsOut a (follow b p l) n = false
+handsOut a (leave b) n = false
+handsOut a (packet image) n = eqb (addressOf image) a && eqb n 3
+handsOut a subframeEnd n = false
+handsOut a (ask b) n = false
+
+unfoldable pub handedOut : Machine → ℕ → List Call → List ℕ → List (List ℕ)
+handedOut m a [] s = []
+handedOut m a (x ∷ h) s =
+    let t = m .after x s in
+    cond (handsOut a x (m .answer x s)) (m .shown a t ∷ handedOut m a h t) (handedOut m a h t)
+
+-- a packet refused with 20 or 21 is at no address
+unfoldable pub noted : ℕ → Call → ℕ → List Entry → List Entry
+noted a start n t = t
+noted a (follow b p l) n t = t
+noted a (leave b) n t = t
+noted a (packet image) n t = cond (eqb (addressOf image) a && not (eqb n 20 || eqb n 21)) (answered n ∷ t) t
+noted a subframeEnd n t = subframe ∷ t
+noted a (ask b) n t = t
+
+unfoldable pub tells : Machine → ℕ → List Call → List ℕ → List Entry → List Entry
+tells m a [] s t = t
+tells m a (x ∷ h) s t = tells m a h (m .after x s) (noted a x (m .answer x s) t)
+
+pub record Demand3 (m : Machine) : Type 0 where
+  -- where the rows of section 6 accept a follow, it is accepted
+  pub accepted : (s : List ℕ) (a p l : ℕ) → followAnswer s a p l ≡ 0 → m .answer (follow a p l) s ≡ 0
+  pub exactly : (s : List ℕ) (a p l : ℕ) → followAnswer s a p l ≡ 0 → (sent : Sent) → Carries (eqb p 1) sent → (n : ℕ) (h : List Happening)
+      → Channel (eqb p 1) a sent n h → Exactly sent (Arrived (eqb p 1) h) (handedOut m a (calls h) (m .after (follow a p l) s))
+  -- whatever the channel does
+  pub fresh : (s : List ℕ) (a p l : ℕ) → followAnswer s a p l ≡ 0 → (h : List Call) → AllStay a h
+      → let t = m .after (follow a p l) s in m .answer (ask a) (run m h t) ≡ called l (tells m a h t [])

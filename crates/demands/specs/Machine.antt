@@ -1,0 +1,64 @@
+-- A machine as its user sees it: for each call an answer, and the bytes that it leaves of what was lent to it. Nothing here
+-- says how a machine keeps what it knows.
+--
+--   Call            a call on a lent state
+--   Machine         answer and state after each call; the part that ask shows of an address; the group writer
+--   ours            the definitions that the contracts of the crates table and adapter cite
+--   Bytes s         a list of bytes
+--   run m h s       the state after a list of calls, in order
+use mathlib.Core.List.{List, [], _∷_}
+use Prim.Native.Nat.{ℕ, _<_}
+use lib.ListN.{length, getD}
+use Rattle.table.specs.Calls.{startAnswer, startAfter, followAnswer, followAfter, leaveAnswer, leaveAfter, endAnswer, endAfter, asked, askPart}
+use Rattle.adapter.specs.Calls.{packetAnswer, packetAfter, writeAnswer, writeAfter}
+
+pub data Call : Type 0 where
+  start : Call
+  -- address, protection, limit
+  follow : ℕ → ℕ → ℕ → Call
+  leave : ℕ → Call
+  -- an image
+  packet : List ℕ → Call
+  subframeEnd : Call
+  -- and board text, whose number is ask's
+  ask : ℕ → Call
+
+pub record Machine : Type 0 where
+  pub answer : Call → List ℕ → ℕ
+  pub after : Call → List ℕ → List ℕ
+  pub shown : ℕ → List ℕ → List ℕ
+  -- address, protection, message, output
+  pub writes : ℕ → ℕ → List ℕ → List ℕ → ℕ
+  pub written : ℕ → ℕ → List ℕ → List ℕ → List ℕ
+
+unfoldable pub ourAnswer : Call → List ℕ → ℕ
+ourAnswer start s = startAnswer s
+ourAnswer (follow a p l) s = followAnswer s a p l
+ourAnswer (leave a) s = leaveAnswer s a
+ourAnswer (packet image) s = packetAnswer s image
+ourAnswer subframeEnd s = endAnswer s
+ourAnswer (ask a) s = asked s a .number
+
+unfoldable pub ourAfter : Call → List ℕ → List ℕ
+ourAfter start s = startAfter s
+ourAfter (follow a p l) s = followAfter s a p l
+ourAfter (leave a) s = leaveAfter s a
+ourAfter (packet image) s = packetAfter s image
+ourAfter subframeEnd s = endAfter s
+ourAfter (ask a) s = s
+
+abbrev pub ours : Machine
+ours = record {
+  answer = ourAnswer;
+  after = ourAfter;
+  shown = λ a s. askPart s a;
+  writes = λ a p m o. writeAnswer a p (length m) (length o);
+  written = writeAfter;
+}
+
+abbrev pub Bytes : List ℕ → Type 0
+Bytes s = (k : ℕ) → getD s k 0 < 256
+
+unfoldable pub run : Machine → List Call → List ℕ → List ℕ
+run m [] s = s
+run m (x ∷ h) s = run m h (m .after x s)

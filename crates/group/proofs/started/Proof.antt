@@ -1,0 +1,34 @@
+use native.Mathlib.Omega.{arith}
+use Rattle.group.proofs.Doing.{start-does}
+use borrow.Author.Needs.{needs}
+use Rattle.group.proofs.started.Statement.{statement}
+use Rattle.group.proofs.started.Tie as tie
+use Rattle.group.proofs.started.Reads as reads
+use Rattle.group.proofs.started.Lts as lts
+use Rattle.slot.proofs.Head.started.Reads as started-reads
+use Rattle.slot.proofs.Head.store.Reads as store-reads
+use Rattle.slot.proofs.room.copy.Reads as copy-reads
+use Rattle.slot.proofs.room.empty.Reads as empty-reads
+
+empty-requires : tie.Need-empty-requires
+empty-requires c κs = search needs
+
+copy-requires : tie.Need-copy-requires
+copy-requires c κs = search needs
+
+started-requires : tie.Need-started-requires
+started-requires c κs = search needs
+
+store-requires : tie.Need-store-requires
+store-requires c κs = search needs
+
+same-length : tie.Need-same-length
+same-length c = search needs
+
+returns : tie.Need-returns
+returns c = start-does (c .before .before .before .before .before .before .before .before .before .before .before .before .before .before .before .args .slot .now) (c .before .before .before .before .before .before .before .before .before .before .before .before .before .before .before .args .bytes .now) (c .before .before .before .before .before .before .before .before .before .before .before .before .before .before .before .args .head) (c .before .before .before .before .before .before .before .before .before .before .before .before .before .before .before .pre .0) (c .before .before .before .before .before .before .before .before .before .before .before .before .before .before .before .pre .1 .0) (c .before .before .before .before .before .before .before .before .before .before .before .before .before .before .before .pre .1 .1) _ _ _ _ (c .before .before .before .before .before .before .before .before .before .before .before .empty .ensures) (c .before .before .before .before .before .before .before .copy .ensures) (c .before .before .before .before .started .ensures) (c .before .before .store .ensures)
+
+pub started-spec : {M : Type 1} → statement M
+started-spec =
+    tie.close
+    (tie.spec empty-requires copy-requires started-requires store-requires same-length returns)

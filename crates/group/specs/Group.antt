@@ -1,0 +1,53 @@
+-- One packet at the slot of its address (document 01, sections 4 and 6): what the slot answers to a reading, and its bytes
+-- after. The byte places are the slot's; the rows are section 4's.
+--
+--   blockOf h            how many bytes a packet brings: 90 plain, 45 protected
+--   placed c b room      "at c times 90 or 45", no other byte of the room touched
+--   roomsMoved mv c b s  both rooms after a row of the table; slotMoved: with the head
+--   slotDropped s        "Refusals 28 to 32 clear the slot's unfinished group, mark its gap and make it await 0."
+--   takenNumber r h      the answer to reading r where the head is h
+--   takenAfter r s       the slot after it
+use mathlib.Core.Bool.{cond}
+use mathlib.Core.List.{List}
+use Prim.Native.Nat.{ℕ, _*_}
+use lib.Dec.{eqb}
+use lib.ListN.{length, take}
+use Rattle.bits.specs.Bits.{blank}
+use Rattle.bits.specs.Rows.{further, done}
+use Rattle.slot.specs.Part.{put}
+use Rattle.slot.specs.Slot.{roomSize, headOf, withHead, unfinished, withUnfinished, withStored, kept}
+use Rattle.slot.specs.Head.{droppedHead}
+use Rattle.slot.specs.Move.{Move, started, held, whole, outOfStep, moveOf, moveNumber, movedHead}
+use Rattle.slot.specs.declared.Head.{Head}
+use Rattle.packet.specs.declared.Reading.{Reading}
+
+unfoldable pub blockOf : Head → ℕ
+blockOf h = cond (eqb (h .protection) 1) 45 90
+
+unfoldable pub placed : ℕ → List ℕ → List ℕ → List ℕ
+placed c b room = put (c * length b) (length b) b room
+
+-- "Answer 1 clears the unfinished room and puts the packet's 90 or 45 bytes first; answer 2 puts them at c times 90 or 45 and
+-- touches no other byte of the room; answer 3 does the same at 3 times, moves all 360 bytes to the whole group's room, with
+-- 0 beyond 180 for protected groups, and clears the unfinished room."
+unfoldable pub roomsMoved : Move → ℕ → List ℕ → List ℕ → List ℕ
+roomsMoved started c b s = withUnfinished (placed 0 b (blank roomSize)) s
+roomsMoved held c b s = withUnfinished (placed c b (unfinished s)) s
+roomsMoved whole c b s =
+    let room = placed c b (unfinished s) in
+    withUnfinished (blank roomSize) (withStored (kept (4 * length b) room) (withUnfinished room s))
+roomsMoved outOfStep c b s = withUnfinished (blank roomSize) s
+
+unfoldable pub slotMoved : Move → ℕ → List ℕ → List ℕ → List ℕ
+slotMoved mv c b s = withHead (movedHead mv (headOf s)) (roomsMoved mv c b s)
+
+unfoldable pub slotDropped : List ℕ → List ℕ
+slotDropped s = withHead (droppedHead (headOf s)) (withUnfinished (blank roomSize) s)
+
+unfoldable pub takenNumber : Reading → Head → ℕ
+takenNumber r h = further (r .number) (moveNumber (moveOf (h .awaited) (r .index)))
+
+unfoldable pub takenAfter : Reading → List ℕ → List ℕ
+takenAfter r s =
+    let h = headOf s in
+    done (r .number) (slotMoved (moveOf (h .awaited) (r .index)) (r .index) (take (blockOf h) (r .bytes)) s) (slotDropped s)

@@ -1,0 +1,130 @@
+-- Demand 3, fresh exactly while it is: what ask shows is what the answers and the ends of subframes tell.
+--
+--   Aged age n         the age is the number n of subframes that ended, or both have come to 1500
+--   Tells limit h t    the entries t tell the head h: whether there is a group, whether a gap is marked, whether packets of an
+--                      unfinished group are held, and, where there is a group, its age
+--   tells-*            each event keeps that: a packet by any row of its table, a refused one, the end of a subframe
+--   tells-shown        where it holds, ask shows what the entries call for
+--   freshness          so it is after any events whatever, from follow on
+--
+-- Assumes nothing.
+use mathlib.Core.Path.{_≡_, refl, sym, ap, _∙_}
+use mathlib.Core.Bool.{Bool, true, false, cond, not, _&&_, _||_}
+use mathlib.Core.List.{List, [], _∷_}
+use mathlib.Core.Logic.{_⊎_, inl, inr}
+use Prim.Native.Nat.{ℕ, suc, _+_, _≤_}
+use native.Mathlib.Omega.{arith}
+use lib.Dec.{leb, ltb, eqb}
+use borrow.Author.Tests.{ltb-true, ltb-false, lt-ltb, le-leb}
+use Rattle.slot.specs.Head.{newHead, droppedHead, agedHead, shown}
+use Rattle.slot.specs.Move.{Move, started, held, whole, outOfStep, moveOf, moveNumber, movedHead}
+use Rattle.slot.specs.declared.Head.{Head}
+use Rattle.history.specs.Followed.{Followed, Reason, typeUnreadable, typeReserved, typeScrambled, wordUnreadable, number, Event, packet, refused, ended, moved, dropped, aged, after, answer, followed, run}
+use Rattle.history.specs.Transcript.{Entry, answered, subframe, entry, told, isWhole, anyWhole, sinceWhole, ends, before, drops, marks, marked, called}
+
+abbrev Aged : ℕ → ℕ → Type 0
+Aged age n = (age ≡ n) ⊎ ((1500 ≤ age) × (age ≤ n))
+
+aged-limit : (limit age n : ℕ) → limit ≤ 1500 → Aged age n → leb limit age ≡ leb limit n
+aged-limit limit age n k (inl e) = ap (leb limit) e
+aged-limit limit age n k (inr (p, q)) = le-leb limit age (omega arith) ∙ sym (le-leb limit n (omega arith))
+
+aged-next : (group age n : ℕ) → group ≡ 1 → Aged age n → Aged (cond (eqb group 1 && ltb age 1500) (age + 1) age) (suc n)
+aged-next group age n g a = rw g (go (ltb age 1500) refl a)
+  where
+    go : (b : Bool) → ltb age 1500 ≡ b → Aged age n → Aged (cond b (age + 1) age) (suc n)
+    go true e (inl p) = inl (omega arith)
+    go true e (inr (p, q)) = absurd (omega (arith, ltb-true age 1500 e))
+    go false e (inl p) = inr (ltb-false age 1500 e, omega arith)
+    go false e (inr (p, q)) = inr (p, omega arith)
+
+record Tells (limit : ℕ) (h : Head) (t : List Entry) : Type 0 where
+  limited : h .limit ≡ limit
+  grouped : h .group ≡ cond (anyWhole t) 1 0
+  gapped : h .gap ≡ cond (marked (sinceWhole t)) 1 0
+  awaits : ltb 0 (h .awaited) ≡ (eqb (before (sinceWhole t)) 1 || eqb (before (sinceWhole t)) 2)
+  age : anyWhole t ≡ true → Aged (h .age) (ends (sinceWhole t))
+
+tells-new : (a p limit : ℕ) → Tells limit (newHead a p limit) []
+unfolding anyWhole sinceWhole marked before ends
+tells-new a p limit = record { limited = refl; grouped = refl; gapped = refl; awaits = refl; age = λ e. inl refl }
+
+cond-or : (a b : Bool) → cond a 1 (cond b 1 0) ≡ cond {A = ℕ} (a || b) 1 0
+cond-or true b = refl
+cond-or false b = refl
+
+module _ (limit : ℕ) (h : Head) (t : List Entry) (s : Tells limit h t) where
+  tells-dropped : (n : ℕ) → eqb n 3 ≡ false → (eqb n 1 || eqb n 2) ≡ false → drops n ≡ true → Tells limit (droppedHead h) (answered n ∷ t)
+  unfolding anyWhole isWhole sinceWhole marked marks before ends
+  tells-dropped n e u d = record {
+    limited = s .limited;
+    grouped = rw e (s .grouped);
+    gapped = rw (e, d);
+    awaits = rw (e, u);
+    age = rw e (s .age);
+  }
+
+  tells-moved : (mv : Move) → Tells limit (movedHead mv h) (answered (moveNumber mv) ∷ t)
+  unfolding movedHead moveNumber anyWhole isWhole sinceWhole marked marks drops before ends
+  tells-moved started = record {
+    limited = s .limited;
+    grouped = s .grouped;
+    gapped = rw (s .awaits, s .gapped) (cond-or (eqb (before (sinceWhole t)) 1 || eqb (before (sinceWhole t)) 2) (marked (sinceWhole t)));
+    awaits = refl;
+    age = s .age;
+  }
+  tells-moved held = record {
+    limited = s .limited;
+    grouped = s .grouped;
+    gapped = s .gapped;
+    awaits = lt-ltb 0 (h .awaited + 1) (omega arith);
+    age = s .age;
+  }
+  tells-moved whole = record { limited = s .limited; grouped = refl; gapped = refl; awaits = refl; age = λ e. inl refl }
+  tells-moved outOfStep = tells-dropped 32 refl refl refl
+
+  tells-refused : (r : Reason) → Tells limit (droppedHead h) (answered (number r) ∷ t)
+  unfolding number drops
+  tells-refused typeUnreadable = tells-dropped 28 refl refl refl
+  tells-refused typeReserved = tells-dropped 29 refl refl refl
+  tells-refused typeScrambled = tells-dropped 30 refl refl refl
+  tells-refused wordUnreadable = tells-dropped 31 refl refl refl
+
+  tells-aged : Tells limit (agedHead h) (subframe ∷ t)
+  unfolding anyWhole isWhole sinceWhole marked marks before ends
+  tells-aged = record {
+    limited = s .limited;
+    grouped = s .grouped;
+    gapped = s .gapped;
+    awaits = s .awaits;
+    age = λ e. aged-next (h .group) (h .age) (ends (sinceWhole t)) (s .grouped ∙ ap (λ (b : Bool). cond b 1 0) e) (s .age e);
+  }
+
+  tells-shown : limit ≤ 1500 → shown h ≡ called limit t
+  unfolding shown called
+  tells-shown k = rw (s .grouped, s .gapped, s .limited) (go (anyWhole t) (marked (sinceWhole t)) refl)
+    where
+      go : (w m : Bool) → anyWhole t ≡ w
+          → cond (eqb (cond w 1 0) 0) 4 (cond (leb limit (h .age)) 7 (cond (eqb (cond m 1 0) 1) 6 5))
+          ≡ cond {A = ℕ} (not w) 4 (cond (leb limit (ends (sinceWhole t))) 7 (cond m 6 5))
+      go false m e = refl
+      go true true e = ap (λ (b : Bool). cond b 7 6) (aged-limit limit (h .age) (ends (sinceWhole t)) k (s .age e))
+      go true false e = ap (λ (b : Bool). cond b 7 5) (aged-limit limit (h .age) (ends (sinceWhole t)) k (s .age e))
+
+tells-after : (limit : ℕ) (f : Followed) (t : List Entry) → Tells limit (f .head) t
+    → (e : Event) → Tells limit (after e f .head) (entry e f ∷ t)
+unfolding after entry answer moved dropped aged
+tells-after limit f t s (packet c bytes) = tells-moved limit (f .head) t s (moveOf (f .head .awaited) c)
+tells-after limit f t s (refused r) = tells-refused limit (f .head) t s r
+tells-after limit f t s ended = tells-aged limit (f .head) t s
+
+tells-run : (limit : ℕ) → limit ≤ 1500 → (es : List Event) (f : Followed) (t : List Entry) → Tells limit (f .head) t
+    → shown (run es f .head) ≡ called limit (told es f t)
+unfolding run told
+tells-run limit k [] f t s = tells-shown limit (f .head) t s k
+tells-run limit k (e ∷ es) f t s = tells-run limit k es (after e f) (entry e f ∷ t) (tells-after limit f t s e)
+
+pub freshness : (a p limit : ℕ) → 1 ≤ limit → limit ≤ 1500 → (es : List Event)
+    → shown (run es (followed a p limit) .head) ≡ called limit (told es (followed a p limit) [])
+unfolding followed
+freshness a p limit h k es = tells-run limit k es (followed a p limit) [] (tells-new a p limit)

@@ -1,0 +1,5 @@
+pub mod Exactness
+pub mod Freshness
+pub mod Laws
+pub mod Sharp
+pub mod Worked

@@ -1,0 +1,79 @@
+-- Worked examples, each by computation. Packet c of group i is the byte 4 * i + c, as in `Sharp`. The address is followed with limit 2.
+--
+--   broken                      packets 1 and 2 of group 0 are lost, packet 1 of group 1 is damaged, group 2 arrives whole
+--   in-order, broken-recovers   no more than three are lost in a row; group 2 is handed out, and nothing else
+--   midway                      followed in the middle of group 0
+--   midway-in-order, midway-hands-out    that is in order too; group 1 is handed out, the first that is whole
+--   out-of-step-clears          after packet 0, packet 2 is out of step: nothing is held any more
+--   shownAlong h f              what ask shows after each arrival
+--   silence-shows               a whole group, then only ends of subframes: fresh after one, stale after two
+--   damage-shows                a damaged packet: doubtful until the next whole group, then fresh
+--   early-start-shows           a group begun before the last was whole: doubtful until it is whole, then fresh
+--   no-group-shows              nothing yet, though more subframes end than the limit
+--
+-- Assumes nothing.
+use mathlib.Core.Path.{_≡_, refl}
+use mathlib.Core.List.{List, [], _∷_, _++_}
+use Prim.Native.Nat.{ℕ}
+use Rattle.slot.specs.Head.{shown}
+use Rattle.slot.specs.Move.{moveOf, moveNumber, movedHead}
+use Rattle.history.specs.Followed.{Followed, typeUnreadable, wordUnreadable, number, joined, lastOf, moved, dropped, aged, after, answer, followed, run, handedOut}
+use Rattle.history.specs.Sent.{Arrival, came, damaged, subframeEnd, event, events, InOrder}
+use Rattle.history.proofs.Laws.{isNext, ordered, ordered-holds}
+use Rattle.history.proofs.Sharp.{sent}
+
+unfoldable wholeGroup : ℕ → List Arrival
+wholeGroup i = came i 0 ∷ came i 1 ∷ came i 2 ∷ came i 3 ∷ []
+
+-- ---- what is handed out
+
+unfoldable broken : List Arrival
+broken = came 0 0 ∷ came 0 3 ∷ came 1 0 ∷ damaged 1 1 wordUnreadable ∷ came 1 2 ∷ came 1 3 ∷ wholeGroup 2
+
+in-order : InOrder 3 0 broken
+unfolding broken wholeGroup ordered isNext
+in-order = ordered-holds 3 0 broken refl
+
+broken-recovers : handedOut (events sent broken) (followed 17 0 2) ≡ (8 ∷ 9 ∷ 10 ∷ 11 ∷ []) ∷ []
+unfolding broken wholeGroup sent events event followed handedOut after answer number moved joined lastOf dropped moveOf moveNumber movedHead
+broken-recovers = refl
+
+unfoldable midway : List Arrival
+midway = came 0 2 ∷ came 0 3 ∷ wholeGroup 1
+
+midway-in-order : InOrder 3 2 midway
+unfolding midway wholeGroup ordered isNext
+midway-in-order = ordered-holds 3 2 midway refl
+
+midway-hands-out : handedOut (events sent midway) (followed 17 0 2) ≡ (4 ∷ 5 ∷ 6 ∷ 7 ∷ []) ∷ []
+unfolding midway wholeGroup sent events event followed handedOut after answer moved joined lastOf moveOf moveNumber movedHead
+midway-hands-out = refl
+
+-- seen in no group that is handed out, since the next begins anew
+out-of-step-clears : run (events sent (came 0 0 ∷ came 0 2 ∷ [])) (followed 17 0 2) .unfinished ≡ []
+unfolding sent events event followed run after moved joined moveOf movedHead
+out-of-step-clears = refl
+
+-- ---- what ask shows
+
+unfoldable shownAlong : List Arrival → Followed → List ℕ
+shownAlong [] f = []
+shownAlong (a ∷ h) f = shown (after (event sent a) f .head) ∷ shownAlong h (after (event sent a) f)
+
+silence-shows : shownAlong (wholeGroup 0 ++ (subframeEnd ∷ subframeEnd ∷ [])) (followed 17 0 2) ≡ 4 ∷ 4 ∷ 4 ∷ 5 ∷ 5 ∷ 7 ∷ []
+unfolding wholeGroup shownAlong event followed after moved aged moveOf movedHead shown
+silence-shows = refl
+
+damage-shows : shownAlong (wholeGroup 0 ++ (damaged 1 0 typeUnreadable ∷ came 1 1 ∷ wholeGroup 2)) (followed 17 0 2)
+    ≡ 4 ∷ 4 ∷ 4 ∷ 5 ∷ 6 ∷ 6 ∷ 6 ∷ 6 ∷ 6 ∷ 5 ∷ []
+unfolding wholeGroup shownAlong event followed after moved dropped moveOf movedHead shown
+damage-shows = refl
+
+early-start-shows : shownAlong (wholeGroup 0 ++ (came 1 0 ∷ came 1 1 ∷ wholeGroup 2)) (followed 17 0 2)
+    ≡ 4 ∷ 4 ∷ 4 ∷ 5 ∷ 5 ∷ 5 ∷ 6 ∷ 6 ∷ 6 ∷ 5 ∷ []
+unfolding wholeGroup shownAlong event followed after moved moveOf movedHead shown
+early-start-shows = refl
+
+no-group-shows : shownAlong (came 0 0 ∷ subframeEnd ∷ subframeEnd ∷ subframeEnd ∷ []) (followed 17 0 2) ≡ 4 ∷ 4 ∷ 4 ∷ 4 ∷ []
+unfolding shownAlong event followed after moved aged moveOf movedHead shown
+no-group-shows = refl

@@ -1,0 +1,74 @@
+-- Runs of bytes that are set to 0, copied, or kept.
+--
+--   cleared                  the end of the loop that sets bytes to 0
+--   copy-end                 the end of the loop that copies
+--   empty-lent               the unfinished room, lent and come back as 0
+--   keep-read, keep-lent     a byte that is still as it was; the first bytes kept, and the rest of the room come back as 0
+--
+-- Assumes nothing.
+use mathlib.Core.Path.{_≡_, refl, sym, ap, ap₂, _∙_}
+use mathlib.Core.List.{List, _++_, append-nil, append-assoc}
+use Prim.Native.Nat.{ℕ, _+_, _-_, _≤_, _<_}
+use native.Mathlib.Omega.{arith}
+use native.Mathlib.Nat.{zero-add}
+use lib.ListN.{length, take, drop, getD, replicate, length-drop}
+use lib.Seq.{drop-length, drop-drop, paste, take-length, length-take-le}
+use Rattle.bits.specs.Bits.{blank}
+use Rattle.slot.specs.Part.{part, put}
+use Rattle.slot.specs.Slot.{unfinished, withUnfinished, withStored, kept}
+use Rattle.slot.proofs.Laws.{part-part, put-length, put-next, getD-put-before}
+
+pub cleared : (k : ℕ) (d b : List ℕ) → k ≡ length d → b ≡ replicate k 0 ++ drop k d → b ≡ blank (length d)
+unfolding blank
+cleared k d b q e =
+    e ∙ ap (λ (n : ℕ). replicate n 0 ++ drop n d) q ∙ ap (λ (x : List ℕ). replicate (length d) 0 ++ x) (drop-length d)
+    ∙ append-nil (replicate (length d) 0)
+
+-- a copy is a part replaced
+paste-put : (d : List ℕ) (at : ℕ) (s : List ℕ) (k : ℕ) → paste d at s k ≡ put at k (take k s) d
+unfolding put
+paste-put d at s k =
+    append-assoc (take at d) (take k s) (drop (at + k) d)
+    ∙ ap (λ (x : List ℕ). take at d ++ (take k s ++ x)) (sym (drop-drop k at d))
+
+pub copy-end : (d : List ℕ) (at : ℕ) (s b : List ℕ) (k : ℕ) → b ≡ paste d at s k → k ≡ length s → b ≡ put at (length s) s d
+copy-end d at s b k e q =
+    e ∙ paste-put d at s k ∙ ap (λ (n : ℕ). put at n (take n s) d) q ∙ ap (λ (x : List ℕ). put at (length s) x d) (take-length s)
+
+pub empty-lent : (s b : List ℕ) → length s ≡ 736 → b ≡ blank (length (take 360 s)) → (b ++ drop 360 s) ≡ withUnfinished (blank 360) s
+unfolding withUnfinished put
+empty-lent s b l e = ap (λ (x : List ℕ). x ++ drop 360 s) (e ∙ ap blank (length-take-le 360 s (omega arith)))
+
+pub keep-read : (s b : List ℕ) (k : ℕ) → b ≡ paste s 360 s k → length s ≡ 736 → k < 360 → getD b (0 + k) 0 ≡ getD s k 0
+keep-read s b k e l h =
+    ap₂ (λ (x : List ℕ) (j : ℕ). getD x j 0) (e ∙ paste-put s 360 s k) (zero-add k)
+    ∙ getD-put-before 360 k (take k s) s k (omega arith) h
+
+-- a part lent and come back, as a put
+lent-put : (x y : List ℕ) (i j : ℕ) → (take j x ++ (y ++ drop i (drop j x))) ≡ put j i y x
+unfolding put
+lent-put x y i j = refl
+
+kept-stored : (n : ℕ) (s : List ℕ) → n ≤ 360 → put 360 (n + (360 - n)) (take n s ++ blank (360 - n)) s ≡ withStored (kept n (unfinished s)) s
+unfolding withStored kept unfinished part
+kept-stored n s h =
+    let room : n + (360 - n) ≡ 360 = omega arith in
+    ap₂ (λ (m : ℕ) (x : List ℕ). put 360 m (x ++ blank (360 - n)) s) room (sym (part-part 0 n 0 360 s (omega arith)))
+
+-- the rest of the room, as it is lent: from 360 + n to 720
+pub keep-lent : (s b t : List ℕ) (k n : ℕ) → length s ≡ 736 → n ≤ 360 → k ≡ n → b ≡ paste s 360 s k
+    → t ≡ blank (length (take (720 - (360 + n)) (drop (360 + n) b)))
+    → (take (360 + n) b ++ (t ++ drop (720 - (360 + n)) (drop (360 + n) b))) ≡ withStored (kept n (unfinished s)) s
+keep-lent s b t k n l h q e et =
+    let m = 720 - (360 + n) in
+    let em : m ≡ 360 - n = omega arith in
+    let ln : length (take n s) ≡ n = length-take-le n s (omega arith) in
+    let eb : b ≡ put 360 n (take n s) s = e ∙ paste-put s 360 s k ∙ ap (λ (i : ℕ). put 360 i (take i s) s) q in
+    let long : length b ≡ 736 = ap length eb ∙ put-length 360 n (take n s) s (omega arith) ln ∙ l in
+    let rest : length (take m (drop (360 + n) b)) ≡ 360 - n =
+    length-take-le m (drop (360 + n) b) (omega (arith, length-drop (360 + n) b)) ∙ em in
+    lent-put b t m (360 + n)
+    ∙ ap₂ (λ (x : List ℕ) (i : ℕ). put (360 + n) i x b) (et ∙ ap blank rest) em
+    ∙ ap (put (360 + n) (360 - n) (blank (360 - n))) eb
+    ∙ put-next 360 n (take n s) s (360 - n) (blank (360 - n)) (omega arith) ln
+    ∙ kept-stored n s h

@@ -1,0 +1,117 @@
+//! What becomes of packets on their way.
+
+use second::fast;
+use second::image::{HEADER_AT, TYPE_AT, USEFUL_AT};
+use second::samples::{flip, flip_some, word_at, WORDS};
+use second::types::read_type;
+use second::xorshift::Xorshift;
+
+/// What was done to a packet, as far as the bookkeeping has to know it.
+#[derive(Clone, Copy, PartialEq, Eq)]
+pub enum Fate {
+    /// It does not come, or is refused with 20 or 21, or is read as an address that nobody follows.
+    Lost,
+    /// It comes, and its type or a word of it cannot be read as data.
+    Unreadable,
+    /// It comes, with no more flips than can be put right.
+    Readable,
+}
+
+/// How many of sixteen packets are lost and how many unreadable.
+pub struct Channel {
+    lost: usize,
+    unreadable: usize,
+}
+
+impl Channel {
+    pub fn new(random: &mut Xorshift) -> Channel {
+        Channel {
+            lost: random.below(6),
+            unreadable: random.below(4),
+        }
+    }
+
+    /// A packet's fate, before it is sent. Whether one more may be lost is the line's to say.
+    pub fn fate(&self, random: &mut Xorshift, may_be_lost: bool) -> Fate {
+        let number = random.below(16);
+        if number < self.lost && may_be_lost {
+            Fate::Lost
+        } else if (6..6 + self.unreadable).contains(&number) {
+            Fate::Unreadable
+        } else {
+            Fate::Readable
+        }
+    }
+}
+
+/// What comes of an image that has this fate; nothing if it does not come at all.
+pub fn carried(
+    random: &mut Xorshift,
+    fate: Fate,
+    protected: bool,
+    image: &[u8],
+) -> Option<Vec<u8>> {
+    let mut image = image.to_vec();
+    match fate {
+        Fate::Lost => lose(random, image),
+        Fate::Unreadable => {
+            harm(random, protected, &mut image);
+            spoil(random, protected, &mut image);
+            Some(image)
+        }
+        Fate::Readable => {
+            harm(random, protected, &mut image);
+            Some(image)
+        }
+    }
+}
+
+fn lose(random: &mut Xorshift, mut image: Vec<u8>) -> Option<Vec<u8>> {
+    match random.below(4) {
+        0 => image.truncate(random.below(94)),
+        1 => flip(&mut image, USEFUL_AT.end),
+        2 => {
+            let count = 4 + random.below(3);
+            flip_some(random, &mut image, HEADER_AT, count);
+            let n = u32::from_le_bytes([image[0], image[1], image[2] & 0x7F, 0]);
+            let (_, address, _, _) = fast::read_header(n);
+            // All lines have lower addresses.
+            return (address > 1000).then_some(image);
+        }
+        _ => return None,
+    }
+    Some(image)
+}
+
+/// Flips that can be put right. In plain data none can.
+fn harm(random: &mut Xorshift, protected: bool, image: &mut [u8]) {
+    let (header, kind) = (random.below(4), random.below(3));
+    flip_some(random, image, HEADER_AT, header);
+    flip_some(random, image, TYPE_AT, kind);
+    for place in 0..WORDS {
+        if protected {
+            let count = random.below(4);
+            flip_some(random, image, word_at(place), count);
+        }
+    }
+}
+
+/// A type byte that is not read as data; or a word with four flips more than it can have lost already.
+fn spoil(random: &mut Xorshift, protected: bool, image: &mut [u8]) {
+    if protected && random.chance() {
+        let place = word_at(random.below(WORDS));
+        while fast::read_word(word(image, place.start)).0 == 0 {
+            flip_some(random, image, place.clone(), 1);
+        }
+        return;
+    }
+    while let (0, 0, _) = read_type(image[2] >> 7 | image[3] << 1) {
+        flip_some(random, image, TYPE_AT, 3);
+    }
+}
+
+fn word(image: &[u8], bit: usize) -> u32 {
+    let at = bit / 8;
+    let four = [image[at], image[at + 1], image[at + 2], image[at + 3]];
+    u32::from_le_bytes(four) >> (bit % 8) & 0xFF_FFFF
+}

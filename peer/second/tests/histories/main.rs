@@ -1,0 +1,122 @@
+//! Random histories, and a bookkeeping apart that says what must come of them: a group is handed out exactly if its four
+//! packets came and could be read, as long as no more than three are lost in a row, and ask's number follows from the
+//! answers alone. The bookkeeping knows what was sent and what was done to it; it does not know the state.
+
+mod channel;
+mod line;
+
+use channel::Channel;
+use line::Line;
+use second::group::{packet, write_group};
+use second::image::write_image;
+use second::samples::rounds;
+use second::table::{ask, follow, leave, start, subframe_end, STATE};
+use second::xorshift::Xorshift;
+
+const STEPS: usize = 1_500;
+
+/// How often each answer came, and each number of ask.
+type Counts = [usize; 36];
+
+#[test]
+fn exactly_the_groups_that_came_and_fresh_by_the_transcript() {
+    let mut random = Xorshift::new(81);
+    let mut counts = [0; 36];
+    for round in 0..rounds(12) {
+        let count = [1, 2, 5, 16][round % 4];
+        let channel = Channel::new(&mut random);
+        history(&mut random, count, channel, &mut counts);
+    }
+    // It is only worth something if all of these happen.
+    for number in (1..=7).chain([20, 21, 27]).chain(28..=32) {
+        assert!(counts[number] > 30, "{number}: {counts:?}");
+    }
+}
+
+fn history(random: &mut Xorshift, count: usize, channel: Channel, counts: &mut Counts) {
+    let mut state = vec![0xA5; STATE];
+    assert_eq!(start(&mut state), 0);
+    let mut lines: Vec<Line> = (0..count)
+        .map(|k| Line::new(random, 60 * k as u32))
+        .collect();
+    for line in &mut lines {
+        line.follow(&mut state);
+    }
+    for _ in 0..STEPS {
+        let line = random.below(count);
+        match random.below(64) {
+            0 => lines[line].leave(&mut state),
+            1..=3 => lines[line].follow(&mut state),
+            4..=7 => end_subframe(&mut state, &mut lines),
+            8..=11 => disturb(random, &mut state),
+            _ => {
+                let image = lines[line].send(random, &channel);
+                let number = image.map(|image| packet(&mut state, &image));
+                lines[line].came(&state, number);
+                counts[usize::from(number.unwrap_or(0))] += 1;
+            }
+        }
+        for line in &lines {
+            counts[usize::from(line.check(&state))] += 1;
+        }
+    }
+}
+
+fn end_subframe(state: &mut [u8], lines: &mut [Line]) {
+    assert_eq!(subframe_end(state), 0);
+    for line in lines {
+        line.subframe_ended();
+    }
+}
+
+/// What is no business of any line: other addresses' packets, and calls that are refused.
+fn disturb(random: &mut Xorshift, state: &mut [u8]) {
+    let index = random.below(4) as u32;
+    let stranger = 1001 + random.below(20) as u32;
+    let image = write_image(stranger, index, 0, &random.bytes());
+    assert_eq!(packet(state, &image), 27);
+    assert_eq!(follow(state, stranger, 2, 5), 23);
+    assert_eq!(follow(state, stranger, 1, 0), 24);
+    assert_eq!(leave(state, stranger), 27);
+    assert_eq!(subframe_end(&mut state[1..]), 20);
+}
+
+/// Why it has to be three: of four packets lost in a row inside an open group, two-bit indices show nothing.
+#[test]
+fn four_lost_in_a_row_are_not_seen() {
+    let (mut one, mut other) = ([0; 376], [0; 376]);
+    assert_eq!(write_group(17, 0, &[1; 360], &mut one), 0);
+    assert_eq!(write_group(17, 0, &[2; 360], &mut other), 0);
+    let mut state = vec![0; STATE];
+    assert_eq!(follow(&mut state, 17, 0, 2), 0);
+    // Packet 0 of one group, and 1 to 3 of the next.
+    let came = one[..94].chunks(94).chain(other[94..].chunks(94));
+    let answers: Vec<u8> = came.map(|image| packet(&mut state, image)).collect();
+    assert_eq!(answers, [1, 2, 2, 3]);
+    assert_eq!(ask(&state, 17).0, 5);
+    assert_eq!(state[360..450], [1; 90]);
+    assert_eq!(state[450..720], [2; 270]);
+}
+
+/// Three lost in a row always are, wherever they are lost.
+#[test]
+fn three_lost_in_a_row_are_seen() {
+    let mut images = [0; 376];
+    assert_eq!(write_group(17, 0, &[1; 360], &mut images), 0);
+    for first in 1..=4 {
+        let mut state = vec![0; STATE];
+        assert_eq!(follow(&mut state, 17, 0, 2), 0);
+        let came = (0..12).filter(|k| !(first..first + 3).contains(k));
+        let mut whole = Vec::new();
+        for k in came {
+            let image = &images[94 * (k % 4)..][..94];
+            if packet(&mut state, image) == 3 {
+                whole.push(k / 4);
+            }
+        }
+        // The groups that lost none of their packets.
+        let lost = [first / 4, (first + 2) / 4];
+        let expected: Vec<usize> = (0..3).filter(|group| !lost.contains(group)).collect();
+        assert_eq!(whole, expected);
+    }
+}
