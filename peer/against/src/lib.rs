@@ -2,6 +2,13 @@
 //!
 //! Every value that the library has to write is set to a mark before the call. A call that leaves one alone, even in a
 //! refusal, then differs from the other implementations.
+//!
+//! Here are the bare readings and writings. The calls on a state of any length are in `calls`; `feed` is what a program
+//! in Rust would use, and `both` is for the differential tests.
+
+pub mod both;
+pub mod calls;
+pub mod feed;
 
 use second::image::{Received, USEFUL};
 

@@ -8,7 +8,7 @@ use crate::types::{DATA, TYPES};
 use crate::xorshift::Xorshift;
 use crate::{fast, group};
 
-#[derive(Clone, Debug)]
+#[derive(Clone, Debug, PartialEq, Eq)]
 pub enum Call {
     Start,
     /// Address, protection, limit.

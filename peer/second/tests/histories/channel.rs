@@ -96,7 +96,7 @@ fn harm(random: &mut Xorshift, protected: bool, image: &mut [u8]) {
     }
 }
 
-/// A type byte that is not read as data; or a word with four flips more than it can have lost already.
+/// More flips in a word or in the type byte, until it cannot be read as data.
 fn spoil(random: &mut Xorshift, protected: bool, image: &mut [u8]) {
     if protected && random.chance() {
         let place = word_at(random.below(WORDS));

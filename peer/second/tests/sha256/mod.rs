@@ -66,7 +66,7 @@ fn schedule(block: &[u8]) -> Vec<u32> {
 
 /// The first 32 bits of the fractions of the cube roots of the first 64 primes.
 fn constants() -> impl Iterator<Item = u32> {
-    let prime = |n: &u64| (2..*n).all(|d| n % d != 0);
+    let prime = |n: &u64| (2..*n).all(|d| !n.is_multiple_of(d));
     (2..).filter(prime).take(64).map(cube_root_fraction)
 }
 

@@ -1,0 +1,31 @@
+-- P1 to P12 hold: one list, one statement. Assumes nothing.
+use mathlib.Core.Path.{_≡_, refl, ap, ap₂, _∙_}
+use mathlib.Core.List.{List, [], _∷_, _++_, map}
+use mathlib.Core.Bool.{cond}
+use Prim.Native.Nat.{ℕ}
+use lib.Dec.{ltb}
+use Rattle.bits.proofs.Rows.{further-passed}
+use Rattle.bare.specs.Edges as below
+use Rattle.bare.proofs.Edges as proved
+use Rattle.packet.specs.declared.Reading.{Reading}
+use Rattle.slot.specs.Move.{moveOf, moveNumber, movedHead}
+use Rattle.slot.specs.declared.Head.{Head}
+use Rattle.group.specs.Group.{takenNumber}
+use Rattle.group.specs.Edges.{Edge, bare, answers, marks, Answers, Holds, All, edges}
+
+-- the answer is section 4's table's
+answers-by : (a c n : ℕ) → moveNumber (moveOf a c) ≡ n → Answers a c n
+unfolding takenNumber
+answers-by a c n e r h z i w =
+    further-passed (r .number) _ z ∙ ap₂ (λ (x y : ℕ). moveNumber (moveOf x y)) w i ∙ e
+
+-- the rows of the bare calls, and then others
+bare-then : (es : List below.Edge) (rest : List Edge) → below.All below.Holds es → All Holds rest → All Holds (map bare es ++ rest)
+bare-then [] rest h k = k
+bare-then (e ∷ es) rest h k = (h .0, bare-then es rest (h .1) k)
+
+pub edges-hold : All Holds edges
+unfolding moveOf moveNumber movedHead
+edges-hold =
+    bare-then below.edges (answers 2 2 2 ∷ marks 2 0 1 ∷ answers 0 1 32 ∷ []) proved.edges-hold
+    (answers-by 2 2 2 refl, ((answers-by 2 0 1 refl, λ h e. ap (λ (x : ℕ). cond (ltb 0 x) 1 (h .gap)) e), (answers-by 0 1 32 refl, tt)))

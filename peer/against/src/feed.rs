@@ -1,0 +1,191 @@
+//! The library as a program in Rust would use it: a type that owns a state, answers as enums, refusals as errors.
+//!
+//! A `Feed` is good from its making on, and every call keeps it so. The refusals 20 and 34 for the state therefore cannot
+//! occur; those that remain stand at each call.
+
+use crate::calls;
+use second::group::IMAGES;
+use second::table::{Lent, STATE};
+use std::fmt;
+
+/// The state of sixteen followed addresses, and the library's calls on it.
+#[derive(Clone)]
+pub struct Feed {
+    state: Box<[u8; STATE]>,
+}
+
+/// How the packets of an address carry their data.
+#[derive(Clone, Copy, Debug, PartialEq, Eq)]
+pub enum Protection {
+    /// 90 bytes a packet, 360 a group.
+    Plain = 0,
+    /// 45 bytes a packet as thirty Golay words, 180 a group.
+    Protected = 1,
+}
+
+/// What a packet did to the group of its address.
+#[derive(Clone, Copy, Debug, PartialEq, Eq)]
+pub enum Taken {
+    /// It began one. One that was under way is given up.
+    Started,
+    /// It joined it.
+    Held,
+    /// It made it whole: ask now shows it, and it is fresh.
+    Whole,
+}
+
+/// What the last whole group of an address is worth.
+#[derive(Clone, Copy, Debug, PartialEq, Eq)]
+pub enum Worth {
+    /// There is none yet.
+    Nothing,
+    Fresh,
+    /// A packet was lost or could not be read since.
+    Doubtful,
+    /// So many subframes have ended since as its limit says, or more.
+    Stale,
+}
+
+/// Why a call was refused: the number that the library gave.
+#[derive(Clone, Copy, Debug, PartialEq, Eq)]
+pub struct Refusal(pub u8);
+
+impl Feed {
+    /// A state in which nothing is followed.
+    pub fn new() -> Feed {
+        let mut state = Box::new([0; STATE]);
+        accepted(calls::start(&mut state[..])).expect("a state of the right length");
+        Feed { state }
+    }
+
+    /// A state that was kept. Refused: 34, not good.
+    pub fn from_bytes(bytes: &[u8; STATE]) -> Result<Feed, Refusal> {
+        // No address is 0, so this is refused in any case, and for the address only if all before it is right.
+        match calls::ask(bytes, 0) {
+            (22, _, _) => Ok(Feed {
+                state: Box::new(*bytes),
+            }),
+            (number, _, _) => Err(Refusal(number)),
+        }
+    }
+
+    /// The bytes of the state, for keeping.
+    pub fn bytes(&self) -> &[u8; STATE] {
+        &self.state
+    }
+
+    /// Follows an address from now on; its groups are stale after so many subframes as the limit says. Refused: 22 for
+    /// the address, 24 for the limit, 25 if it is followed already, 26 if sixteen others are.
+    pub fn follow(
+        &mut self,
+        address: u32,
+        protection: Protection,
+        limit: u32,
+    ) -> Result<(), Refusal> {
+        let state = &mut self.state[..];
+        accepted(calls::follow(state, address, protection as u32, limit))
+    }
+
+    /// Follows an address no longer, and forgets its group. Refused: 22, and 27 if it is not followed.
+    pub fn leave(&mut self, address: u32) -> Result<(), Refusal> {
+        accepted(calls::leave(&mut self.state[..], address))
+    }
+
+    /// Takes a packet's image in. Refused, and nothing is changed: 20 for its length, 21 for its spare bit, 27 if its
+    /// address is not followed. Refused, and the group under way is given up: 28 to 30 for its type, 31 for a word that
+    /// cannot be read, 32 for its index.
+    pub fn packet(&mut self, image: &[u8]) -> Result<Taken, Refusal> {
+        match calls::packet(&mut self.state[..], image) {
+            1 => Ok(Taken::Started),
+            2 => Ok(Taken::Held),
+            3 => Ok(Taken::Whole),
+            number => Err(Refusal(number)),
+        }
+    }
+
+    /// A subframe has ended: every whole group is older by one.
+    pub fn subframe_end(&mut self) {
+        accepted(calls::subframe_end(&mut self.state[..])).expect("a good state");
+    }
+
+    /// What an address's last whole group is worth, and the group itself, 360 bytes or 180; no bytes if there is none.
+    /// Refused: 22, 27.
+    pub fn ask(&self, address: u32) -> Result<(Worth, &[u8]), Refusal> {
+        let (number, at, length) = calls::ask(&self.state[..], address);
+        let worth = worth(number)?;
+        Ok((worth, &self.state[at..at + length]))
+    }
+
+    /// What a board may show: the group if it is fresh, and otherwise the notice, also where ask would be refused.
+    pub fn board_text<'a>(
+        &'a self,
+        address: u32,
+        notice: &'a [u8],
+    ) -> (Result<Worth, Refusal>, &'a [u8]) {
+        let (number, lent, at, length) = calls::board_text(&self.state[..], address, notice);
+        let text = match lent {
+            Lent::State => &self.state[at..at + length],
+            Lent::Notice => &notice[at..at + length],
+        };
+        (worth(number), text)
+    }
+}
+
+impl Default for Feed {
+    fn default() -> Feed {
+        Feed::new()
+    }
+}
+
+/// The four images of a message. Refused: 22 for the address, 20 for the length of the message.
+pub fn write_group(
+    address: u32,
+    protection: Protection,
+    message: &[u8],
+) -> Result<[u8; IMAGES], Refusal> {
+    let mut images = [0; IMAGES];
+    let number = calls::write_group(address, protection as u32, message, &mut images);
+    accepted(number).map(|()| images)
+}
+
+fn accepted(number: u8) -> Result<(), Refusal> {
+    match number {
+        0 => Ok(()),
+        number => Err(Refusal(number)),
+    }
+}
+
+fn worth(number: u8) -> Result<Worth, Refusal> {
+    match number {
+        4 => Ok(Worth::Nothing),
+        5 => Ok(Worth::Fresh),
+        6 => Ok(Worth::Doubtful),
+        7 => Ok(Worth::Stale),
+        number => Err(Refusal(number)),
+    }
+}
+
+impl fmt::Display for Refusal {
+    fn fmt(&self, text: &mut fmt::Formatter) -> fmt::Result {
+        let reason = match self.0 {
+            20 => "a length is wrong",
+            21 => "the spare bit is set",
+            22 => "the address is not 1 to 1,022",
+            23 => "the protection is not 0 or 1",
+            24 => "the limit is not 1 to 1,500",
+            25 => "the address is followed already",
+            26 => "no slot is free",
+            27 => "the address is not followed",
+            28 => "the type cannot be read",
+            29 => "the type is reserved",
+            30 => "the data is scrambled",
+            31 => "a protected word cannot be read",
+            32 => "the packet is out of step",
+            34 => "the state is not good",
+            _ => "a number that no call gives",
+        };
+        write!(text, "{reason} ({})", self.0)
+    }
+}
+
+impl std::error::Error for Refusal {}
