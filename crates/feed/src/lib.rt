@@ -1,10 +1,14 @@
 // The calls that C and Rust link. Each gives back a number, 0 or a refusal's, and hands its values over through what is
 // lent to it. Every call is answered, whatever it is given.
+//
+// calls    the calls on a state, and the group writer
 ghost use mathlib.Core.Path.{_≡_};
-ghost use lib.ListN.{length};
 ghost use Rattle.bare.specs.Bare.{headerRead, headerWritten, wordRead, wordWritten, typeRead, typeWritten};
 ghost use Rattle.feed.specs.Fed.{values, fed};
 use image::Packet;
+use slot::room;
+
+pub mod calls;
 
 // 33: a header of 2^23 or more.
 #[no_mangle]
@@ -103,18 +107,6 @@ pub extern "C" fn feed_received(
     *place = reading.place;
     *index = reading.index;
     let from = reading.bytes;
-    copy(&from, bytes);
+    room::copy(bytes, 0, &from);
     reading.number
-}
-
-// All the bytes, into a room as long.
-fn copy(from: &[u8], to: &mut [u8])
-    requires { ⌜ length (now from) ≡ length (now to) ⌝ }
-    ensures { λ _. ⌜ now (to .exit) ≡ now (from .entry) ⌝ }
-{
-    let mut k: usize = 0;
-    while k < from.len() {
-        to[k] = from[k];
-        k += 1;
-    }
 }

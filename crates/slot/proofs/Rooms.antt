@@ -2,6 +2,7 @@
 --
 --   cleared                  the end of the loop that sets bytes to 0
 --   copy-end                 the end of the loop that copies
+--   put-all                  a copy as long as what it is put into
 --   empty-lent               the unfinished room, lent and come back as 0
 --   keep-read, keep-lent     a byte that is still as it was; the first bytes kept, and the rest of the room come back as 0
 --
@@ -72,3 +73,8 @@ keep-lent s b t k n l h q e et =
     ∙ ap (put (360 + n) (360 - n) (blank (360 - n))) eb
     ∙ put-next 360 n (take n s) s (360 - n) (blank (360 - n)) (omega arith) ln
     ∙ kept-stored n s h
+
+-- a whole run replaced
+pub put-all : (b s : List ℕ) → length b ≡ length s → put 0 (length b) b s ≡ b
+unfolding put
+put-all b s e = ap (λ (x : List ℕ). b ++ x) (ap (λ (n : ℕ). drop n s) e ∙ drop-length s) ∙ append-nil b

@@ -3,7 +3,9 @@
 use mathlib.Core.Path.{sym, ap, _∙_}
 use mathlib.Core.List.{List}
 use Prim.Native.Nat.{ℕ}
+use native.Mathlib.Omega.{arith}
 use borrow.Author.Needs.{needs}
+use Rattle.slot.proofs.Rooms.{put-all}
 use Rattle.feed.specs.Fed.{values}
 use Rattle.feed.proofs.Fed.{fed-20, fed-23, fed-read}
 use Rattle.feed.proofs.feed_received.Statement.{statement}
@@ -22,7 +24,7 @@ slice-aggregate-copy : tie.Need-slice-aggregate-copy
 slice-aggregate-copy c = search needs
 
 copy-requires : tie.Need-copy-requires
-copy-requires c κs = sym (slice-aggregate-copy (c .before)) ∙ sym (c .before .before .before .before .before .if1 .left)
+copy-requires c κs = omega (arith, slice-aggregate-copy c, c .before .before .before .before .before .if1 .left)
 
 same-length : tie.Need-same-length
 same-length c = search needs
@@ -33,7 +35,7 @@ returns-3 c =
     let came = c .before .before .before .before .before .before in
     let start = came .before .before .before .before .before in
     let reading = came .received .result in
-    ap (λ (l : List ℕ). values (reading .number) (reading .place) (reading .index) l) (copied .ensures)
+    ap (λ (l : List ℕ). values (reading .number) (reading .place) (reading .index) l) (copied .ensures ∙ put-all _ _ (sym (slice-aggregate-copy (c .before .before .before)) ∙ sym (came .before .before .if1 .left)))
     ∙ came .received .ensures
     ∙ sym (fed-read (start .args .protection) _ _ (came .before .before .if1 .left) (came .before .if2 .left))
 

@@ -1,12 +1,16 @@
 //! What both sides are given. Made from seeds, so that two runs measure the same work.
 
 use second::golay::word24;
+use second::group::write_group;
 use second::image::IMAGE;
 use second::samples;
+use second::slot::group_length;
+use second::table::{follow, STATE};
 use second::types::DATA;
 use second::xorshift::Xorshift;
 
 pub type Image = [u8; IMAGE];
+pub type State = [u8; STATE];
 
 const WORDS: usize = 16_384;
 /// Few enough to stay in the nearest cache, too many for a branch to be learnt by heart.
@@ -38,4 +42,41 @@ pub fn protected(flips: usize) -> Vec<Image> {
         image
     };
     (0..IMAGES).map(|_| image()).collect()
+}
+
+/// A state in which so many addresses are followed, from 1 on.
+pub fn following(count: u32, protected: bool) -> State {
+    let mut state = [0; STATE];
+    for address in 1..=count {
+        let number = follow(&mut state, address, protected.into(), 1500);
+        assert_eq!(number, 0, "a free slot");
+    }
+    state
+}
+
+/// Whole groups for so many addresses by turns, packet after packet, with so many flips in every header and every word. In
+/// plain data flips are no work to anybody: only the header gets them.
+pub fn groups(count: u32, protected: bool, flips: usize) -> Vec<Image> {
+    let mut random = Xorshift::new(44);
+    let mut images = Vec::new();
+    for address in (1..=count).cycle().take(IMAGES / 4) {
+        let mut four = [[0; IMAGE]; 4];
+        let message = &random.bytes::<360>()[..group_length(protected)];
+        let output = four.as_flattened_mut();
+        let number = write_group(address, protected.into(), message, output);
+        assert_eq!(number, 0, "a group");
+        for image in &mut four {
+            let word = if protected { flips } else { 0 };
+            samples::damage(&mut random, image, flips, 0, word);
+        }
+        images.extend(four);
+    }
+    images
+}
+
+/// Messages to be written.
+pub fn messages(protected: bool) -> Vec<Vec<u8>> {
+    let mut random = Xorshift::new(45);
+    let mut message = || random.bytes::<360>()[..group_length(protected)].to_vec();
+    (0..IMAGES / 4).map(|_| message()).collect()
 }

@@ -4,8 +4,9 @@ mod inputs;
 mod rival;
 mod rounds;
 
-use inputs::Image;
+use inputs::{Image, State};
 use rounds::Row;
+use second::group::IMAGES;
 use second::image::USEFUL;
 use std::hint::black_box;
 
@@ -17,6 +18,14 @@ fn main() {
     images("received protected, clean", true, &inputs::protected(0));
     let damaged = inputs::protected(3);
     images("received protected, 3 flips a word", true, &damaged);
+    for count in [1, 16] {
+        packets("plain, clean", count, false, 0);
+        packets("plain, header 3 flips", count, false, 3);
+        packets("protected, clean", count, true, 0);
+        packets("protected, 3 flips all over", count, true, 3);
+    }
+    groups("write group, plain", false);
+    groups("write group, protected", true);
 }
 
 fn words(name: &str, words: &[u32]) {
@@ -31,6 +40,27 @@ fn images(name: &str, protected: bool, images: &[Image]) {
     let ours = || take_all(against::received_into, protected, images);
     let fast = || take_all(take, protected, images);
     Row::measure(images.len(), ours, fast).print(name);
+}
+
+/// The packet call on a state of its own for each side, with so many slots in use. Every group that begins becomes whole.
+fn packets(name: &str, count: u32, protected: bool, flips: usize) {
+    let take = black_box(rival::PACKET);
+    let images = inputs::groups(count, protected, flips);
+    let mut states = [inputs::following(count, protected); 2];
+    let [mine, other] = &mut states;
+    let ours = || bring_all(against::calls::packet, mine, &images);
+    let fast = || bring_all(take, other, &images);
+    let name = format!("packet {name}, {count} in use");
+    Row::measure(images.len(), ours, fast).print(&name);
+    assert!(states[0] == states[1], "both sides leave the same state");
+}
+
+fn groups(name: &str, protected: bool) {
+    let write = black_box(rival::WRITE_GROUP);
+    let messages = inputs::messages(protected);
+    let ours = || write_all(against::calls::write_group, protected, &messages);
+    let fast = || write_all(write, protected, &messages);
+    Row::measure(messages.len(), ours, fast).print(name);
 }
 
 /// A sum over all answers, so that none of them can be left out.
@@ -57,6 +87,32 @@ fn take_all(
         let number = take(protected, image, &mut place, &mut index, &mut bytes);
         black_box(&bytes);
         sum += u64::from(number) + u64::from(place) + u64::from(index) + u64::from(bytes[0]);
+    }
+    sum
+}
+
+#[inline(always)]
+fn bring_all(take: impl Fn(&mut [u8], &[u8]) -> u8, state: &mut State, images: &[Image]) -> u64 {
+    let mut sum = 0;
+    for image in images {
+        sum += u64::from(take(state, image));
+        black_box(&state);
+    }
+    sum
+}
+
+#[inline(always)]
+fn write_all(
+    write: impl Fn(u32, u32, &[u8], &mut [u8]) -> u8,
+    protected: bool,
+    messages: &[Vec<u8>],
+) -> u64 {
+    let mut output = [0; IMAGES];
+    let mut sum = 0;
+    for message in messages {
+        let number = write(17, protected.into(), message, &mut output);
+        black_box(&output);
+        sum += u64::from(number) + u64::from(output[5]);
     }
     sum
 }

@@ -6,6 +6,8 @@ use second::image::USEFUL;
 
 pub const READ_WORD: fn(u32, &mut u16, &mut u8) -> u8 = read_word;
 pub const RECEIVED: fn(bool, &[u8], &mut u8, &mut u8, &mut [u8; USEFUL]) -> u8 = received;
+pub const PACKET: fn(&mut [u8], &[u8]) -> u8 = fast::packet;
+pub const WRITE_GROUP: fn(u32, u32, &[u8], &mut [u8]) -> u8 = fast::write_group;
 
 fn read_word(n: u32, information: &mut u16, flips: &mut u8) -> u8 {
     let number;

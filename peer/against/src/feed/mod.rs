@@ -3,52 +3,20 @@
 //! A `Feed` is good from its making on, and every call keeps it so. The refusals 20 and 34 for the state therefore cannot
 //! occur; those that remain stand at each call.
 
+mod answers;
+
+pub use answers::{Protection, Refusal, Taken, Worth};
+
 use crate::calls;
+use answers::{accepted, worth};
 use second::group::IMAGES;
 use second::table::{Lent, STATE};
-use std::fmt;
 
 /// The state of sixteen followed addresses, and the library's calls on it.
 #[derive(Clone)]
 pub struct Feed {
     state: Box<[u8; STATE]>,
 }
-
-/// How the packets of an address carry their data.
-#[derive(Clone, Copy, Debug, PartialEq, Eq)]
-pub enum Protection {
-    /// 90 bytes a packet, 360 a group.
-    Plain = 0,
-    /// 45 bytes a packet as thirty Golay words, 180 a group.
-    Protected = 1,
-}
-
-/// What a packet did to the group of its address.
-#[derive(Clone, Copy, Debug, PartialEq, Eq)]
-pub enum Taken {
-    /// It began one. One that was under way is given up.
-    Started,
-    /// It joined it.
-    Held,
-    /// It made it whole: ask now shows it, and it is fresh.
-    Whole,
-}
-
-/// What the last whole group of an address is worth.
-#[derive(Clone, Copy, Debug, PartialEq, Eq)]
-pub enum Worth {
-    /// There is none yet.
-    Nothing,
-    Fresh,
-    /// A packet was lost or could not be read since.
-    Doubtful,
-    /// So many subframes have ended since as its limit says, or more.
-    Stale,
-}
-
-/// Why a call was refused: the number that the library gave.
-#[derive(Clone, Copy, Debug, PartialEq, Eq)]
-pub struct Refusal(pub u8);
 
 impl Feed {
     /// A state in which nothing is followed.
@@ -147,45 +115,3 @@ pub fn write_group(
     let number = calls::write_group(address, protection as u32, message, &mut images);
     accepted(number).map(|()| images)
 }
-
-fn accepted(number: u8) -> Result<(), Refusal> {
-    match number {
-        0 => Ok(()),
-        number => Err(Refusal(number)),
-    }
-}
-
-fn worth(number: u8) -> Result<Worth, Refusal> {
-    match number {
-        4 => Ok(Worth::Nothing),
-        5 => Ok(Worth::Fresh),
-        6 => Ok(Worth::Doubtful),
-        7 => Ok(Worth::Stale),
-        number => Err(Refusal(number)),
-    }
-}
-
-impl fmt::Display for Refusal {
-    fn fmt(&self, text: &mut fmt::Formatter) -> fmt::Result {
-        let reason = match self.0 {
-            20 => "a length is wrong",
-            21 => "the spare bit is set",
-            22 => "the address is not 1 to 1,022",
-            23 => "the protection is not 0 or 1",
-            24 => "the limit is not 1 to 1,500",
-            25 => "the address is followed already",
-            26 => "no slot is free",
-            27 => "the address is not followed",
-            28 => "the type cannot be read",
-            29 => "the type is reserved",
-            30 => "the data is scrambled",
-            31 => "a protected word cannot be read",
-            32 => "the packet is out of step",
-            34 => "the state is not good",
-            _ => "a number that no call gives",
-        };
-        write!(text, "{reason} ({})", self.0)
-    }
-}
-
-impl std::error::Error for Refusal {}

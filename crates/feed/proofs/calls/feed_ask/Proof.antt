@@ -1,0 +1,17 @@
+use mathlib.Core.Path.{ap}
+use Rattle.table.specs.declared.Asked.{Asked}
+use borrow.Author.Needs.{needs}
+use Rattle.feed.proofs.calls.feed_ask.Statement.{statement}
+use Rattle.feed.proofs.calls.feed_ask.Tie as tie
+use Rattle.feed.proofs.calls.feed_ask.Reads as reads
+use Rattle.feed.proofs.calls.feed_ask.Lts as lts
+use Rattle.table.proofs.answer.Reads as answer-reads
+
+answer-requires : tie.Need-answer-requires
+answer-requires c κs = search needs
+
+returns : tie.Need-returns
+returns c = (ap (λ (x : Asked). x .number) (c .answer .ensures), (ap (λ (x : Asked). x .at) (c .answer .ensures), ap (λ (x : Asked). x .len) (c .answer .ensures)))
+
+pub feed-ask-spec : {M : Type 1} → statement M
+feed-ask-spec = tie.close (tie.spec answer-requires returns)

@@ -1,0 +1,24 @@
+use mathlib.Core.Path.{_∙_}
+use Rattle.table.specs.Calls.{followAnswer, followAfter}
+use borrow.Author.Needs.{needs}
+use Rattle.feed.proofs.calls.feed_follow.Statement.{statement}
+use Rattle.feed.proofs.calls.feed_follow.Tie as tie
+use Rattle.feed.proofs.calls.feed_follow.Reads as reads
+use Rattle.feed.proofs.calls.feed_follow.Lts as lts
+use Rattle.table.proofs.Following.new.Reads as new-reads
+use Rattle.table.proofs.follow.Reads as follow-reads
+
+new-requires : tie.Need-new-requires
+new-requires c κs = search needs
+
+follow-requires : tie.Need-follow-requires
+follow-requires c κs = search needs
+
+same-length : tie.Need-same-length
+same-length c = search needs
+
+returns : tie.Need-returns
+returns c = (c .before .before .follow .ensures .0 ∙ (λ i. followAnswer (c .before .before .before .before .before .before .args .state .now) (c .before .before .before .new .ensures .0 i) (c .before .before .before .new .ensures .1 i) (c .before .before .before .new .ensures .2 i)), c .before .before .follow .ensures .1 ∙ (λ i. followAfter (c .before .before .before .before .before .before .args .state .now) (c .before .before .before .new .ensures .0 i) (c .before .before .before .new .ensures .1 i) (c .before .before .before .new .ensures .2 i)))
+
+pub feed-follow-spec : {M : Type 1} → statement M
+feed-follow-spec = tie.close (tie.spec new-requires follow-requires same-length returns)

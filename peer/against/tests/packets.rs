@@ -1,0 +1,127 @@
+//! The packet call with damage counted out: so many flips in the header, in the type byte and in a word.
+
+use against::both::Both;
+use second::image::{protect, write_image, HEADER_AT, IMAGE, TYPE_AT, USEFUL_AT};
+use second::samples::calls::Call;
+use second::samples::{flip, flip_some, rounds, word_at, WORDS};
+use second::table::{follow, STATE};
+use second::types::{DATA, TYPES};
+use second::xorshift::Xorshift;
+
+const MOST: usize = 6;
+
+/// Sixteen addresses, plain and protected by turns. A header with four flips now and then reads as another of them.
+fn following() -> Vec<u8> {
+    let mut state = vec![0; STATE];
+    for k in 0..16 {
+        assert_eq!(follow(&mut state, 1 + 64 * k, k % 2, 3), 0);
+    }
+    state
+}
+
+fn image(random: &mut Xorshift, k: u32, index: u32, kind: u8) -> [u8; IMAGE] {
+    let useful = if k % 2 == 1 {
+        protect(&random.bytes())
+    } else {
+        random.bytes()
+    };
+    write_image(1 + 64 * k, index, kind, &useful)
+}
+
+#[test]
+fn flips_from_none_to_six() {
+    let mut random = Xorshift::new(121);
+    let mut both = Both::new(&following(), Call::make);
+    let each = 0..=MOST;
+    for round in 0..rounds(6) as u32 {
+        for header in each.clone() {
+            for kind in each.clone() {
+                for word in each.clone() {
+                    let k = random.below(16) as u32;
+                    // Groups go on where the damage lets them.
+                    let awaited = both.state()[736 * k as usize + 733];
+                    let index = if round % 3 == 0 {
+                        random.below(4) as u32
+                    } else {
+                        awaited.into()
+                    };
+                    let mut bytes = image(&mut random, k, index, DATA);
+                    flip_some(&mut random, &mut bytes, HEADER_AT, header);
+                    flip_some(&mut random, &mut bytes, TYPE_AT, kind);
+                    let place = word_at(random.below(WORDS));
+                    flip_some(&mut random, &mut bytes, place, word);
+                    both.make(&Call::Packet(bytes.to_vec()));
+                }
+            }
+        }
+    }
+}
+
+/// The same flips in all words at once.
+#[test]
+fn flips_in_every_word() {
+    let mut random = Xorshift::new(122);
+    let mut both = Both::new(&following(), Call::make);
+    for round in 0..rounds(900) as u32 {
+        let (k, index) = (round / 4 % 16, round % 4);
+        let mut bytes = image(&mut random, k, index, DATA);
+        let most = random.below(5);
+        for place in 0..WORDS {
+            let count = random.below(most + 1);
+            flip_some(&mut random, &mut bytes, word_at(place), count);
+        }
+        both.make(&Call::Packet(bytes.to_vec()));
+    }
+}
+
+#[test]
+fn every_type_byte() {
+    let mut random = Xorshift::new(123);
+    for byte in 0..=255 {
+        for k in 0..2 {
+            let mut both = Both::new(&following(), Call::make);
+            let bytes = image(&mut random, k, 0, byte);
+            both.make(&Call::Packet(bytes.to_vec()));
+        }
+    }
+}
+
+/// Each bit of a sound image, and the spare bit with each type.
+#[test]
+fn every_single_bit() {
+    let mut random = Xorshift::new(124);
+    for k in 0..2 {
+        let bytes = image(&mut random, k, 0, DATA);
+        for bit in 0..8 * IMAGE {
+            let mut both = Both::new(&following(), Call::make);
+            let mut bytes = bytes;
+            flip(&mut bytes, bit);
+            let number = both.make(&Call::Packet(bytes.to_vec())).number;
+            assert_eq!(number, if bit == USEFUL_AT.end { 21 } else { 1 });
+        }
+        for kind in TYPES {
+            let mut both = Both::new(&following(), Call::make);
+            let mut bytes = image(&mut random, k, 0, kind);
+            flip(&mut bytes, USEFUL_AT.end);
+            assert_eq!(both.make(&Call::Packet(bytes.to_vec())).number, 21);
+        }
+    }
+}
+
+/// All headers. Addresses 0 and 1,023 are among them, and free slots have address 0 in their bytes.
+#[test]
+fn every_address_and_index() {
+    let mut few = vec![0; STATE];
+    assert_eq!(follow(&mut few, 512, 0, 3), 0);
+    for state in [few, following()] {
+        for address in 0..1024 {
+            for index in 0..4 {
+                let bytes = write_image(address, index, DATA, &[7; 90]);
+                let mut both = Both::new(&state, Call::make_fast);
+                let number = both.make(&Call::Packet(bytes.to_vec())).number;
+                let outside = address == 0 || address == 1023;
+                assert!(!outside || number == 27, "{address} {index}");
+            }
+        }
+    }
+}

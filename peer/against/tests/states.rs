@@ -1,0 +1,190 @@
+//! States that calls alone need never lead to, and lengths that are none: the library against the second implementation.
+
+use against::both::Both;
+use second::image::{protect, write_image, IMAGE};
+use second::samples::calls::{self, Call};
+use second::samples::{rounds, states};
+use second::slot::{Slot, SLOT};
+use second::table::{Table, SLOTS, STATE};
+use second::types::DATA;
+use second::xorshift::Xorshift;
+
+fn make(state: &[u8], call: &Call) -> u8 {
+    Both::new(state, Call::make).make(call).number
+}
+
+/// One call of every sort, for an address that may be followed or not.
+fn each(address: u32, image: &[u8]) -> [Call; 7] {
+    [
+        Call::Start,
+        Call::Follow(address, 1, 9),
+        Call::Leave(address),
+        Call::Packet(image.to_vec()),
+        Call::SubframeEnd,
+        Call::Ask(address),
+        Call::BoardText(address, vec![1, 2, 3]),
+    ]
+}
+
+fn used(state: &[u8]) -> Vec<Slot> {
+    let table = Table::decode(state).expect("a good state");
+    table.used().cloned().collect()
+}
+
+/// A sound image for a slot.
+fn image_for(random: &mut Xorshift, slot: &Slot, index: u32) -> [u8; IMAGE] {
+    let useful = if slot.protected {
+        protect(&random.bytes())
+    } else {
+        random.bytes()
+    };
+    write_image(slot.address, index, DATA, &useful)
+}
+
+#[test]
+fn good_states_made_by_hand() {
+    let mut random = Xorshift::new(111);
+    for _ in 0..rounds(1_500) {
+        let state = states::good(&mut random);
+        let slots = used(&state);
+        let image = calls::packet(&mut random, &slots.iter().collect::<Vec<_>>());
+        for address in slots
+            .first()
+            .map(|slot| slot.address)
+            .into_iter()
+            .chain([500])
+        {
+            for call in each(address, &image) {
+                make(&state, &call);
+            }
+        }
+    }
+}
+
+/// Every used slot of such a state with every index, and histories that begin there.
+#[test]
+fn packets_in_states_made_by_hand() {
+    let mut random = Xorshift::new(112);
+    for _ in 0..rounds(60) {
+        let state = states::good(&mut random);
+        for slot in used(&state) {
+            for index in 0..4 {
+                let image = image_for(&mut random, &slot, index);
+                make(&state, &Call::Packet(image.to_vec()));
+            }
+        }
+        let mut both = Both::new(&state, Call::make);
+        for _ in 0..60 {
+            let call = calls::any(&mut random, both.state());
+            both.make(&call);
+        }
+    }
+}
+
+/// Every place a slot can have in the table, alone and among fifteen others.
+#[test]
+fn every_place() {
+    let mut random = Xorshift::new(113);
+    for place in 0..SLOTS {
+        for others in [false, true] {
+            let mut state = vec![0; STATE];
+            for (k, bytes) in (0..).zip(state.chunks_mut(SLOT)) {
+                if k == place || others {
+                    let slot = states::slot(&mut random, 1 + 68 * k as u32);
+                    bytes.copy_from_slice(&slot.encode());
+                }
+            }
+            for slot in used(&state) {
+                let image = image_for(&mut random, &slot, slot.awaited.into());
+                for call in each(slot.address, &image) {
+                    make(&state, &call);
+                }
+            }
+        }
+    }
+}
+
+#[test]
+fn bad_states() {
+    let mut random = Xorshift::new(114);
+    for _ in 0..rounds(4_000) {
+        let state = states::bad(&mut random);
+        let address = [0, 1, 17, 1022][random.below(4)];
+        let image = write_image(address, 0, DATA, &random.bytes());
+        for call in each(address, &image) {
+            let number = make(&state, &call);
+            let expected = if call == Call::Start { 0 } else { 34 };
+            assert_eq!(number, expected, "{call:02x?}");
+        }
+    }
+}
+
+/// A byte in a free slot, in each of its places: the test for good has to look at all of them.
+#[test]
+fn a_stray_byte_everywhere() {
+    let mut random = Xorshift::new(115);
+    let mut state = vec![0; STATE];
+    for place in 0..STATE {
+        state[place] = 1 << random.below(8);
+        assert_eq!(make(&state, &Call::SubframeEnd), 34, "{place}");
+        state[place] = 0;
+    }
+}
+
+/// Every value of every byte of a head.
+#[test]
+fn every_byte_of_a_head() {
+    let mut random = Xorshift::new(116);
+    for round in 0..rounds(2) {
+        let mut state = vec![0; STATE];
+        let place = [0, SLOTS - 1, 7][round % 3];
+        let slot = states::slot(&mut random, 300);
+        state[SLOT * place..][..SLOT].copy_from_slice(&slot.encode());
+        for at in SLOT * place + 720..SLOT * (place + 1) {
+            let kept = state[at];
+            for byte in 0..=255 {
+                state[at] = byte;
+                make(&state, &Call::Ask(300));
+            }
+            state[at] = kept;
+        }
+    }
+}
+
+/// Two slots with one address, each pair of places.
+#[test]
+fn an_address_twice() {
+    let mut random = Xorshift::new(117);
+    for one in 0..SLOTS {
+        for other in 0..SLOTS {
+            let mut state = vec![0; STATE];
+            for place in [one, other] {
+                let slot = states::slot(&mut random, 300);
+                state[SLOT * place..][..SLOT].copy_from_slice(&slot.encode());
+            }
+            let number = make(&state, &Call::SubframeEnd);
+            assert_eq!(number, if one == other { 0 } else { 34 });
+        }
+    }
+}
+
+#[test]
+fn wrong_lengths() {
+    let mut random = Xorshift::new(118);
+    let image = write_image(17, 0, DATA, &[7; 90]).repeat(2);
+    let contents = [0; 2 * STATE];
+    let states = [
+        0, 1, 15, 16, 94, 735, 736, 11_040, 11_775, 11_776, 11_777, 23_552,
+    ];
+    for state in states {
+        for length in [0, 1, 2, 93, 94, 95, 187, 188] {
+            for call in each(17, &image[..length]) {
+                make(&contents[..state], &call);
+            }
+        }
+        let noise: Vec<u8> = (0..state).map(|_| random.below(256) as u8).collect();
+        for call in each(17, &image[..IMAGE]) {
+            make(&noise, &call);
+        }
+    }
+}
