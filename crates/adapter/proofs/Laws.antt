@@ -3,17 +3,15 @@
 --   followed-both, both-followed     followed: an address above 0 that a slot has
 --   Placed s image                   no row of 20, 34, 21 and 27 holds
 --   placed, placed-zero              exactly then nothing is refused before the slot is asked
---   lost-refused                     20 or 21 where the image is not 94 bytes or its spare bit is set
+--   size-refused, spare-refused      20 where the image is not 94 bytes, 21 where its spare bit is set
 --   packet-refused, packet-placed    the call's answer with the state after it, by these rows
 --
 -- Assumes nothing.
 use mathlib.Core.Path.{_≡_, refl, sym, ap, ap₂, _∙_}
 use mathlib.Core.Bool.{Bool, true, false, not, _&&_}
 use mathlib.Core.List.{List, [], _∷_}
-use mathlib.Core.Logic.{_⊎_, inl, inr}
 use Prim.Native.Nat.{ℕ, _<_}
 use native.Mathlib.Omega.{arith}
-use native.Mathlib.Decide.{ℕ-discrete}
 use borrow.Author.Tests.{not-false, eqb-true, eq-eqb, ne-eqb, lt-ltb, ltb-true}
 use lib.Dec.{ltb, eqb}
 use lib.ListN.{length}
@@ -64,14 +62,12 @@ placed-zero s image p =
     past s image (p .size) (p .state) ∙ refusal-miss (eqb (spareOf image) 1) 21 _ (p .spare)
     ∙ refusal-miss (not (followed s (addressOf image))) 27 [] (ap not (p .place)) ∙ refusal-none
 
-pub lost-refused : (s image : List ℕ) → Passed s → (length image ≡ 94 → ⊥) ⊎ (spareOf image ≡ 1) → (unplaced s image ≡ 20) ⊎ (unplaced s image ≡ 21)
+pub size-refused : (s image : List ℕ) → (length image ≡ 94 → ⊥) → unplaced s image ≡ 20
 unfolding unplaced
-lost-refused s image p (inl ne) = inl (refusal-hit (not (eqb (length image) 94)) 20 _ (ap not (ne-eqb (length image) 94 ne)))
-lost-refused s image p (inr e) = go (ℕ-discrete (length image) 94)
-  where
-    go : Dec (length image ≡ 94) → (unplaced s image ≡ 20) ⊎ (unplaced s image ≡ 21)
-    go (no ne) = inl (refusal-hit (not (eqb (length image) 94)) 20 _ (ap not (ne-eqb (length image) 94 ne)))
-    go (yes l) = inr (past s image l p ∙ refusal-hit (eqb (spareOf image) 1) 21 _ (eq-eqb (spareOf image) 1 e))
+size-refused s image ne = refusal-hit (not (eqb (length image) 94)) 20 _ (ap not (ne-eqb (length image) 94 ne))
+
+pub spare-refused : (s image : List ℕ) → length image ≡ 94 → Passed s → spareOf image ≡ 1 → unplaced s image ≡ 21
+spare-refused s image l p e = past s image l p ∙ refusal-hit (eqb (spareOf image) 1) 21 _ (eq-eqb (spareOf image) 1 e)
 
 module _ (s image : List ℕ) where
   pub packet-refused : (unplaced s image ≡ 0 → ⊥) → (packetAnswer s image ≡ unplaced s image) × (packetAfter s image ≡ s)

@@ -63,7 +63,7 @@ reason-number r (inr (inl e)) = ap (λ (n : ℕ). number (reasonOf n)) e ∙ sym
 reason-number r (inr (inr (inl e))) = ap (λ (n : ℕ). number (reasonOf n)) e ∙ sym e
 reason-number r (inr (inr (inr e))) = ap (λ (n : ℕ). number (reasonOf n)) e ∙ sym e
 
-refused-not-zero : (r : Reading) → Refused r → r .number ≡ 0 → ⊥
+pub refused-not-zero : (r : Reading) → Refused r → r .number ≡ 0 → ⊥
 refused-not-zero r (inl e) z = omega (arith, e, z)
 refused-not-zero r (inr (inl e)) z = omega (arith, e, z)
 refused-not-zero r (inr (inr (inl e))) z = omega (arith, e, z)

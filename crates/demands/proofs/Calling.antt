@@ -3,7 +3,6 @@
 --
 --   acts             each call that neither leaves the address nor starts
 --   answer-here      the answer to a packet that arrives at the address is the event's
---   answer-lost      one that is read as the address and does not arrive is refused with 20 or 21
 --   ask-here, shown-here
 --   follow-serves    an accepted follow gives a new one
 --
@@ -15,32 +14,34 @@ use mathlib.Core.Logic.{_⊎_, inl, inr}
 use Prim.Native.Nat.{ℕ, _*_, _+_, _≤_, _<_}
 use native.Mathlib.Omega.{arith}
 use native.Mathlib.Decide.{ℕ-discrete}
-use borrow.Author.Tests.{eq-eqb, ne-eqb, eqb-true, not-false, le-leb}
-use lib.Dec.{T, eqb}
+use borrow.Author.Tests.{eq-eqb, ne-eqb, eqb-true, not-false, le-leb, lt-ltb, leb-true}
+use lib.Dec.{T, leb, ltb, eqb}
 use lib.ListN.{length}
 use Rattle.bits.specs.Bits.{blank}
 use Rattle.bits.specs.Rows.{done}
-use Rattle.bits.proofs.Rows.{refusal-none, done-passed}
+use Rattle.bits.proofs.Rows.{refusal-miss, refusal-none, done-passed}
 use Rattle.bits.proofs.Storing.{blank-length}
 use Rattle.bits.proofs.Search.{and-left, and-right}
 use Rattle.image.specs.Image.{spareOf}
-use Rattle.slot.specs.Slot.{headOf, withHead}
-use Rattle.slot.specs.Head.{newHead}
+use Rattle.slot.specs.Part.{part}
+use Rattle.slot.specs.Slot.{headOf, withHead, stored}
+use Rattle.slot.specs.Head.{newHead, within, shown}
 use Rattle.slot.specs.declared.Head.{Head}
-use Rattle.slot.proofs.Laws.{good-new, good-load, good-store, withHead-length, head-blank, blank-free}
+use Rattle.slot.proofs.Laws.{good-new, good-load, good-store, withHead-length, head-blank, part-part}
 use Rattle.table.specs.State.{stateSize, slots, slotAt, withSlot, addressAt, find, good}
-use Rattle.table.specs.Calls.{followAnswer, followAfter, leaveAnswer, leaveAfter, endAnswer, endAfter, ages, asked, askPart}
-use Rattle.table.proofs.Looking.{Passed, state-rest}
-use Rattle.table.proofs.States.{Good, each-good, good-each, find-has, slot-length, address-is}
+use Rattle.table.specs.Calls.{followAnswer, followAfter, leaveAnswer, leaveAfter, endAnswer, endAfter, ages, groupLength, askedAt, askedBy, asked, askPart}
+use Rattle.table.specs.declared.Asked.{Asked}
+use Rattle.table.proofs.Looking.{Passed, state-rest, asked-none, asked-group}
+use Rattle.table.proofs.States.{each-good, good-each, find-has, find-only, find-none, slot-length, with-length, slot-same, address-is, address-same, address-other}
 use Rattle.table.proofs.Kept.{Followed, follow-passed, leave-passed, done-either, follow-good, leave-good, aged-slot, ages-good}
 use Rattle.group.specs.Group.{takenNumber, takenAfter}
 use Rattle.history.specs.Followed as one
 use Rattle.adapter.specs.Calls.{addressOf, followed, unplaced, readingAt, slotAnswer, slotAfter, packetAnswer, packetAfter}
-use Rattle.adapter.proofs.Laws.{both-followed, followed-both, Placed, placed, placed-zero, lost-refused, packet-refused, packet-placed}
+use Rattle.adapter.proofs.Laws.{both-followed, followed-both, Placed, placed, placed-zero, packet-refused, packet-placed}
 use Rattle.demands.specs.Machine.{Call, start, follow, leave, packet, subframeEnd, ask, ourAfter, ourAnswer}
 use Rattle.demands.specs.Demand3.{Stays}
-use Rattle.demands.proofs.View.{viewOf, view-aged, view-new}
-use Rattle.demands.proofs.Serving.{Serves, view, Kept, kept-by, here-size, here-address, here-good, change-here, change-apart, change-none, older, ages-at, ages-long}
+use Rattle.demands.proofs.View.{lastIn, viewOf, view-aged, view-new}
+use Rattle.demands.proofs.Serving.{Serves, view, Kept, kept-by, here-size, here-address, here-good, here-bounds, change-here, change-apart, change-none, older, ages-at, ages-long}
 use Rattle.demands.proofs.Acting.{eventOf, Does, taken-does, arrivesAt, eventsAt, protectedAt}
 
 -- ---- images that arrive at an address
@@ -178,7 +179,7 @@ module _ (s : List ℕ) (a : ℕ) (v : Serves s a) where
           (ne-eqb (headOf (blank 736) .address) a (λ q. omega (arith, sym (ap (λ (y : Head). y .address) (head-blank 736)) ∙ q, v .pos))
           ∙ sym (ne-eqb (addressAt s (find s b)) a (λ q. ne (sym (find-has s b h) ∙ q))))
 
-  end-zero : endAnswer s ≡ 0
+  pub end-zero : endAnswer s ≡ 0
   unfolding endAnswer
   end-zero = state-rest s [] (v .size) (each-good s (v .all)) ∙ refusal-none
 
@@ -206,3 +207,100 @@ module _ (s : List ℕ) (a : ℕ) (v : Serves s a) where
   acts (packet image) st = packet-acts image (arrivesAt a image) refl
   acts subframeEnd st = end-acts
   acts (ask b) st = change-none s a v
+
+-- ---- ask
+
+-- what an answer says of a head and of its slot's room, by whether there is no group
+abbrev Says : List ℕ → ℕ → Head → Asked → Bool → Type 0
+Says s k h r none =
+    (r .number ≡ cond none 4 (cond (leb (h .limit) (h .age)) 7 (cond (eqb (h .gap) 1) 6 5)))
+    × (part (r .at) (r .len) s ≡ cond none [] (part 0 (groupLength h) (stored (slotAt k s))))
+
+-- a part of a slot's room is a part of the state
+room-part : (s : List ℕ) (k n : ℕ) → n ≤ 360 → part (k * 736 + 360) n s ≡ part 0 n (stored (slotAt k s))
+unfolding stored slotAt
+room-part s k n h =
+    let at : k * 736 + (360 + 0) ≡ k * 736 + 360 = omega arith in
+    ap (λ (m : ℕ). part m n s) (sym at) ∙ sym (part-part (360 + 0) n (k * 736) 736 s (omega arith))
+    ∙ sym (part-part 0 n 360 360 (part (k * 736) 736 s) (omega arith))
+
+group-le : (h : Head) → groupLength h ≤ 360
+unfolding groupLength
+group-le h = go (eqb (h .protection) 1)
+  where
+    go : (b : Bool) → cond b 180 360 ≤ 360
+    go true = omega arith
+    go false = omega arith
+
+asked-says : (s : List ℕ) (k : ℕ) (h : Head) → Says s k h (askedAt k h) (eqb (h .group) 0)
+unfolding part shown
+asked-says s k h = go (ℕ-discrete (h .group) 0)
+  where
+    go : Dec (h .group ≡ 0) → Says s k h (askedAt k h) (eqb (h .group) 0)
+    go (yes e) =
+        subst (λ (r : Asked). Says s k h r (eqb (h .group) 0)) (sym (asked-none k h e))
+        (subst (λ (b : Bool). Says s k h (record { number = 4; at = 0; len = 0 }) b) (sym (eq-eqb (h .group) 0 e)) (refl, refl))
+    go (no e) =
+        subst (λ (r : Asked). Says s k h r (eqb (h .group) 0)) (sym (asked-group h e k))
+        (subst (λ (b : Bool). Says s k h (record { number = shown h; at = k * 736 + 360; len = groupLength h }) b) (sym (ne-eqb (h .group) 0 e))
+        (ap (λ (b : Bool). cond b 4 (cond (leb (h .limit) (h .age)) 7 (cond (eqb (h .gap) 1) 6 5))) (ne-eqb (h .group) 0 e),
+        room-part s k (groupLength h) (group-le h)))
+
+module _ (s : List ℕ) (a : ℕ) (v : Serves s a) where
+  abbrev head : Head
+  head = headOf (slotAt (find s a) s)
+
+  leave-zero : leaveAnswer s a ≡ 0
+  unfolding leaveAnswer
+  leave-zero =
+      let b = here-bounds s a v in
+      let at = here-address s a v in
+      state-rest s _ (v .size) (each-good s (v .all))
+      ∙ refusal-miss (not (within 1 1022 a)) 22 _
+      (λ i. not (le-leb 1 a (omega (arith, b .address-from, at)) i && le-leb a 1022 (omega (arith, b .address-to, at)) i))
+      ∙ refusal-miss (not (ltb (find s a) slots)) 27 [] (ap not (lt-ltb (find s a) slots (v .found))) ∙ refusal-none
+
+  asked-here : asked s a ≡ askedAt (find s a) head
+  unfolding asked askedBy
+  asked-here = ap (λ (n : ℕ). askedBy n (askedAt (find s a) head)) leave-zero
+
+  pub ask-here : asked s a .number ≡ shown (view s a .head)
+  unfolding view viewOf shown
+  ask-here = ap (λ (r : Asked). r .number) asked-here ∙ asked-says s (find s a) head .0
+
+  pub shown-here : askPart s a ≡ view s a .last
+  unfolding askPart view viewOf lastIn
+  shown-here = ap (λ (r : Asked). part (r .at) (r .len) s) asked-here ∙ asked-says s (find s a) head .1
+
+-- ---- follow
+
+-- no other slot has the new address
+only-slot : (s : List ℕ) (a k : ℕ) (b : List ℕ) (l : length s ≡ stateSize) (h : k < slots) (lb : length b ≡ 736) → slots ≤ find s a
+    → (j : ℕ) → j < slots → addressAt (withSlot k b s) j ≡ a → Dec (j ≡ k) → j ≡ k
+only-slot s a k b l h lb none j hj q (yes e) = e
+only-slot s a k b l h lb none j hj q (no e) = absurd (find-none s a none j hj (sym (address-other s l k b h lb j e) ∙ q))
+
+pub follow-serves : (s : List ℕ) (a p l : ℕ) → followAnswer s a p l ≡ 0 → Kept (followAfter s a p l) a (one.followed a p l)
+unfolding followAfter view
+follow-serves s a p l e =
+    let f = follow-passed s a p l e in
+    let k = find s 0 in
+    let size = f .state .size in
+    let lk = slot-length s size k (f .room) in
+    let gh = good-new a p l (f .address) (le-leb p 1 (f .protection)) (f .limit) in
+    let new = withHead (newHead a p l) (slotAt k s) in
+    let ln = withHead-length (newHead a p l) (slotAt k s) lk ∙ lk in
+    let t = withSlot k new s in
+    let there : headOf new .address ≡ a = ap (λ (h : Head). h .address) (good-load (newHead a p l) gh (slotAt k s) lk) in
+    let at : find t a ≡ k = find-only t a k (f .room) (address-same s size k new (f .room) ln ∙ there) (λ j hj q. only-slot s a k new size (f .room) ln (f .absent) j hj q (ℕ-discrete j k)) in
+    let same : t ≡ followAfter s a p l = sym (done-passed (followAnswer s a p l) t s e) in
+    subst (λ (x : List ℕ). Kept x a (one.followed a p l)) same
+    (record {
+      serves = record {
+        size = with-length s size k new (f .room) ln;
+        all = good-each t (ap good same ∙ follow-good s a p l (f .state .all-good));
+        pos = leb-true 1 a (and-left (leb 1 a) (leb a 1022) (f .address));
+        found = subst (λ (n : ℕ). n < slots) (sym at) (f .room);
+      };
+      seen = ap (λ (n : ℕ). viewOf (slotAt n t)) at ∙ ap viewOf (slot-same s size k new (f .room) ln) ∙ view-new a p l (slotAt k s) lk gh;
+    })

@@ -13,9 +13,10 @@
 --   Arrived p h i          all four packets of group i arrived readable: not refused with 20, 21 or 28 to 31
 --   handedOut m a h s      what ask shows of the address after each answer 3 to a packet read as it
 --   tells m a h s t        the transcript at the address: its answers and the subframe ends, the newest first
+--   only a h               the calls that concern the address; answersAt: the answers to them
 --   Demand3 m
 use mathlib.Core.Path.{_≡_}
-use mathlib.Core.Bool.{Bool, false, cond, not, _&&_, _||_}
+use mathlib.Core.Bool.{Bool, true, false, cond, not, _&&_, _||_}
 use mathlib.Core.List.{List, [], _∷_}
 use mathlib.Core.Logic.{_⊎_}
 use Prim.Native.Nat.{ℕ, suc, _+_, _*_, _<_}
@@ -123,6 +124,26 @@ unfoldable pub tells : Machine → ℕ → List Call → List ℕ → List Entry
 tells m a [] s t = t
 tells m a (x ∷ h) s t = tells m a h (m .after x s) (noted a x (m .answer x s) t)
 
+-- ---- what other addresses alter: the calls that concern an address, and their answers
+
+unfoldable pub concerns : ℕ → Call → Bool
+concerns a start = true
+concerns a (follow b p l) = eqb b a
+concerns a (leave b) = eqb b a
+concerns a (packet image) = eqb (addressOf image) a
+concerns a subframeEnd = true
+concerns a (ask b) = eqb b a
+
+unfoldable pub only : ℕ → List Call → List Call
+only a [] = []
+only a (x ∷ h) = cond (concerns a x) (x ∷ only a h) (only a h)
+
+unfoldable pub answersAt : Machine → ℕ → List Call → List ℕ → List ℕ
+answersAt m a [] s = []
+answersAt m a (x ∷ h) s =
+    let rest = answersAt m a h (m .after x s) in
+    cond (concerns a x) (m .answer x s ∷ rest) rest
+
 pub record Demand3 (m : Machine) : Type 0 where
   -- where the rows of section 6 accept a follow, it is accepted
   pub accepted : (s : List ℕ) (a p l : ℕ) → followAnswer s a p l ≡ 0 → m .answer (follow a p l) s ≡ 0
@@ -131,3 +152,7 @@ pub record Demand3 (m : Machine) : Type 0 where
   -- whatever the channel does
   pub fresh : (s : List ℕ) (a p l : ℕ) → followAnswer s a p l ≡ 0 → (h : List Call) → AllStay a h
       → let t = m .after (follow a p l) s in m .answer (ask a) (run m h t) ≡ called l (tells m a h t [])
+  -- leaving out every call that does not concern the address changes no answer and no shown part of it
+  pub undisturbed : (s : List ℕ) (a p l : ℕ) → followAnswer s a p l ≡ 0 → (h : List Call) → AllStay a h
+      → let t = m .after (follow a p l) s in
+      (answersAt m a h t ≡ answersAt m a (only a h) t) × (m .shown a (run m h t) ≡ m .shown a (run m (only a h) t))

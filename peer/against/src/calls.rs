@@ -112,7 +112,7 @@ pub fn board_text(state: &[u8], address: u32, notice: &[u8]) -> (u8, Lent, usize
 pub fn write_group(address: u32, protection: u32, message: &[u8], output: &mut [u8]) -> u8 {
     let (text, length) = (message.as_ptr(), message.len());
     let (room, room_length) = (output.as_mut_ptr(), output.len());
-    // SAFETY: the call reads the message and writes the output, each within its length. The output is borrowed alone, so
-    // the two do not overlap.
+    // SAFETY: the call reads the message and writes the output, each within its length. The output is borrowed alone,
+    // so the two do not overlap.
     unsafe { feed_write_group(address, protection, text, length, room, room_length) }
 }

@@ -1,4 +1,4 @@
-//! States that calls alone need never lead to, and lengths that are none: the library against the second implementation.
+//! States that calls alone need never lead to, and wrong lengths: the library against the second implementation.
 
 use against::both::Both;
 use second::image::{protect, write_image, IMAGE};
@@ -24,6 +24,12 @@ fn each(address: u32, image: &[u8]) -> [Call; 7] {
         Call::Ask(address),
         Call::BoardText(address, vec![1, 2, 3]),
     ]
+}
+
+/// The calls that test the state, with a plain packet.
+fn all_but_start(address: u32) -> Vec<Call> {
+    let image = write_image(address, 0, DATA, &[7; 90]);
+    each(address, &image)[1..].to_vec()
 }
 
 fn used(state: &[u8]) -> Vec<Slot> {
@@ -119,14 +125,16 @@ fn bad_states() {
     }
 }
 
-/// A byte in a free slot, in each of its places: the test for good has to look at all of them.
+/// A byte in a free slot, in each of its places: the test for good has to look at all of them, in every call.
 #[test]
 fn a_stray_byte_everywhere() {
     let mut random = Xorshift::new(115);
+    let calls = all_but_start(17);
     let mut state = vec![0; STATE];
     for place in 0..STATE {
         state[place] = 1 << random.below(8);
-        assert_eq!(make(&state, &Call::SubframeEnd), 34, "{place}");
+        let call = &calls[place % calls.len()];
+        assert_eq!(make(&state, call), 34, "{place} {call:02x?}");
         state[place] = 0;
     }
 }
@@ -144,7 +152,9 @@ fn every_byte_of_a_head() {
             let kept = state[at];
             for byte in 0..=255 {
                 state[at] = byte;
-                make(&state, &Call::Ask(300));
+                for call in all_but_start(300) {
+                    make(&state, &call);
+                }
             }
             state[at] = kept;
         }
@@ -162,8 +172,10 @@ fn an_address_twice() {
                 let slot = states::slot(&mut random, 300);
                 state[SLOT * place..][..SLOT].copy_from_slice(&slot.encode());
             }
-            let number = make(&state, &Call::SubframeEnd);
-            assert_eq!(number, if one == other { 0 } else { 34 });
+            for call in all_but_start(300) {
+                let refused = make(&state, &call) == 34;
+                assert_eq!(refused, one != other, "{one} {other} {call:02x?}");
+            }
         }
     }
 }

@@ -92,7 +92,7 @@ fn fits(n: u32, count: usize) -> bool {
     n >> count == 0
 }
 
-/// The information of the word within three flips of `n`, and these flips. No two words are as near as that to one number.
+/// The information of the word within three flips of `n`, and these flips. There is never more than one such word.
 fn near(words: &[u32], n: u32) -> Option<(u32, u8)> {
     let flips = |word: u32| (word ^ n).count_ones();
     let information = words.iter().position(|&word| flips(word) <= MOST_FLIPS)?;

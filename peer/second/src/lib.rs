@@ -1,9 +1,9 @@
 //! A second implementation of the whole adapter, written from the text of ETS 300 352 and of the paper alone.
 //!
 //! It goes another way than the library it is held against: words are made by long division of polynomials written
-//! out as coefficients, read by looking at all 4,096 words, an image is a row of 752 bits, and the state is taken out of
-//! its bytes, changed as a row of values and put back, in every call. It is slow and short, so that it can be checked by
-//! eye against the standard and the paper.
+//! out as coefficients and read by looking through all 4,096 words, an image is a row of 752 bits, and the state is
+//! taken out of its bytes, changed as a row of values and put back, in every call. It is slow and short, so that it can
+//! be checked by eye against the standard and the paper.
 //!
 //! Three modules are not part of that reading: `fast` is a rival for measuring, `samples` and `xorshift` make inputs
 //! for tests.

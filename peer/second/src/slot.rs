@@ -1,7 +1,7 @@
 //! A used slot of the state, taken out of its bytes and put back.
 //!
-//! The places are those of docs/LAYOUT.md. They stand here as an order of fields: no byte is nobody's, so a slot that was
-//! read and put back has the bytes that it had, whatever they were.
+//! The places are those of docs/LAYOUT.md. They stand here as an order of fields: no byte is nobody's, so a slot that
+//! was read and put back has the bytes that it had, whatever they were.
 
 use crate::image::{PROTECTED, USEFUL};
 use std::ops::RangeInclusive;

@@ -61,7 +61,8 @@ pub fn board_text(state: &[u8], address: u32, notice: &[u8]) -> (u8, Lent, usize
     }
 }
 
-/// Lets a call work on the slots of a state, if its length is right and it is good.
+/// Lets a call work on the slots of a state, if its length is right and it is good. Slots that it leaves alone go back
+/// to the bytes that they came from.
 pub(crate) fn change(state: &mut [u8], call: impl FnOnce(&mut Table) -> u8) -> u8 {
     let mut table = match Table::decode(state) {
         Ok(table) => table,

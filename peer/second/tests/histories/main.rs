@@ -1,6 +1,6 @@
-//! Random histories, and a bookkeeping apart that says what must come of them: a group is handed out exactly if its four
-//! packets came and could be read, as long as no more than three are lost in a row, and ask's number follows from the
-//! answers alone. The bookkeeping knows what was sent and what was done to it; it does not know the state.
+//! Random histories, and a bookkeeping apart that says what must come of them: a group is handed out exactly if its
+//! four packets came and could be read, as long as no more than three are lost in a row, and ask's number follows from
+//! the answers alone. The bookkeeping knows what was sent and what was done to it; it does not know the state.
 
 mod channel;
 mod line;

@@ -54,8 +54,8 @@ pub fn following(count: u32, protected: bool) -> State {
     state
 }
 
-/// Whole groups for so many addresses by turns, packet after packet, with so many flips in every header and every word. In
-/// plain data flips are no work to anybody: only the header gets them.
+/// Whole groups for so many addresses by turns, packet after packet, with so many flips in every header and every word.
+/// In plain data flips are no work to anybody: only the header gets them.
 pub fn groups(count: u32, protected: bool, flips: usize) -> Vec<Image> {
     let mut random = Xorshift::new(44);
     let mut images = Vec::new();

@@ -42,7 +42,7 @@ fn images(name: &str, protected: bool, images: &[Image]) {
     Row::measure(images.len(), ours, fast).print(name);
 }
 
-/// The packet call on a state of its own for each side, with so many slots in use. Every group that begins becomes whole.
+/// The packet call on a state for each side, with so many slots in use. Every group that begins becomes whole.
 fn packets(name: &str, count: u32, protected: bool, flips: usize) {
     let take = black_box(rival::PACKET);
     let images = inputs::groups(count, protected, flips);

@@ -1,0 +1,239 @@
+-- The channel in bits of images, as the arrivals of which the crate history speaks.
+--
+--   arrivals p h           what happens, as arrivals
+--   channel-order          they are in order; channel-stays: nothing leaves the address
+--   channel-events         their events are those of the calls
+--   readable-came, came-readable     a packet that arrived readable is one that came
+--   sent-apart             a packet sent to another address is read as that one, with at most three flips in its header
+--
+-- Assumes nothing.
+use mathlib.Core.Path.{_≡_, refl, sym, ap, ap₂, _∙_, subst}
+use mathlib.Core.Bool.{Bool, true, false, cond, not, _&&_}
+use mathlib.Core.List.{List, [], _∷_, _++_}
+use mathlib.Core.Logic.{_⊎_, inl, inr}
+use Prim.Native.Nat.{ℕ, zero, suc, _+_, _*_, _≤_, _<_}
+use native.Mathlib.Omega.{arith}
+use native.Mathlib.Decide.{ℕ-discrete}
+use borrow.Author.Tests.{eq-eqb, ne-eqb, eqb-true, leb-true}
+use lib.Dec.{T, leb, eqb}
+use lib.ListN.{length, take}
+use lib.Seq.{take-at}
+use Rattle.bits.specs.Bits.{flips, blank}
+use Rattle.bits.proofs.Search.{and-left, and-right}
+use Rattle.image.specs.Image.{headerOf, spareOf}
+use Rattle.packet.specs.Received.{received, partAs, filled}
+use Rattle.packet.specs.Damage.{dataSize, sentImage, Came, Refused}
+use Rattle.packet.specs.declared.Reading.{Reading}
+use Rattle.packet.proofs.Damages.{header-came, received-came}
+use Rattle.slot.specs.Slot.{headOf}
+use Rattle.slot.specs.Head.{within}
+use Rattle.table.specs.Calls.{followAnswer, followAfter}
+use Rattle.table.proofs.Kept.{Followed, follow-passed}
+use Rattle.history.specs.Followed as one
+use Rattle.history.specs.Transcript.{called, told}
+use Rattle.history.specs.Sent as sent
+use Rattle.history.proofs.Exactness.{exactly}
+use Rattle.history.proofs.Freshness.{freshness}
+use Rattle.adapter.specs.Calls.{addressOf}
+use Rattle.demands.specs.Machine.{Call, start, follow, leave, packet, subframeEnd, ask, Bytes, ours, ourAnswer, ourAfter, run}
+use Rattle.demands.specs.Demand3.{Stays, AllStay, Carries, Lost, Happening, arrives, call, callOf, calls, Apart, Comes, Channel, ReadableIn, Arrived, handedOut, tells, concerns, only, answersAt, Demand3}
+use Rattle.demands.proofs.Serving.{Serves, view, Kept}
+use Rattle.demands.proofs.Acting.{reasonOf, eventBy, eventOf, event-read, event-refused, refused-not-zero, arrivesAt, eventsAt}
+use Rattle.demands.proofs.Calling.{Arrives, is-arrives, arrives-is, ask-here, follow-serves}
+use Rattle.demands.proofs.Telling.{by, eventsOf, run-acts, tells-told, handed-same}
+
+-- ---- one image that came of a sent packet
+
+module _ (p : Bool) (a c : ℕ) (d image : List ℕ) (ha : a ≤ 1023) (hc : c < 4) (l : length d ≡ dataSize p) (b : Bytes d)
+    (came : Came p (sentImage p a c d) image) where
+  came-address : addressOf image ≡ a
+  unfolding addressOf
+  came-address = header-came p a c d ha (omega arith) l b image (came .header) .0
+
+  came-arrives : spareOf image ≡ 0 → Arrives a image
+  came-arrives z = record {
+    size = came .size;
+    spare = ne-eqb (spareOf image) 1 (λ q. omega (arith, z, q));
+    address = came-address;
+  }
+
+  came-event : received p image .number ≡ 0 → eventOf p image ≡ one.packet c d
+  unfolding filled
+  came-event z = event-read p image z ∙ go (received-came p a c d image ha (omega arith) l b came)
+    where
+      go : (received p image ≡ partAs c d) ⊎ Refused (received p image)
+          → one.packet (received p image .index) (take (dataSize p) (received p image .bytes)) ≡ one.packet c d
+      go (inl e) =
+          ap (λ (r : Reading). one.packet (r .index) (take (dataSize p) (r .bytes))) e
+          ∙ ap (one.packet c) (take-at d _ (dataSize p) l)
+      go (inr f) = absurd (refused-not-zero (received p image) f z)
+
+-- ---- arrivals
+
+unfoldable pub arrivalBy : ℕ → ℕ → ℕ → sent.Arrival
+arrivalBy zero i c = sent.came i c
+arrivalBy (suc n) i c = sent.damaged i c (reasonOf (suc n))
+
+-- of the other calls a subframe's end alone is one
+unfoldable pub passing : Call → List sent.Arrival
+passing start = []
+passing (follow b p l) = []
+passing (leave b) = []
+passing (packet image) = []
+passing subframeEnd = sent.subframeEnd ∷ []
+passing (ask b) = []
+
+unfoldable pub arrivals : Bool → List Happening → List sent.Arrival
+arrivals p [] = []
+arrivals p (arrives i c image ∷ h) = arrivalBy (received p image .number) i c ∷ arrivals p h
+arrivals p (call x ∷ h) = passing x ++ arrivals p h
+
+next-by : (m n i c : ℕ) (h : List sent.Arrival) → sent.Next 3 n i c → sent.InOrder 3 (suc (4 * i + c)) h
+    → sent.InOrder 3 n (arrivalBy m i c ∷ h)
+unfolding arrivalBy sent.InOrder
+next-by zero n i c h x y = (x, y)
+next-by (suc m) n i c h x y = (x, y)
+
+passing-order : (x : Call) (n : ℕ) (h : List sent.Arrival) → sent.InOrder 3 n h → sent.InOrder 3 n (passing x ++ h)
+unfolding passing sent.InOrder
+passing-order start n h o = o
+passing-order (follow b p l) n h o = o
+passing-order (leave b) n h o = o
+passing-order (packet image) n h o = o
+passing-order subframeEnd n h o = o
+passing-order (ask b) n h o = o
+
+pub channel-order : (p : Bool) (a : ℕ) (s : sent.Sent) (n : ℕ) (h : List Happening) → Channel p a s n h → sent.InOrder 3 n (arrivals p h)
+unfolding Channel arrivals sent.InOrder
+channel-order p a s n [] ch = tt
+channel-order p a s n (arrives i c image ∷ h) ch =
+    next-by (received p image .number) n i c (arrivals p h) (ch .0 .next) (channel-order p a s (suc (4 * i + c)) h (ch .1))
+channel-order p a s n (call x ∷ h) ch = passing-order x n (arrivals p h) (channel-order p a s n h (ch .1))
+
+apart-stays : (a : ℕ) (x : Call) → Apart a x → Stays a x
+unfolding Apart Stays
+apart-stays a start q = q
+apart-stays a (follow b p l) q = q
+apart-stays a (leave b) q = q
+apart-stays a (packet image) q = tt
+apart-stays a subframeEnd q = q
+apart-stays a (ask b) q = q
+
+pub channel-stays : (p : Bool) (a : ℕ) (s : sent.Sent) (n : ℕ) (h : List Happening) → Channel p a s n h → AllStay a (calls h)
+unfolding Channel calls callOf AllStay Stays
+channel-stays p a s n [] ch = tt
+channel-stays p a s n (arrives i c image ∷ h) ch = (tt, channel-stays p a s (suc (4 * i + c)) h (ch .1))
+channel-stays p a s n (call x ∷ h) ch = (apart-stays a x (ch .0), channel-stays p a s n h (ch .1))
+
+-- ---- the events are those of the calls
+
+-- an image that came of no packet sent to the address does not arrive there
+apart-away : (a : ℕ) (image : List ℕ) → Lost image ⊎ (addressOf image ≡ a → ⊥) → arrivesAt a image ≡ false
+apart-away a image q = go (arrivesAt a image) refl
+  where
+    clash : Arrives a image → Lost image ⊎ (addressOf image ≡ a → ⊥) → ⊥
+    clash r (inl (inl n)) = n (r .size)
+    clash r (inl (inr e)) = subst T (sym (eq-eqb (spareOf image) 1 e) ∙ r .spare) tt
+    clash r (inr n) = n (r .address)
+
+    go : (b : Bool) → arrivesAt a image ≡ b → arrivesAt a image ≡ false
+    go true e = absurd (clash (arrives-is a image e) q)
+    go false e = e
+
+passing-events : (p : Bool) (a : ℕ) (s : sent.Sent) (x : Call) (h : List sent.Arrival) (es : List one.Event) → Apart a x
+    → sent.events s h ≡ es → sent.events s (passing x ++ h) ≡ eventsAt a p x ++ es
+unfolding passing sent.events sent.event eventsAt Apart
+passing-events p a s start h es q e = e
+passing-events p a s (follow b r l) h es q e = e
+passing-events p a s (leave b) h es q e = e
+passing-events p a s (packet image) h es q e =
+    e ∙ sym (ap (λ (b : Bool). cond b (eventOf p image ∷ []) [] ++ es) (apart-away a image q))
+passing-events p a s subframeEnd h es q e = ap (λ (x : List one.Event). one.ended ∷ x) e
+passing-events p a s (ask b) h es q e = e
+
+arrival-event : (p : Bool) (s : sent.Sent) (i c : ℕ) (image : List ℕ)
+    → (received p image .number ≡ 0 → eventOf p image ≡ one.packet c (s i c))
+    → sent.event s (arrivalBy (received p image .number) i c) ≡ eventOf p image
+unfolding arrivalBy sent.event
+arrival-event p s i c image read = go (received p image .number) refl
+  where
+    go : (n : ℕ) → received p image .number ≡ n → sent.event s (arrivalBy n i c) ≡ eventOf p image
+    go zero e = sym (read e)
+    go (suc n) e =
+        sym (event-refused p image (λ z. omega (arith, sym e ∙ z)) ∙ ap (λ (m : ℕ). one.refused (reasonOf m)) e)
+
+pub channel-events : (p : Bool) (a : ℕ) (s : sent.Sent) → a ≤ 1023 → Carries p s → (n : ℕ) (h : List Happening) → Channel p a s n h
+    → sent.events s (arrivals p h) ≡ eventsOf a p (calls h)
+unfolding Channel arrivals sent.events eventsOf calls callOf eventsAt
+channel-events p a s ha k n [] ch = refl
+channel-events p a s ha k n (arrives i c image ∷ h) ch =
+    let x = ch .0 in
+    let hc = x .next .index in
+    let d = s i c in
+    let here = came-arrives p a c d image ha hc (k .size i c hc) (k .bytes i c hc) (x .came) (x .spare) in
+    ap₂ (λ (e : one.Event) (es : List one.Event). e ∷ es)
+    (arrival-event p s i c image (came-event p a c d image ha hc (k .size i c hc) (k .bytes i c hc) (x .came)))
+    (channel-events p a s ha k (suc (4 * i + c)) h (ch .1))
+    ∙ sym (ap (λ (b : Bool). cond b (eventOf p image ∷ []) [] ++ eventsOf a p (calls h)) (is-arrives a image here))
+channel-events p a s ha k n (call x ∷ h) ch =
+    passing-events p a s x (arrivals p h) (eventsOf a p (calls h)) (ch .0) (channel-events p a s ha k n h (ch .1))
+
+-- ---- readable is readable
+
+-- the group and the index of a packet that came
+cameAs : sent.Arrival → ℕ × ℕ
+cameAs (sent.came i c) = (i, c)
+cameAs (sent.damaged i c r) = (0, 0)
+cameAs sent.subframeEnd = (0, 0)
+
+isCame : sent.Arrival → Bool
+isCame (sent.came i c) = true
+isCame (sent.damaged i c r) = false
+isCame sent.subframeEnd = false
+
+came-by : (m j d i c : ℕ) → arrivalBy m j d ≡ sent.came i c → (j ≡ i) × (d ≡ c) × (m ≡ 0)
+unfolding arrivalBy cameAs isCame
+came-by zero j d i c e = (ap (λ (x : sent.Arrival). cameAs x .0) e, ap (λ (x : sent.Arrival). cameAs x .1) e, refl)
+came-by (suc m) j d i c e = absurd (subst T (sym (ap isCame e)) tt)
+
+passing-in : (i c : ℕ) (x : Call) (h : List sent.Arrival) → sent.CameIn i c h → sent.CameIn i c (passing x ++ h)
+unfolding passing sent.CameIn
+passing-in i c start h q = q
+passing-in i c (follow b p l) h q = q
+passing-in i c (leave b) h q = q
+passing-in i c (packet image) h q = q
+passing-in i c subframeEnd h q = inr q
+passing-in i c (ask b) h q = q
+
+passing-out : (i c : ℕ) (x : Call) (h : List sent.Arrival) → sent.CameIn i c (passing x ++ h) → sent.CameIn i c h
+unfolding passing sent.CameIn isCame
+passing-out i c start h q = q
+passing-out i c (follow b p l) h q = q
+passing-out i c (leave b) h q = q
+passing-out i c (packet image) h q = q
+passing-out i c subframeEnd h (inl e) = absurd (subst T (sym (ap isCame e)) tt)
+passing-out i c subframeEnd h (inr q) = q
+passing-out i c (ask b) h q = q
+
+pub readable-came : (p : Bool) (i c : ℕ) (h : List Happening) → ReadableIn p i c h → sent.CameIn i c (arrivals p h)
+unfolding ReadableIn arrivals sent.CameIn arrivalBy
+readable-came p i c [] q = q
+readable-came p i c (arrives j d image ∷ h) (inl e) =
+    inl (λ k. arrivalBy (e .2 k) (e .0 k) (e .1 k))
+readable-came p i c (arrives j d image ∷ h) (inr q) = inr (readable-came p i c h q)
+readable-came p i c (call x ∷ h) q = passing-in i c x (arrivals p h) (readable-came p i c h q)
+
+pub came-readable : (p : Bool) (i c : ℕ) (h : List Happening) → sent.CameIn i c (arrivals p h) → ReadableIn p i c h
+unfolding ReadableIn arrivals sent.CameIn
+came-readable p i c [] q = q
+came-readable p i c (arrives j d image ∷ h) (inl e) = inl (came-by (received p image .number) j d i c e)
+came-readable p i c (arrives j d image ∷ h) (inr q) = inr (came-readable p i c h q)
+came-readable p i c (call x ∷ h) q = came-readable p i c h (passing-out i c x (arrivals p h) q)
+
+-- ---- other addresses
+
+-- "no header at any address with more than three flipped bits": then no packet of another one is read as the address
+pub sent-apart : (p : Bool) (a b c : ℕ) (d image : List ℕ) → b ≤ 1023 → c < 4 → length d ≡ dataSize p → Bytes d
+    → flips (headerOf (sentImage p b c d)) (headerOf image) ≤ 3 → (b ≡ a → ⊥) → Apart a (packet image)
+unfolding Apart addressOf
+sent-apart p a b c d image hb hc l k f ne = inr (λ e. ne (sym (header-came p b c d hb (omega arith) l k image f .0) ∙ e))

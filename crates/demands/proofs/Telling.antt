@@ -1,0 +1,266 @@
+-- A list of our calls, as the list of events that it means at a followed address: what is left, what is told, what is handed
+-- out.
+--
+--   eventsOf a p h       the events of a list of calls
+--   run-acts             the address after the calls is the address after their events
+--   lost-answer, answer-by     what a packet at the address is answered that does not arrive, and one that does
+--   tells-told           the transcript of the answers is the events' own
+--   handed-same          what is handed out is what the events hand out
+--
+-- Assumes nothing.
+use mathlib.Core.Path.{_≡_, refl, sym, ap, ap₂, _∙_, subst}
+use mathlib.Core.Bool.{Bool, true, false, cond, not, _&&_, _||_}
+use mathlib.Core.List.{List, [], _∷_, _++_}
+use Prim.Native.Nat.{ℕ, zero, suc, _<_}
+use native.Mathlib.Omega.{arith}
+use native.Mathlib.Decide.{ℕ-discrete}
+use borrow.Author.Tests.{eq-eqb, ne-eqb, eqb-true}
+use lib.Dec.{T, eqb}
+use lib.ListN.{length, take}
+use Rattle.image.specs.Image.{spareOf}
+use Rattle.packet.specs.Received.{received}
+use Rattle.packet.specs.Damage.{dataSize}
+use Rattle.slot.specs.Slot.{headOf}
+use Rattle.slot.specs.Move.{Move, started, held, whole, outOfStep, moveOf, moveNumber, movedHead}
+use Rattle.slot.specs.declared.Head.{Head}
+use Rattle.table.specs.State.{slotAt, find}
+use Rattle.table.specs.Calls.{askPart}
+use Rattle.history.specs.Followed as one
+use Rattle.history.specs.Transcript.{Entry, answered, subframe, entry, told}
+use Rattle.history.proofs.Laws.{run-app}
+use Rattle.adapter.specs.Calls.{addressOf, unplaced, packetAnswer}
+use Rattle.adapter.proofs.Laws.{size-refused, spare-refused, packet-refused}
+use Rattle.demands.specs.Machine.{Call, start, follow, leave, packet, subframeEnd, ask, ours, ourAnswer, ourAfter, run}
+use Rattle.demands.specs.Demand3.{Stays, AllStay, handsOut, handedOut, noted, tells}
+use Rattle.demands.proofs.View.{viewOf}
+use Rattle.demands.proofs.Serving.{Serves, view, Kept}
+use Rattle.demands.proofs.Acting.{eventOf, eventBy, reasonOf, arrivesAt, eventsAt, protectedAt}
+use Rattle.demands.proofs.Calling.{Arrives, arrives-is, is-arrives, passed, answer-here, acts, shown-here}
+
+unfoldable pub eventsOf : ℕ → Bool → List Call → List one.Event
+eventsOf a p [] = []
+eventsOf a p (x ∷ h) = eventsAt a p x ++ eventsOf a p h
+
+-- ---- the protection stays
+
+moved-protection : (mv : Move) (h : Head) → movedHead mv h .protection ≡ h .protection
+unfolding movedHead
+moved-protection started h = refl
+moved-protection held h = refl
+moved-protection whole h = refl
+moved-protection outOfStep h = refl
+
+after-protection : (e : one.Event) (f : one.Followed) → one.after e f .head .protection ≡ f .head .protection
+unfolding one.after one.moved one.dropped one.aged
+after-protection (one.packet c b) f = moved-protection (moveOf (f .head .awaited) c) (f .head)
+after-protection (one.refused r) f = refl
+after-protection one.ended f = refl
+
+run-protection : (es : List one.Event) (f : one.Followed) → one.run es f .head .protection ≡ f .head .protection
+unfolding one.run
+run-protection [] f = refl
+run-protection (e ∷ es) f = run-protection es (one.after e f) ∙ after-protection e f
+
+-- the protection that an address is followed with
+abbrev pub by : one.Followed → Bool
+by f = eqb (f .head .protection) 1
+
+view-protected : (s : List ℕ) (a : ℕ) → by (view s a) ≡ protectedAt s a
+unfolding view viewOf
+view-protected s a = refl
+
+module _ (s : List ℕ) (a : ℕ) (v : Serves s a) (x : Call) (st : Stays a x) where
+  pub next : Kept (ourAfter x s) a (one.run (eventsAt a (by (view s a)) x) (view s a))
+  next = subst (λ (p : Bool). Kept (ourAfter x s) a (one.run (eventsAt a p x) (view s a))) (sym (view-protected s a)) (acts s a v x st)
+
+  pub next-by : by (view (ourAfter x s) a) ≡ by (view s a)
+  next-by = ap by (next .seen) ∙ ap (λ (n : ℕ). eqb n 1) (run-protection (eventsAt a (by (view s a)) x) (view s a))
+
+pub run-acts : (h : List Call) (s : List ℕ) (a : ℕ) → Serves s a → AllStay a h
+    → Kept (run ours h s) a (one.run (eventsOf a (by (view s a)) h) (view s a))
+unfolding run eventsOf AllStay one.run
+run-acts [] s a v st = record { serves = v; seen = refl }
+run-acts (x ∷ h) s a v st =
+    let n = next s a v x (st .0) in
+    let r = run-acts h (ourAfter x s) a (n .serves) (st .1) in
+    record {
+      serves = r .serves;
+      seen = r .seen
+          ∙ ap₂ (λ (p : Bool) (f : one.Followed). one.run (eventsOf a p h) f) (next-by s a v x (st .0)) (n .seen)
+          ∙ sym (run-app (eventsAt a (by (view s a)) x) (eventsOf a (by (view s a)) h) (view s a));
+    }
+
+-- ---- what a packet that does not arrive is answered
+
+-- read as the address, and yet refused with 20 or 21
+abbrev pub lostNumber : List ℕ → ℕ
+lostNumber image = cond (eqb (length image) 94) 21 20
+
+pub lost-answer : (s : List ℕ) (a : ℕ) → Serves s a → (image : List ℕ) → arrivesAt a image ≡ false → addressOf image ≡ a
+    → packetAnswer s image ≡ lostNumber image
+lost-answer s a v image e at = go (ℕ-discrete (length image) 94) (ℕ-discrete (spareOf image) 1)
+  where
+    answered-by : (n : ℕ) → unplaced s image ≡ n → 0 < n → packetAnswer s image ≡ n
+    answered-by n q h = packet-refused s image (λ z. omega (arith, q, z)) .0 ∙ q
+
+    go : Dec (length image ≡ 94) → Dec (spareOf image ≡ 1) → packetAnswer s image ≡ lostNumber image
+    go (no l) q = answered-by 20 (size-refused s image l) (omega arith) ∙ sym (ap (λ (b : Bool). cond b 21 20) (ne-eqb (length image) 94 l))
+    go (yes l) (yes q) =
+        answered-by 21 (spare-refused s image l (passed s a v) q) (omega arith) ∙ sym (ap (λ (b : Bool). cond b 21 20) (eq-eqb (length image) 94 l))
+    go (yes l) (no q) =
+        absurd (subst T (sym (is-arrives a image (record { size = l; spare = ne-eqb (spareOf image) 1 q; address = at })) ∙ e) tt)
+
+lost-number : (image : List ℕ) → ((eqb (lostNumber image) 20 || eqb (lostNumber image) 21) ≡ true) × (eqb (lostNumber image) 3 ≡ false)
+lost-number image = go (eqb (length image) 94)
+  where
+    go : (b : Bool) → ((eqb (cond b 21 20) 20 || eqb (cond b 21 20) 21) ≡ true) × (eqb (cond b 21 20) 3 ≡ false)
+    go true = (refl, refl)
+    go false = (refl, refl)
+
+-- an event at the address is answered otherwise
+not-lost : (e : one.Event) (f : one.Followed) → (eqb (one.answer e f) 20 || eqb (one.answer e f) 21) ≡ false
+unfolding one.answer one.number moveNumber
+not-lost (one.packet c b) f = go (moveOf (f .head .awaited) c)
+  where
+    go : (mv : Move) → (eqb (moveNumber mv) 20 || eqb (moveNumber mv) 21) ≡ false
+    go started = refl
+    go held = refl
+    go whole = refl
+    go outOfStep = refl
+not-lost (one.refused r) f = go r
+  where
+    go : (q : one.Reason) → (eqb (one.number q) 20 || eqb (one.number q) 21) ≡ false
+    go one.typeUnreadable = refl
+    go one.typeReserved = refl
+    go one.typeScrambled = refl
+    go one.wordUnreadable = refl
+not-lost one.ended f = refl
+
+-- an image's event is told by its answer
+entry-answered : (p : Bool) (image : List ℕ) (f : one.Followed) → entry (eventOf p image) f ≡ answered (one.answer (eventOf p image) f)
+unfolding eventOf eventBy entry
+entry-answered p image f = go (received p image .number)
+  where
+    go : (n : ℕ)
+        → entry (eventBy n (received p image .index) (take (dataSize p) (received p image .bytes))) f
+        ≡ answered (one.answer (eventBy n (received p image .index) (take (dataSize p) (received p image .bytes))) f)
+    go zero = refl
+    go (suc n) = refl
+
+-- one that arrives
+pub answer-by : (s : List ℕ) (a : ℕ) → Serves s a → (image : List ℕ) → Arrives a image
+    → packetAnswer s image ≡ one.answer (eventOf (by (view s a)) image) (view s a)
+answer-by s a v image r =
+    answer-here s a v image r ∙ ap (λ (p : Bool). one.answer (eventOf p image) (view s a)) (sym (view-protected s a))
+
+-- ---- the transcript
+
+module _ (s : List ℕ) (a : ℕ) (v : Serves s a) (t : List Entry) where
+  packet-told : (image : List ℕ) (b : Bool) → arrivesAt a image ≡ b
+      → noted a (packet image) (packetAnswer s image) t ≡ told (cond b (eventOf (by (view s a)) image ∷ []) []) (view s a) t
+  unfolding noted told
+  packet-told image true e =
+      let r = arrives-is a image e in
+      let ev = eventOf (by (view s a)) image in
+      let n : packetAnswer s image ≡ one.answer ev (view s a) = answer-by s a v image r in
+      ap (λ (k : ℕ). cond (eqb (addressOf image) a && not (eqb k 20 || eqb k 21)) (answered k ∷ t) t) n
+      ∙ ap₂ (λ (x y : Bool). cond (x && not y) (answered (one.answer ev (view s a)) ∷ t) t) (eq-eqb (addressOf image) a (r .address)) (not-lost ev (view s a))
+      ∙ ap (λ (x : Entry). x ∷ t) (sym (entry-answered (by (view s a)) image (view s a)))
+  packet-told image false e = go (ℕ-discrete (addressOf image) a)
+    where
+      skipped : (n : ℕ) → (eqb n 20 || eqb n 21) ≡ true → cond (eqb (addressOf image) a && not (eqb n 20 || eqb n 21)) (answered n ∷ t) t ≡ t
+      skipped n q = by-first (eqb (addressOf image) a)
+        where
+          by-first : (x : Bool) → cond (x && not (eqb n 20 || eqb n 21)) (answered n ∷ t) t ≡ t
+          by-first true = ap (λ (y : Bool). cond (not y) (answered n ∷ t) t) q
+          by-first false = refl
+
+      go : Dec (addressOf image ≡ a) → cond (eqb (addressOf image) a && not (eqb (packetAnswer s image) 20 || eqb (packetAnswer s image) 21)) (answered (packetAnswer s image) ∷ t) t ≡ t
+      go (yes q) = skipped (packetAnswer s image) (ap (λ (n : ℕ). eqb n 20 || eqb n 21) (lost-answer s a v image e q) ∙ lost-number image .0)
+      go (no q) = ap (λ (x : Bool). cond (x && not (eqb (packetAnswer s image) 20 || eqb (packetAnswer s image) 21)) (answered (packetAnswer s image) ∷ t) t) (ne-eqb (addressOf image) a q)
+
+  noted-told : (x : Call) → Stays a x → noted a x (ourAnswer x s) t ≡ told (eventsAt a (by (view s a)) x) (view s a) t
+  unfolding noted told eventsAt ourAnswer Stays entry
+  noted-told start st = absurd st
+  noted-told (follow b p l) st = refl
+  noted-told (leave b) st = refl
+  noted-told (packet image) st = packet-told image (arrivesAt a image) refl
+  noted-told subframeEnd st = refl
+  noted-told (ask b) st = refl
+
+told-app : (xs ys : List one.Event) (f : one.Followed) (t : List Entry) → told (xs ++ ys) f t ≡ told ys (one.run xs f) (told xs f t)
+unfolding told one.run
+told-app [] ys f t = refl
+told-app (e ∷ xs) ys f t = told-app xs ys (one.after e f) (entry e f ∷ t)
+
+pub tells-told : (h : List Call) (s : List ℕ) (a : ℕ) → Serves s a → AllStay a h → (t : List Entry)
+    → tells ours a h s t ≡ told (eventsOf a (by (view s a)) h) (view s a) t
+unfolding tells told eventsOf AllStay
+tells-told [] s a v st t = refl
+tells-told (x ∷ h) s a v st t =
+    let p = by (view s a) in
+    let n = next s a v x (st .0) in
+    ap (tells ours a h (ourAfter x s)) (noted-told s a v t x (st .0))
+    ∙ tells-told h (ourAfter x s) a (n .serves) (st .1) (told (eventsAt a p x) (view s a) t)
+    ∙ ap₂ (λ (q : Bool) (f : one.Followed). told (eventsOf a q h) f (told (eventsAt a p x) (view s a) t)) (next-by s a v x (st .0)) (n .seen)
+    ∙ sym (told-app (eventsAt a p x) (eventsOf a p h) (view s a) t)
+
+-- ---- what is handed out
+
+-- nothing by a call that means no event, and by an event as its answer says
+hands-none : (s : List ℕ) (a : ℕ) → Serves s a → (image : List ℕ) → arrivesAt a image ≡ false
+    → handsOut a (packet image) (packetAnswer s image) ≡ false
+unfolding handsOut
+hands-none s a v image e = go (ℕ-discrete (addressOf image) a)
+  where
+    go : Dec (addressOf image ≡ a) → (eqb (addressOf image) a && eqb (packetAnswer s image) 3) ≡ false
+    go (yes q) = ap₂ (λ (x y : Bool). x && y) (eq-eqb (addressOf image) a q) (ap (λ (n : ℕ). eqb n 3) (lost-answer s a v image e q) ∙ lost-number image .1)
+    go (no q) = ap (λ (x : Bool). x && eqb (packetAnswer s image) 3) (ne-eqb (addressOf image) a q)
+
+hands-here : (s : List ℕ) (a : ℕ) → Serves s a → (image : List ℕ) → Arrives a image
+    → handsOut a (packet image) (packetAnswer s image) ≡ eqb (one.answer (eventOf (by (view s a)) image) (view s a)) 3
+unfolding handsOut
+hands-here s a v image r =
+    ap₂ (λ (x : Bool) (n : ℕ). x && eqb n 3) (eq-eqb (addressOf image) a (r .address)) (answer-by s a v image r)
+
+module _ (s : List ℕ) (a : ℕ) (v : Serves s a) (es : List one.Event) (rest : List (List ℕ)) where
+  abbrev after-events : List one.Event → one.Followed
+  after-events xs = one.run xs (view s a)
+
+  packet-hands : (image : List ℕ) (b : Bool) → arrivesAt a image ≡ b → let xs = cond b (eventOf (by (view s a)) image ∷ []) [] in
+      rest ≡ one.handedOut es (after-events xs) → view (ourAfter (packet image) s) a ≡ after-events xs
+      → askPart (ourAfter (packet image) s) a ≡ view (ourAfter (packet image) s) a .last
+      → cond (handsOut a (packet image) (packetAnswer s image)) (askPart (ourAfter (packet image) s) a ∷ rest) rest
+      ≡ one.handedOut (xs ++ es) (view s a)
+  unfolding one.handedOut one.run
+  packet-hands image true e er es-seen shows =
+      let r = arrives-is a image e in
+      let ev = eventOf (by (view s a)) image in
+      ap₂ (λ (x : Bool) (y : List (List ℕ)). cond x (askPart (ourAfter (packet image) s) a ∷ y) y) (hands-here s a v image r) er
+      ∙ ap (λ (l : List ℕ). cond (eqb (one.answer ev (view s a)) 3) (l ∷ one.handedOut es (one.after ev (view s a))) (one.handedOut es (one.after ev (view s a))))
+      (shows ∙ ap (λ (f : one.Followed). f .last) es-seen)
+  packet-hands image false e er es-seen shows =
+      ap (λ (x : Bool). cond x (askPart (ourAfter (packet image) s) a ∷ rest) rest) (hands-none s a v image e) ∙ er
+
+  step-hands : (x : Call) → Stays a x → let xs = eventsAt a (by (view s a)) x in
+      rest ≡ one.handedOut es (after-events xs)
+      → cond (handsOut a x (ourAnswer x s)) (askPart (ourAfter x s) a ∷ rest) rest ≡ one.handedOut (xs ++ es) (view s a)
+  unfolding handsOut eventsAt ourAnswer Stays one.handedOut one.answer one.run
+  step-hands start st er = absurd st
+  step-hands (follow b p l) st er = er
+  step-hands (leave b) st er = er
+  step-hands (packet image) st er =
+      let n = next s a v (packet image) st in
+      packet-hands image (arrivesAt a image) refl er (n .seen) (shown-here (ourAfter (packet image) s) a (n .serves))
+  step-hands subframeEnd st er = er
+  step-hands (ask b) st er = er
+
+pub handed-same : (h : List Call) (s : List ℕ) (a : ℕ) → Serves s a → AllStay a h
+    → handedOut ours a h s ≡ one.handedOut (eventsOf a (by (view s a)) h) (view s a)
+unfolding handedOut one.handedOut eventsOf AllStay
+handed-same [] s a v st = refl
+handed-same (x ∷ h) s a v st =
+    let n = next s a v x (st .0) in
+    step-hands s a v (eventsOf a (by (view s a)) h) (handedOut ours a h (ourAfter x s)) x (st .0)
+    (handed-same h (ourAfter x s) a (n .serves) (st .1)
+    ∙ ap₂ (λ (p : Bool) (f : one.Followed). one.handedOut (eventsOf a p h) f) (next-by s a v x (st .0)) (n .seen))

@@ -1,0 +1,196 @@
+-- Demand 3, of our calls.
+--
+--   alike            two states in which the address is the same answer all that concerns it alike
+--   demand-3         ours
+--
+-- Assumes nothing.
+use mathlib.Core.Path.{_≡_, refl, sym, ap, ap₂, _∙_, subst}
+use mathlib.Core.Bool.{Bool, true, false, cond, not}
+use mathlib.Core.List.{List, [], _∷_}
+use Prim.Native.Nat.{ℕ, _≤_}
+use native.Mathlib.Omega.{arith}
+use borrow.Author.Tests.{eq-eqb, eqb-true, leb-true, lt-ltb}
+use lib.Dec.{T, leb, ltb, eqb}
+use Rattle.bits.specs.Rows.{row, refusal}
+use Rattle.bits.proofs.Search.{and-left, and-right}
+use Rattle.slot.specs.Head.{within, shown}
+use Rattle.table.specs.State.{slots, find}
+use Rattle.table.specs.Calls.{followAnswer, endAnswer, asked, askPart}
+use Rattle.table.proofs.Looking.{state-rest}
+use Rattle.table.proofs.States.{each-good}
+use Rattle.table.proofs.Kept.{follow-passed}
+use Rattle.history.specs.Followed as one
+use Rattle.history.specs.Sent.{Readable, Exactly}
+use Rattle.history.specs.Transcript.{called, told}
+use Rattle.history.proofs.Exactness.{exactly}
+use Rattle.history.proofs.Freshness.{freshness}
+use Rattle.adapter.specs.Calls.{addressOf, packetAnswer}
+use Rattle.demands.specs.Machine.{Call, start, follow, leave, packet, subframeEnd, ask, ours, ourAnswer, ourAfter, run}
+use Rattle.demands.specs.Demand3.{Stays, AllStay, Carries, Happening, calls, Channel, Arrived, handedOut, tells, concerns, only, answersAt, Demand3}
+use Rattle.demands.proofs.Serving.{Serves, view, Kept}
+use Rattle.demands.proofs.Acting.{eventOf, arrivesAt, eventsAt}
+use Rattle.demands.proofs.Calling.{arrives-is, end-zero, ask-here, shown-here, follow-serves}
+use Rattle.demands.proofs.Telling.{by, eventsOf, next, run-acts, lost-answer, answer-by, tells-told, handed-same}
+use Rattle.demands.proofs.Channels.{arrivals, channel-order, channel-stays, channel-events, readable-came, came-readable}
+
+-- ---- from an accepted follow on
+
+module _ (s : List ℕ) (a p l : ℕ) (e : followAnswer s a p l ≡ 0) where
+  abbrev t : List ℕ
+  t = ourAfter (follow a p l) s
+
+  begun : Kept t a (one.followed a p l)
+  unfolding ourAfter
+  begun = follow-serves s a p l e
+
+  begun-by : by (view t a) ≡ eqb p 1
+  unfolding one.followed
+  begun-by = ap by (begun .seen)
+
+  limits : (1 ≤ l) × (l ≤ 1500)
+  limits =
+      let f = follow-passed s a p l e in
+      (leb-true 1 l (and-left (leb 1 l) (leb l 1500) (f .limit)), leb-true l 1500 (and-right (leb 1 l) (leb l 1500) (f .limit)))
+
+  low : a ≤ 1023
+  low =
+      let f = follow-passed s a p l e in
+      omega (arith, leb-true a 1022 (and-right (leb 1 a) (leb a 1022) (f .address)))
+
+  fresh : (h : List Call) → AllStay a h → ourAnswer (ask a) (run ours h t) ≡ called l (tells ours a h t [])
+  unfolding ourAnswer
+  fresh h st =
+      let r = run-acts h t a (begun .serves) st in
+      let es = eventsOf a (by (view t a)) h in
+      ask-here (run ours h t) a (r .serves)
+      ∙ ap (λ (f : one.Followed). shown (f .head)) (r .seen ∙ ap (one.run es) (begun .seen))
+      ∙ freshness a p l (limits .0) (limits .1) es
+      ∙ ap (called l) (ap (λ (f : one.Followed). told es f []) (sym (begun .seen)) ∙ sym (tells-told h t a (begun .serves) st []))
+
+  exact : (sent : ℕ → ℕ → List ℕ) → Carries (eqb p 1) sent → (n : ℕ) (h : List Happening) → Channel (eqb p 1) a sent n h
+      → Exactly sent (Arrived (eqb p 1) h) (handedOut ours a (calls h) t)
+  unfolding Arrived Readable
+  exact sent k n h ch =
+      let st = channel-stays (eqb p 1) a sent n h ch in
+      let x = exactly a p l sent n (arrivals (eqb p 1) h) (channel-order (eqb p 1) a sent n h ch) in
+      let same : handedOut ours a (calls h) t ≡ _ =
+        handed-same (calls h) t a (begun .serves) st
+        ∙ ap₂ (λ (b : Bool) (f : one.Followed). one.handedOut (eventsOf a b (calls h)) f) begun-by (begun .seen)
+        ∙ ap (λ (es : List one.Event). one.handedOut es (one.followed a p l)) (sym (channel-events (eqb p 1) a sent low k n h ch)) in
+      record {
+        which = x .which;
+        bytes = same ∙ x .bytes;
+        rising = x .rising;
+        those = λ i q. x .those i (λ c hc. readable-came (eqb p 1) i c h (q c hc));
+        others = λ i q c hc. came-readable (eqb p 1) i c h (x .others i q c hc);
+      }
+
+-- ---- what concerns the address, in two states in which it is the same
+
+-- a follow of an address that is followed is refused, by its own numbers alone
+follow-again : (s : List ℕ) (a p l : ℕ) → Serves s a
+    → followAnswer s a p l ≡ refusal (row (not (within 1 1022 a)) 22 ∷ row (ltb 1 p) 23 ∷ row (not (within 1 1500 l)) 24 ∷ row true 25 ∷ [])
+unfolding followAnswer refusal
+follow-again s a p l v =
+    let rest = row (not (within 1 1022 a)) 22 ∷ row (ltb 1 p) 23 ∷ row (not (within 1 1500 l)) 24 ∷ row (ltb (find s a) slots) 25
+      ∷ row (not (ltb (find s 0) slots)) 26 ∷ [] in
+    state-rest s rest (v .size) (each-good s (v .all))
+    ∙ ap (λ (b : Bool). refusal (row (not (within 1 1022 a)) 22 ∷ row (ltb 1 p) 23 ∷ row (not (within 1 1500 l)) 24 ∷ row b 25
+    ∷ row (not (ltb (find s 0) slots)) 26 ∷ [])) (lt-ltb (find s a) slots (v .found))
+
+module _ (a : ℕ) (s u : List ℕ) (v : Serves s a) (w : Serves u a) (same : view s a ≡ view u a) where
+  packet-alike : (image : List ℕ) → addressOf image ≡ a → (b : Bool) → arrivesAt a image ≡ b → packetAnswer s image ≡ packetAnswer u image
+  packet-alike image at true e =
+      let r = arrives-is a image e in
+      answer-by s a v image r ∙ ap (λ (f : one.Followed). one.answer (eventOf (by f) image) f) same ∙ sym (answer-by u a w image r)
+  packet-alike image at false e = lost-answer s a v image e at ∙ sym (lost-answer u a w image e at)
+
+  answer-alike : (x : Call) → Stays a x → concerns a x ≡ true → ourAnswer x s ≡ ourAnswer x u
+  unfolding ourAnswer Stays concerns
+  answer-alike start st c = absurd st
+  answer-alike (follow b p l) st c =
+      let e = eqb-true b a c in
+      subst (λ (n : ℕ). followAnswer s n p l ≡ followAnswer u n p l) (sym e) (follow-again s a p l v ∙ sym (follow-again u a p l w))
+  answer-alike (leave b) st c = absurd (st (eqb-true b a c))
+  answer-alike (packet image) st c = packet-alike image (eqb-true (addressOf image) a c) (arrivesAt a image) refl
+  answer-alike subframeEnd st c = end-zero s a v ∙ sym (end-zero u a w)
+  answer-alike (ask b) st c =
+      let e = eqb-true b a c in
+      subst (λ (n : ℕ). asked s n .number ≡ asked u n .number) (sym e)
+      (ask-here s a v ∙ ap (λ (f : one.Followed). shown (f .head)) same ∙ sym (ask-here u a w))
+
+  view-alike : (x : Call) → Stays a x → view (ourAfter x s) a ≡ view (ourAfter x u) a
+  view-alike x st =
+      next s a v x st .seen ∙ ap (λ (f : one.Followed). one.run (eventsAt a (by f) x) f) same ∙ sym (next u a w x st .seen)
+
+-- a call that does not concern it means no event
+apart-none : (a : ℕ) (p : Bool) (x : Call) → concerns a x ≡ false → eventsAt a p x ≡ []
+unfolding concerns eventsAt
+apart-none a p start c = refl
+apart-none a p (follow b q l) c = refl
+apart-none a p (leave b) c = refl
+apart-none a p (packet image) c = ap (λ (b : Bool). cond b (eventOf p image ∷ []) []) (away (arrivesAt a image) refl)
+  where
+    away : (b : Bool) → arrivesAt a image ≡ b → arrivesAt a image ≡ false
+    away true e = absurd (subst T (sym (eq-eqb (addressOf image) a (arrives-is a image e .address)) ∙ c) tt)
+    away false e = e
+apart-none a p subframeEnd c = absurd (subst T c tt)
+apart-none a p (ask b) c = refl
+
+view-apart : (a : ℕ) (s : List ℕ) (v : Serves s a) (x : Call) → Stays a x → concerns a x ≡ false → view (ourAfter x s) a ≡ view s a
+unfolding one.run
+view-apart a s v x st c = next s a v x st .seen ∙ ap (λ (es : List one.Event). one.run es (view s a)) (apart-none a (by (view s a)) x c)
+
+pub record Alike (a : ℕ) (h : List Call) (s u : List ℕ) : Type 0 where
+  pub answers : answersAt ours a h s ≡ answersAt ours a (only a h) u
+  pub part : askPart (run ours h s) a ≡ askPart (run ours (only a h) u) a
+
+module _ (a : ℕ) (x : Call) (h : List Call) (s u : List ℕ) where
+  abbrev rest : List ℕ
+  rest = answersAt ours a h (ourAfter x s)
+
+  alike-with : concerns a x ≡ true → ourAnswer x s ≡ ourAnswer x u → Alike a h (ourAfter x s) (ourAfter x u) → Alike a (x ∷ h) s u
+  unfolding answersAt only run
+  alike-with c e k = record {
+    answers = ap (λ (b : Bool). cond b (ourAnswer x s ∷ rest) rest) c ∙ ap₂ (λ (n : ℕ) (ns : List ℕ). n ∷ ns) e (k .answers)
+        ∙ sym (ap (λ (b : Bool). answersAt ours a (cond b (x ∷ only a h) (only a h)) u) c
+        ∙ ap (λ (b : Bool). cond b (ourAnswer x u ∷ answersAt ours a (only a h) (ourAfter x u)) (answersAt ours a (only a h) (ourAfter x u))) c);
+    part = k .part ∙ sym (ap (λ (b : Bool). askPart (run ours (cond b (x ∷ only a h) (only a h)) u) a) c);
+  }
+
+  alike-without : concerns a x ≡ false → Alike a h (ourAfter x s) u → Alike a (x ∷ h) s u
+  unfolding answersAt only run
+  alike-without c k = record {
+    answers = ap (λ (b : Bool). cond b (ourAnswer x s ∷ rest) rest) c ∙ k .answers
+        ∙ sym (ap (λ (b : Bool). answersAt ours a (cond b (x ∷ only a h) (only a h)) u) c);
+    part = k .part ∙ sym (ap (λ (b : Bool). askPart (run ours (cond b (x ∷ only a h) (only a h)) u) a) c);
+  }
+
+pub alike : (a : ℕ) (h : List Call) (s u : List ℕ) → Serves s a → Serves u a → view s a ≡ view u a → AllStay a h → Alike a h s u
+unfolding answersAt only run AllStay
+alike a [] s u v w same st = record {
+  answers = refl;
+  part = shown-here s a v ∙ ap (λ (f : one.Followed). f .last) same ∙ sym (shown-here u a w);
+}
+alike a (x ∷ h) s u v w same st =
+    either (concerns a x)
+    (λ c. alike-with a x h s u c (answer-alike a s u v w same x (st .0) c)
+    (alike a h (ourAfter x s) (ourAfter x u) (next s a v x (st .0) .serves) (next u a w x (st .0) .serves) (view-alike a s u v w same x (st .0)) (st .1)))
+    (λ c. alike-without a x h s u c
+    (alike a h (ourAfter x s) u (next s a v x (st .0) .serves) w (view-apart a s v x (st .0) c ∙ same) (st .1)))
+  where
+    either : {A : Type 0} (b : Bool) → (b ≡ true → A) → (b ≡ false → A) → A
+    either true f g = f refl
+    either false f g = g refl
+
+pub demand-3 : Demand3 ours
+unfolding ourAnswer
+demand-3 = record {
+  accepted = λ s a p l e. e;
+  exactly = exact;
+  fresh = fresh;
+  undisturbed = λ s a p l e h st.
+      let b = begun s a p l e in
+      let k = alike a h _ _ (b .serves) (b .serves) refl st in
+      (k .answers, k .part);
+}
