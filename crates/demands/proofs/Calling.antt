@@ -1,9 +1,8 @@
 -- Each of our calls acts at a followed address by the events that it means there, and keeps the state good; what a packet at the
--- address is answered, and what ask says and shows of it.
+-- address is answered.
 --
 --   acts             each call that neither leaves the address nor starts
 --   answer-here      the answer to a packet that arrives at the address is the event's
---   ask-here, shown-here
 --   follow-serves    an accepted follow gives a new one
 --
 -- Assumes nothing.
@@ -74,7 +73,7 @@ module _ (s : List ℕ) (a : ℕ) (v : Serves s a) where
   pub passed : Passed s
   passed = record { size = v .size; all-good = each-good s (v .all) }
 
-  arrives-placed : (image : List ℕ) → Arrives a image → Placed s image
+  pub arrives-placed : (image : List ℕ) → Arrives a image → Placed s image
   arrives-placed image r = record {
     size = r .size;
     state = passed;
@@ -105,7 +104,7 @@ module _ (s : List ℕ) (a : ℕ) (v : Serves s a) where
       ∙ ap (λ (n : ℕ). takenNumber (readingAt (slotAt (find s n) s) image) (headOf (slotAt (find s n) s))) (r .address)
       ∙ does image (r .size) .number
 
-  packet-here : (image : List ℕ) → Arrives a image → Kept (packetAfter s image) a (one.after (eventOf (protectedAt s a) image) (view s a))
+  pub packet-here : (image : List ℕ) → Arrives a image → Kept (packetAfter s image) a (one.after (eventOf (protectedAt s a) image) (view s a))
   unfolding slotAfter
   packet-here image r =
       subst (λ (t : List ℕ). Kept t a (one.after (eventOf (protectedAt s a) image) (view s a)))
@@ -207,70 +206,6 @@ module _ (s : List ℕ) (a : ℕ) (v : Serves s a) where
   acts (packet image) st = packet-acts image (arrivesAt a image) refl
   acts subframeEnd st = end-acts
   acts (ask b) st = change-none s a v
-
--- ---- ask
-
--- what an answer says of a head and of its slot's room, by whether there is no group
-abbrev Says : List ℕ → ℕ → Head → Asked → Bool → Type 0
-Says s k h r none =
-    (r .number ≡ cond none 4 (cond (leb (h .limit) (h .age)) 7 (cond (eqb (h .gap) 1) 6 5)))
-    × (part (r .at) (r .len) s ≡ cond none [] (part 0 (groupLength h) (stored (slotAt k s))))
-
--- a part of a slot's room is a part of the state
-room-part : (s : List ℕ) (k n : ℕ) → n ≤ 360 → part (k * 736 + 360) n s ≡ part 0 n (stored (slotAt k s))
-unfolding stored slotAt
-room-part s k n h =
-    let at : k * 736 + (360 + 0) ≡ k * 736 + 360 = omega arith in
-    ap (λ (m : ℕ). part m n s) (sym at) ∙ sym (part-part (360 + 0) n (k * 736) 736 s (omega arith))
-    ∙ sym (part-part 0 n 360 360 (part (k * 736) 736 s) (omega arith))
-
-group-le : (h : Head) → groupLength h ≤ 360
-unfolding groupLength
-group-le h = go (eqb (h .protection) 1)
-  where
-    go : (b : Bool) → cond b 180 360 ≤ 360
-    go true = omega arith
-    go false = omega arith
-
-asked-says : (s : List ℕ) (k : ℕ) (h : Head) → Says s k h (askedAt k h) (eqb (h .group) 0)
-unfolding part shown
-asked-says s k h = go (ℕ-discrete (h .group) 0)
-  where
-    go : Dec (h .group ≡ 0) → Says s k h (askedAt k h) (eqb (h .group) 0)
-    go (yes e) =
-        subst (λ (r : Asked). Says s k h r (eqb (h .group) 0)) (sym (asked-none k h e))
-        (subst (λ (b : Bool). Says s k h (record { number = 4; at = 0; len = 0 }) b) (sym (eq-eqb (h .group) 0 e)) (refl, refl))
-    go (no e) =
-        subst (λ (r : Asked). Says s k h r (eqb (h .group) 0)) (sym (asked-group h e k))
-        (subst (λ (b : Bool). Says s k h (record { number = shown h; at = k * 736 + 360; len = groupLength h }) b) (sym (ne-eqb (h .group) 0 e))
-        (ap (λ (b : Bool). cond b 4 (cond (leb (h .limit) (h .age)) 7 (cond (eqb (h .gap) 1) 6 5))) (ne-eqb (h .group) 0 e),
-        room-part s k (groupLength h) (group-le h)))
-
-module _ (s : List ℕ) (a : ℕ) (v : Serves s a) where
-  abbrev head : Head
-  head = headOf (slotAt (find s a) s)
-
-  leave-zero : leaveAnswer s a ≡ 0
-  unfolding leaveAnswer
-  leave-zero =
-      let b = here-bounds s a v in
-      let at = here-address s a v in
-      state-rest s _ (v .size) (each-good s (v .all))
-      ∙ refusal-miss (not (within 1 1022 a)) 22 _
-      (λ i. not (le-leb 1 a (omega (arith, b .address-from, at)) i && le-leb a 1022 (omega (arith, b .address-to, at)) i))
-      ∙ refusal-miss (not (ltb (find s a) slots)) 27 [] (ap not (lt-ltb (find s a) slots (v .found))) ∙ refusal-none
-
-  asked-here : asked s a ≡ askedAt (find s a) head
-  unfolding asked askedBy
-  asked-here = ap (λ (n : ℕ). askedBy n (askedAt (find s a) head)) leave-zero
-
-  pub ask-here : asked s a .number ≡ shown (view s a .head)
-  unfolding view viewOf shown
-  ask-here = ap (λ (r : Asked). r .number) asked-here ∙ asked-says s (find s a) head .0
-
-  pub shown-here : askPart s a ≡ view s a .last
-  unfolding askPart view viewOf lastIn
-  shown-here = ap (λ (r : Asked). part (r .at) (r .len) s) asked-here ∙ asked-says s (find s a) head .1
 
 -- ---- follow
 

@@ -39,7 +39,7 @@ use Rattle.demands.specs.Machine.{Call, start, follow, leave, packet, su
 use Rattle.demands.specs.Demand3.{Stays, AllStay, Carries, Lost, Happening, arrives, call, callOf, calls, Apart, Comes, Channel, ReadableIn, Arrived, handedOut, tells, concerns, only, answersAt, Demand3}
 use Rattle.demands.proofs.Serving.{Serves, view, Kept}
 use Rattle.demands.proofs.Acting.{reasonOf, eventBy, eventOf, event-read, event-refused, refused-not-zero, arrivesAt, eventsAt}
-use Rattle.demands.proofs.Calling.{Arrives, is-arrives, arrives-is, ask-here, follow-serves}
+use Rattle.demands.proofs.Calling.{Arrives, is-arrives, arrives-is}
 use Rattle.demands.proofs.Telling.{by, eventsOf, run-acts, tells-told, handed-same}
 
 -- ---- one image that came of a sent packet

@@ -1,6 +1,11 @@
 pub mod Acting
 pub mod Calling
 pub mod Channels
+pub mod Cleanness
+pub mod Examples
+pub mod First
+pub mod Parts
+pub mod Second
 pub mod Serving
 pub mod Telling
 pub mod Third

@@ -35,7 +35,8 @@ use Rattle.demands.specs.Demand3.{Stays, AllStay, handsOut, handedOut, n
 use Rattle.demands.proofs.View.{viewOf}
 use Rattle.demands.proofs.Serving.{Serves, view, Kept}
 use Rattle.demands.proofs.Acting.{eventOf, eventBy, reasonOf, arrivesAt, eventsAt, protectedAt}
-use Rattle.demands.proofs.Calling.{Arrives, arrives-is, is-arrives, passed, answer-here, acts, shown-here}
+use Rattle.demands.proofs.Calling.{Arrives, arrives-is, is-arrives, passed, answer-here, acts}
+use Rattle.demands.proofs.Parts.{shown-here}
 
 unfoldable pub eventsOf : ℕ → Bool → List Call → List one.Event
 eventsOf a p [] = []

@@ -29,7 +29,8 @@ use Rattle.demands.specs.Machine.{Call, start, follow, leave, packet, su
 use Rattle.demands.specs.Demand3.{Stays, AllStay, Carries, Happening, calls, Channel, Arrived, handedOut, tells, concerns, only, answersAt, Demand3}
 use Rattle.demands.proofs.Serving.{Serves, view, Kept}
 use Rattle.demands.proofs.Acting.{eventOf, arrivesAt, eventsAt}
-use Rattle.demands.proofs.Calling.{arrives-is, end-zero, ask-here, shown-here, follow-serves}
+use Rattle.demands.proofs.Calling.{arrives-is, end-zero, follow-serves}
+use Rattle.demands.proofs.Parts.{ask-here, shown-here}
 use Rattle.demands.proofs.Telling.{by, eventsOf, next, run-acts, lost-answer, answer-by, tells-told, handed-same}
 use Rattle.demands.proofs.Channels.{arrivals, channel-order, channel-stays, channel-events, readable-came, came-readable}
 

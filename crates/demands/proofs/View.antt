@@ -52,7 +52,7 @@ unfolding heldIn part
 held-none h room e = ap (λ (n : ℕ). part 0 n room) (ap (λ (a : ℕ). a * blockOf h) e ∙ zero-mul (blockOf h))
 
 -- a group is four packets
-group-four : (h : Head) → groupLength h ≡ 4 * blockOf h
+pub group-four : (h : Head) → groupLength h ≡ 4 * blockOf h
 unfolding groupLength blockOf
 group-four h = go (eqb (h .protection) 1)
   where

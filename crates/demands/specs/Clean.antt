@@ -3,9 +3,9 @@
 --   CleanSlot x     behind the packets that a slot holds its unfinished room is 0, and behind the group that it shows, or where
 --                   it shows none, its whole group's room
 --   Clean s         each slot is so
---   StaysClean m    a start makes every state of the right length so, and every call on a good state keeps it so
+--   StaysClean m    a start makes every state of the right length so, and every call keeps it so
 use mathlib.Core.Path.{_≡_}
-use mathlib.Core.Bool.{true, cond}
+use mathlib.Core.Bool.{cond}
 use mathlib.Core.List.{List}
 use Prim.Native.Nat.{ℕ, _-_, _*_, _<_}
 use lib.Dec.{eqb}
@@ -13,7 +13,7 @@ use lib.ListN.{length, drop}
 use Rattle.bits.specs.Bits.{blank}
 use Rattle.slot.specs.Slot.{roomSize, headOf, unfinished, stored}
 use Rattle.slot.specs.declared.Head.{Head}
-use Rattle.table.specs.State.{stateSize, slots, slotAt, good}
+use Rattle.table.specs.State.{stateSize, slots, slotAt}
 use Rattle.table.specs.Calls.{groupLength}
 use Rattle.group.specs.Group.{blockOf}
 use Rattle.demands.specs.Machine.{Call, start, Machine}
@@ -34,4 +34,4 @@ Clean s = (k : ℕ) → k < slots → CleanSlot (slotAt k s)
 
 pub record StaysClean (m : Machine) : Type 0 where
   pub begins : (s : List ℕ) → length s ≡ stateSize → Clean (m .after start s)
-  pub stays : (x : Call) (s : List ℕ) → length s ≡ stateSize → good s ≡ true → Clean s → Clean (m .after x s)
+  pub stays : (x : Call) (s : List ℕ) → Clean s → Clean (m .after x s)

@@ -43,6 +43,7 @@ packets [] = []
 packets (t ∷ ts) = packet t ∷ packets ts
 
 pub record ReadBack (m : Machine) (s : List ℕ) (a : ℕ) (message : List ℕ) (ts : List (List ℕ)) : Type 0 where
+  pub size : length (run m (packets ts) s) ≡ length s
   pub answers : answersTo m ts s ≡ 1 ∷ 2 ∷ 2 ∷ 3 ∷ []
   pub fresh : m .answer (ask a) (run m (packets ts) s) ≡ 5
   pub group : m .shown a (run m (packets ts) s) ≡ message

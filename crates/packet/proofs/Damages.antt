@@ -1,9 +1,10 @@
 -- A packet under damage: what was sent is read, or it is refused with 28 to 31; never other bytes.
 --
---   sent-header, sent-useful     what a sent image holds
+--   sent-header, sent-useful, sent-spare     what a sent image holds
 --   header-came                  its address and index are read from what came
 --   received-came                damage of at most four bits a word: what was sent, or a refusal
 --   received-corrected           damage that the codes correct: what was sent
+--   sent-corrected, corrected-came     no damage is such damage, and such damage is among what may come
 --   received-sent                no damage: what was sent
 --
 -- Assumes nothing.
@@ -28,8 +29,8 @@ use Rattle.bare.proofs.Types.{within-near}
 use Rattle.golay.specs.Code.{word23, word24, nearest}
 use Rattle.golay.proofs.Nearest.{nearest-is, nearest-within-four}
 use Rattle.golay.proofs.Words.{word23-apart, word23-lt, word24-apart}
-use Rattle.image.specs.Image.{headerOf, bytesOf}
-use Rattle.image.proofs.Laws.{image-length, header-image, header-lt, bytes-image, bytes-lt}
+use Rattle.image.specs.Image.{headerOf, bytesOf, spareOf}
+use Rattle.image.proofs.Laws.{image-length, header-image, header-lt, bytes-image, bytes-lt, spare-image}
 use Rattle.words.specs.Protected.{protected, wordsOf, informations, failed, dataOf, dataRead, wordsRead}
 use Rattle.words.specs.declared.Words.{Words}
 use Rattle.words.proofs.Each.{failed-pass, failed-le, words-whole, failed-whole}
@@ -72,6 +73,10 @@ module _ (p : Bool) (a i : ℕ) (d : List ℕ) (ha : a ≤ 1023) (hi : i ≤ 3) 
   pub sent-useful : usefulOf (sentImage p a i d) ≡ carried p d
   unfolding usefulOf
   sent-useful = ap (drop 1) sent-bytes
+
+  pub sent-spare : spareOf (sentImage p a i d) ≡ 0
+  unfolding written
+  sent-spare = spare-image (word23 (a + 1024 * i)) (0x00 ∷ carried p d) (ap suc (carried-length p d l))
 
   -- its address and index are read from a header with at most three flips
   pub header-came : (t : List ℕ) → flips (headerOf (sentImage p a i d)) (headerOf t) ≤ 3
@@ -238,15 +243,26 @@ kept-whole : (p : Bool) (u : List ℕ) → Kept 3 p u u
 kept-whole false u = refl
 kept-whole true u = λ w h. omega (arith, flips-same (getD (wordsOf u) w 0))
 
--- "reading a written image gives what went in"
-pub received-sent : (p : Bool) (a i : ℕ) (d : List ℕ) → a ≤ 1023 → i ≤ 3 → length d ≡ dataSize p → Below 256 d
-    → received p (sentImage p a i d) ≡ partAs i d
+pub sent-corrected : (p : Bool) (a i : ℕ) (d : List ℕ) → Corrected p (sentImage p a i d) (sentImage p a i d)
 unfolding written
-received-sent p a i d ha hi l b =
+sent-corrected p a i d =
     let s = sentImage p a i d in
-    received-corrected p a i d s ha hi l b (record {
+    record {
       size = image-length (word23 (a + 1024 * i)) (0x00 ∷ carried p d);
       header = omega (arith, flips-same (headerOf s));
       type = omega (arith, flips-same (getD (bytesOf s) 0 0));
       useful = kept-whole p (usefulOf s);
-    })
+    }
+
+-- what the codes correct is among what may come
+kept-more : (p : Bool) (u v : List ℕ) → Kept 3 p u v → Kept 4 p u v
+kept-more false u v k = k
+kept-more true u v k = λ w h. omega (arith, k w h)
+
+pub corrected-came : (p : Bool) (s t : List ℕ) → Corrected p s t → Came p s t
+corrected-came p s t c = record { size = c .size; header = c .header; useful = kept-more p (usefulOf s) (usefulOf t) (c .useful) }
+
+-- "reading a written image gives what went in"
+pub received-sent : (p : Bool) (a i : ℕ) (d : List ℕ) → a ≤ 1023 → i ≤ 3 → length d ≡ dataSize p → Below 256 d
+    → received p (sentImage p a i d) ≡ partAs i d
+received-sent p a i d ha hi l b = received-corrected p a i d (sentImage p a i d) ha hi l b (sent-corrected p a i d)

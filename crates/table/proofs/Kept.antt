@@ -1,6 +1,7 @@
 -- Every call keeps the state good, whatever it answers.
 --
 --   follow-passed, leave-passed    what holds where a call is accepted: none of its rows
+--   slot-blank, blank-good         the state of 0 alone
 --   start-good, follow-good, leave-good, end-good
 --   age-waits       the age does not move before the first whole group
 --
@@ -77,11 +78,11 @@ part-blank zero (suc n) (suc m) h = ap (λ (x : List ℕ). 0 ∷ x) (part-blank 
 part-blank (suc at) n zero h = absurd (omega arith)
 part-blank (suc at) n (suc m) h = part-blank at n m (omega arith)
 
-slot-blank : (k : ℕ) → k < slots → slotAt k (blank stateSize) ≡ blank slotSize
+pub slot-blank : (k : ℕ) → k < slots → slotAt k (blank stateSize) ≡ blank slotSize
 unfolding slotAt
 slot-blank k h = part-blank (k * slotSize) slotSize stateSize (omega arith)
 
-blank-good : Good (blank stateSize)
+pub blank-good : Good (blank stateSize)
 blank-good = record {
   slot = λ k h. ap goodSlot (slot-blank k h) ∙ good-free slotSize;
   first = λ k h f. absurd (subst T (sym (ap free (slot-blank k h) ∙ blank-free slotSize) ∙ f) tt);

@@ -8,7 +8,8 @@ use second::table::{follow, STATE};
 use second::types::{DATA, TYPES};
 use second::xorshift::Xorshift;
 
-const MOST: usize = 6;
+/// From no flip to six.
+const CHOICES: usize = 7;
 
 /// Sixteen addresses, plain and protected by turns. A header with four flips now and then reads as another of them.
 fn following() -> Vec<u8> {
@@ -28,36 +29,28 @@ fn image(random: &mut Xorshift, k: u32, index: u32, kind: u8) -> [u8; IMAGE] {
     write_image(1 + 64 * k, index, kind, &useful)
 }
 
+/// Every choice of none to six flips in the header, in the type byte and in a word.
 #[test]
 fn flips_from_none_to_six() {
     let mut random = Xorshift::new(121);
     let mut both = Both::new(&following(), Call::make);
-    let each = 0..=MOST;
-    for round in 0..rounds(6) as u32 {
-        for header in each.clone() {
-            for kind in each.clone() {
-                for word in each.clone() {
-                    let k = random.below(16) as u32;
-                    // Groups go on where the damage lets them.
-                    let awaited = both.state()[736 * k as usize + 733];
-                    let index = if round % 3 == 0 {
-                        random.below(4) as u32
-                    } else {
-                        awaited.into()
-                    };
-                    let mut bytes = image(&mut random, k, index, DATA);
-                    flip_some(&mut random, &mut bytes, HEADER_AT, header);
-                    flip_some(&mut random, &mut bytes, TYPE_AT, kind);
-                    let place = word_at(random.below(WORDS));
-                    flip_some(&mut random, &mut bytes, place, word);
-                    both.make(&Call::Packet(bytes.to_vec()));
-                }
-            }
-        }
+    let choices = CHOICES * CHOICES * CHOICES;
+    for n in 0..rounds(6 * choices) {
+        let k = random.below(16);
+        // Mostly groups go on, where the damage lets them.
+        let awaited = both.state()[736 * k + 733].into();
+        let index = [random.below(4) as u32, awaited, awaited][random.below(3)];
+        let mut bytes = image(&mut random, k as u32, index, DATA);
+        let (header, kind, word) = (n, n / CHOICES, n / CHOICES / CHOICES);
+        let place = word_at(random.below(WORDS));
+        flip_some(&mut random, &mut bytes, HEADER_AT, header % CHOICES);
+        flip_some(&mut random, &mut bytes, TYPE_AT, kind % CHOICES);
+        flip_some(&mut random, &mut bytes, place, word % CHOICES);
+        both.make(&Call::Packet(bytes.to_vec()));
     }
 }
 
-/// The same flips in all words at once.
+/// Flips in all words at once: up to four, which is one too many.
 #[test]
 fn flips_in_every_word() {
     let mut random = Xorshift::new(122);

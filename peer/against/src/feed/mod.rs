@@ -1,7 +1,7 @@
 //! The library as a program in Rust would use it: a type that owns a state, answers as enums, refusals as errors.
 //!
 //! A `Feed` is good from its making on, and every call keeps it so. The refusals 20 and 34 for the state therefore
-//! cannot occur; those that remain stand at each call.
+//! cannot occur; those that remain stand at each call. For an example, see the first of the tests in tests/feed.rs.
 
 mod answers;
 

@@ -1,0 +1,108 @@
+-- What the demands suppose can be met: a state in which nothing is followed yet, an accepted follow, a group of zeros that is sent
+-- and arrives undamaged.
+--
+--   empty-state, accepted        the state of 0 alone, in which a follow is accepted
+--   zeros, zeros-carried         what is sent
+--   clean c, whole-group         packet c of group 0 as it was sent; all four
+--   whole-channel                they meet the channel's words; whole-arrived: all four arrived readable
+--   whole-events                 as events
+--
+-- Assumes nothing.
+use mathlib.Core.Path.{_≡_, refl, sym, ap, _∙_, subst}
+use mathlib.Core.Bool.{Bool, false, _||_}
+use mathlib.Core.List.{List, [], _∷_}
+use mathlib.Core.Logic.{_⊎_, inl, inr}
+use Prim.Native.Nat.{ℕ, zero, suc, _+_, _*_, _≤_, _<_}
+use native.Mathlib.Omega.{arith}
+use native.Mathlib.Decide.{decLt}
+use borrow.Author.Tests.{le-leb}
+use lib.Dec.{ltb, lit≤, lit<}
+use lib.ListN.{length}
+use Rattle.bits.specs.Bits.{blank}
+use Rattle.bits.proofs.Storing.{blank-length}
+use Rattle.packet.specs.Received.{received, partAs}
+use Rattle.packet.specs.Damage.{sentImage}
+use Rattle.packet.specs.declared.Reading.{Reading}
+use Rattle.packet.proofs.Damages.{sent-corrected, corrected-came, sent-spare, received-sent}
+use Rattle.slot.specs.Slot.{headOf}
+use Rattle.slot.specs.declared.Head.{Head}
+use Rattle.slot.proofs.Laws.{blank-at, head-blank}
+use Rattle.table.specs.State.{stateSize, slots, slotAt, addressAt, find}
+use Rattle.table.specs.Calls.{followAnswer}
+use Rattle.table.proofs.Looking.{Passed, follow-0}
+use Rattle.table.proofs.States.{address-is, each-good, find-has, find-none}
+use Rattle.table.proofs.Kept.{slot-blank, blank-good}
+use Rattle.history.specs.Followed as one
+use Rattle.history.specs.Sent.{Sent}
+use Rattle.demands.specs.Machine.{Call, packet, Bytes}
+use Rattle.demands.specs.Demand3.{Carries, Happening, arrives, call, calls, Comes, Channel, ReadableIn, Arrived}
+
+abbrev pub empty-state : List ℕ
+empty-state = blank stateSize
+
+-- no slot of it has an address
+empty-address : (k : ℕ) → k < slots → addressAt empty-state k ≡ 0
+empty-address k h =
+    sym (address-is empty-state k) ∙ ap (λ (x : List ℕ). headOf x .address) (slot-blank k h) ∙ ap (λ (h : Head). h .address) (head-blank 736)
+
+pub empty-passed : Passed empty-state
+empty-passed = record { size = blank-length stateSize; all-good = each-good empty-state blank-good }
+
+pub empty-absent : (a : ℕ) → 0 < a → slots ≤ find empty-state a
+empty-absent a h = go (decLt (find empty-state a) slots)
+  where
+    go : Dec (find empty-state a < slots) → slots ≤ find empty-state a
+    go (yes q) = absurd (omega (arith, find-has empty-state a q, empty-address (find empty-state a) q))
+    go (no q) = omega arith
+
+empty-free : find empty-state 0 < slots
+empty-free = go (decLt (find empty-state 0) slots)
+  where
+    go : Dec (find empty-state 0 < slots) → find empty-state 0 < slots
+    go (yes q) = q
+    go (no q) = absurd (find-none empty-state 0 (omega arith) 0 (lit< tt) (empty-address 0 (lit< tt)))
+
+pub accepted : (l : ℕ) → (ltb l 1 || ltb 1500 l) ≡ false → followAnswer empty-state 17 0 l ≡ 0
+accepted l t = follow-0 empty-state 17 0 l empty-passed refl (lit≤ tt) t (find empty-state 17) refl (empty-absent 17 (lit< tt)) (find empty-state 0) refl empty-free
+
+-- ---- a group of zeros
+
+abbrev pub zeros : Sent
+zeros i c = blank 90
+
+bytes-zero : Bytes (blank 90)
+bytes-zero k = omega (arith, blank-at 90 k)
+
+pub zeros-carried : Carries false zeros
+zeros-carried = record { size = λ i c h. blank-length 90; bytes = λ i c h. bytes-zero }
+
+abbrev pub clean : ℕ → List ℕ
+clean c = sentImage false 17 c (blank 90)
+
+abbrev pub whole-group : List Happening
+whole-group = arrives 0 0 (clean 0) ∷ arrives 0 1 (clean 1) ∷ arrives 0 2 (clean 2) ∷ arrives 0 3 (clean 3) ∷ []
+
+comes : (c : ℕ) → c < 4 → Comes false 17 zeros c 0 c (clean c)
+comes c h = record {
+  next = record { index = h; once = omega arith; lost = omega arith };
+  came = corrected-came false (clean c) (clean c) (sent-corrected false 17 c (blank 90));
+  spare = sent-spare false 17 c (blank 90) (lit≤ tt) (omega arith) (blank-length 90) bytes-zero;
+}
+
+pub whole-channel : Channel false 17 zeros 0 whole-group
+unfolding Channel
+whole-channel = (comes 0 (lit< tt), (comes 1 (lit< tt), (comes 2 (lit< tt), (comes 3 (lit< tt), tt))))
+
+pub clean-read : (c : ℕ) → c < 4 → received false (clean c) ≡ partAs c (blank 90)
+clean-read c h = received-sent false 17 c (blank 90) (lit≤ tt) (omega arith) (blank-length 90) bytes-zero
+
+clean-number : (c : ℕ) → c < 4 → received false (clean c) .number ≡ 0
+clean-number c h = ap (λ (r : Reading). r .number) (clean-read c h)
+
+pub whole-arrived : Arrived false whole-group 0
+unfolding Arrived ReadableIn
+whole-arrived zero h = inl (refl, refl, clean-number 0 (lit< tt))
+whole-arrived (suc zero) h = inr (inl (refl, refl, clean-number 1 (lit< tt)))
+whole-arrived (suc (suc zero)) h = inr (inr (inl (refl, refl, clean-number 2 (lit< tt))))
+whole-arrived (suc (suc (suc zero))) h = inr (inr (inr (inl (refl, refl, clean-number 3 (lit< tt)))))
+whole-arrived (suc (suc (suc (suc c)))) h = absurd (omega arith)

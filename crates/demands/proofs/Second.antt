@@ -1,0 +1,373 @@
+-- Demand 2 for our calls: a group that is written and then read in order, with no more damage than the codes correct, is the group
+-- that went in.
+--
+--   written-at      image i of what was written is the packet of the message's fourth i; fourths-whole: the four make the message
+--   sent-sound      the images as they were written have no such damage: the demand's hypothesis can be met
+--   step            one of the images arrives: its answer, the view after it, and the other slots as they were
+--   four-answers, four-group, four-fresh     what four in turn make of any view
+--   demand-2
+--
+-- Assumes nothing.
+use mathlib.Core.Path.{_≡_, refl, sym, ap, ap₂, _∙_, subst}
+use mathlib.Core.Bool.{Bool, true, false, _||_}
+use mathlib.Core.List.{List, [], _∷_, _++_}
+use Prim.Native.Nat.{ℕ, zero, suc, _+_, _*_, _≤_, _<_}
+use native.Mathlib.Omega.{arith}
+use native.Mathlib.Decide.{ℕ-discrete}
+use native.Mathlib.Nat.{mul-le-mul-right}
+use borrow.Author.Tests.{le-ltb, ne-eqb}
+use lib.Dec.{ltb, eqb}
+use lib.ListN.{length, take, drop, getD}
+use lib.Seq.{take-at, drop-at, take-all, drop-drop}
+use Rattle.bits.proofs.Flips.{flips-same}
+use Rattle.bits.proofs.Rows.{done-passed}
+use Rattle.bits.proofs.Runs.{below-take, below-drop}
+use Rattle.image.specs.Image.{headerOf, bytesOf, spareOf}
+use Rattle.image.proofs.Laws.{image-length, spare-image}
+use Rattle.packet.specs.Received.{received, usefulOf, filled, partAs, written}
+use Rattle.packet.specs.Damage.{dataSize, sentImage, Corrected}
+use Rattle.packet.specs.Damage as damage
+use Rattle.packet.specs.declared.Reading.{Reading}
+use Rattle.packet.proofs.Answers.{useful-length}
+use Rattle.packet.proofs.Damages.{sent-useful, header-came, received-corrected}
+use Rattle.slot.specs.Part.{part}
+use Rattle.slot.specs.Slot.{headOf}
+use Rattle.slot.specs.Head.{shown}
+use Rattle.slot.specs.Move.{Move, started, held, whole, outOfStep, moveOf, moveNumber, movedHead}
+use Rattle.slot.specs.declared.Head.{Head}
+use Rattle.slot.proofs.Laws.{part-cat, part-length}
+use Rattle.table.specs.State.{slotAt, addressAt, find}
+use Rattle.table.proofs.States.{find-has, address-is, used-one}
+use Rattle.table.proofs.Looking.{shown-5}
+use Rattle.history.specs.Followed.{Followed, Event, moved, joined, lastOf, after, answer}
+use Rattle.history.specs.Followed as one
+use Rattle.adapter.specs.Calls.{addressOf, groupSize, imagesSize, packetOf, groupImages, packetAnswer, packetAfter, writeAnswer, writeAfter}
+use Rattle.adapter.proofs.Writing.{write-0}
+use Rattle.demands.specs.Machine.{packet, ours, ourAnswer, ourAfter, Bytes, run}
+use Rattle.demands.specs.Demand2.{Follows, imageAt, Sound, answersTo, packets, ReadBack, Demand2}
+use Rattle.demands.proofs.View.{viewOf}
+use Rattle.demands.proofs.Serving.{Serves, view, Kept, here-bounds, here-address}
+use Rattle.demands.proofs.Acting.{eventOf, event-read, protectedAt}
+use Rattle.demands.proofs.Calling.{Arrives, arrives-placed, answer-here, packet-here}
+use Rattle.demands.proofs.Parts.{ask-here, shown-here, followed-serves, placed-others}
+
+-- ---- what is written
+
+sent-length : (p : Bool) (a i : ℕ) (d : List ℕ) → length (sentImage p a i d) ≡ 94
+unfolding written
+sent-length p a i d = image-length _ _
+
+module _ (p : Bool) (a : ℕ) (m : List ℕ) where
+  abbrev x : ℕ → List ℕ
+  x i = packetOf p a m i
+
+  abbrev from-2 : List ℕ
+  from-2 = x 2 ++ x 3
+
+  abbrev from-1 : List ℕ
+  from-1 = x 1 ++ from-2
+
+  packet-length : (i : ℕ) → length (x i) ≡ 94
+  unfolding packetOf
+  packet-length i = sent-length p a i _
+
+  -- the first of several images, and those behind it
+  first : (i : ℕ) (y : List ℕ) → part 0 94 (x i ++ y) ≡ x i
+  unfolding part
+  first i y = take-at (x i) y 94 (packet-length i)
+
+  behind : (k i : ℕ) (y : List ℕ) → part (94 + k) 94 (x i ++ y) ≡ part k 94 y
+  unfolding part
+  behind k i y = ap (take 94) (sym (drop-drop k 94 (x i ++ y)) ∙ ap (drop k) (drop-at (x i) y 94 (packet-length i)))
+
+  images-at : (i : ℕ) → i < 4 → imageAt (groupImages p a m) i ≡ x i
+  unfolding groupImages part
+  images-at zero h = first 0 from-1
+  images-at (suc zero) h = behind 0 0 from-1 ∙ first 1 from-2
+  images-at (suc (suc zero)) h = behind 94 0 from-1 ∙ behind 0 1 from-2 ∙ first 2 (x 3)
+  images-at (suc (suc (suc zero))) h =
+      behind 188 0 from-1 ∙ behind 94 1 from-2 ∙ behind 0 2 (x 3) ∙ take-all 94 (x 3) (omega (arith, packet-length 3))
+  images-at (suc (suc (suc (suc i)))) h = absurd (omega arith)
+
+-- a fourth of the message
+abbrev fourth : Bool → List ℕ → ℕ → List ℕ
+fourth q m i = part (i * dataSize q) (dataSize q) m
+
+fourth-length : (q : Bool) (m : List ℕ) (i : ℕ) → i < 4 → length m ≡ groupSize q → length (fourth q m i) ≡ dataSize q
+fourth-length q m i h l =
+    let most : i ≤ 3 = omega arith in
+    part-length (i * dataSize q) (dataSize q) m (omega (arith, mul-le-mul-right (dataSize q) most))
+
+fourth-bytes : (q : Bool) (m : List ℕ) (i : ℕ) → Bytes m → Bytes (fourth q m i)
+unfolding part
+fourth-bytes q m i b = below-take (dataSize q) (drop (i * dataSize q) m) (below-drop (i * dataSize q) m b)
+
+-- the four make the message
+fourths-whole : (q : Bool) (m : List ℕ) → length m ≡ groupSize q
+    → (((fourth q m 0 ++ fourth q m 1) ++ fourth q m 2) ++ fourth q m 3) ≡ m
+unfolding part
+fourths-whole true m l =
+    sym (part-cat 0 135 45 m ∙ ap (λ (x : List ℕ). x ++ part 135 45 m) (part-cat 0 90 45 m
+    ∙ ap (λ (x : List ℕ). x ++ part 90 45 m) (part-cat 0 45 45 m)))
+    ∙ take-all 180 m (omega arith)
+fourths-whole false m l =
+    sym (part-cat 0 270 90 m ∙ ap (λ (x : List ℕ). x ++ part 270 90 m) (part-cat 0 180 90 m
+    ∙ ap (λ (x : List ℕ). x ++ part 180 90 m) (part-cat 0 90 90 m)))
+    ∙ take-all 360 m (omega arith)
+
+module _ (a p : ℕ) (m o : List ℕ) (from : 1 ≤ a) (to : a ≤ 1022) (hp : p ≤ 1) (lm : length m ≡ groupSize (eqb p 1)) (lo : length o ≡ imagesSize) where
+  write-zero : writeAnswer a p (length m) (length o) ≡ 0
+  write-zero =
+      let inside : (ltb a 1 || ltb 1022 a) ≡ false = ap₂ (λ (x y : Bool). x || y) (le-ltb a 1 from) (le-ltb 1022 a to) in
+      sym (write-0 a p (length m) (length o) inside hp (groupSize (eqb p 1)) refl lm lo)
+
+  written-at : (i : ℕ) → i < 4 → imageAt (writeAfter a p m o) i ≡ sentImage (eqb p 1) a i (fourth (eqb p 1) m i)
+  unfolding writeAfter packetOf
+  written-at i h =
+      ap (λ (x : List ℕ). imageAt x i) (done-passed (writeAnswer a p (length m) (length o)) (groupImages (eqb p 1) a m) o write-zero)
+      ∙ images-at (eqb p 1) a m i h
+
+-- ---- no damage is no more than the codes correct
+
+none-few : {n : ℕ} (most : ℕ) → n ≡ 0 → n ≤ most
+none-few most e = omega (arith, e)
+
+kept-whole : (p : Bool) (u : List ℕ) → damage.Kept 3 p u u
+kept-whole false u = refl
+kept-whole true u = λ w h. none-few 3 (flips-same _)
+
+corrected-whole : (p : Bool) (s : List ℕ) → length s ≡ 94 → Corrected p s s
+corrected-whole p s l = record {
+  size = l;
+  header = none-few 3 (flips-same (headerOf s));
+  type = none-few 2 (flips-same (getD (bytesOf s) 0 0));
+  useful = kept-whole p (usefulOf s);
+}
+
+sent-spare : (p : Bool) (a i : ℕ) (d : List ℕ) → a ≤ 1023 → i ≤ 3 → length d ≡ dataSize p → Bytes d → spareOf (sentImage p a i d) ≡ 0
+unfolding written
+sent-spare p a i d ha hi l b =
+    spare-image _ _ (ap suc (sym (ap length (sent-useful p a i d ha hi l b)) ∙ useful-length (sentImage p a i d)))
+
+pub sent-sound : (a p : ℕ) (message output : List ℕ) → 1 ≤ a → a ≤ 1022 → p ≤ 1 → length message ≡ groupSize (eqb p 1) → Bytes message
+    → length output ≡ imagesSize → (i : ℕ) → i < 4
+    → Sound (eqb p 1) (writeAfter a p message output) i (imageAt (writeAfter a p message output) i)
+sent-sound a p m o from to hp lm b lo i h =
+    let q = eqb p 1 in
+    let e = written-at a p m o from to hp lm lo i h in
+    record {
+      corrected = corrected-whole q _ (ap length e ∙ sent-length q a i (fourth q m i));
+      spare = ap spareOf e ∙ sent-spare q a i (fourth q m i) (omega arith) (omega arith) (fourth-length q m i h lm) (fourth-bytes q m i b);
+    }
+
+-- ---- one image arrives
+
+-- a followed address, the slot that it has, and its view
+record Reads (s : List ℕ) (a : ℕ) (q : Bool) (k : ℕ) (f : Followed) : Type 0 where
+  serves : Serves s a
+  protection : protectedAt s a ≡ q
+  place : find s a ≡ k
+  seen : view s a ≡ f
+
+record Step (s t : List ℕ) (a : ℕ) (q : Bool) (k : ℕ) (f : Followed) (e : Event) : Type 0 where
+  number : packetAnswer s t ≡ answer e f
+  next : Reads (packetAfter s t) a q k (after e f)
+  others : (j : ℕ) → (j ≡ k → ⊥) → slotAt j (packetAfter s t) ≡ slotAt j s
+
+-- an image that came of what was sent of packet i to the address
+record Brings (q : Bool) (a i : ℕ) (d t : List ℕ) : Type 0 where
+  index : i ≤ 3
+  size : length d ≡ dataSize q
+  bytes : Bytes d
+  corrected : Corrected q (sentImage q a i d) t
+  spare : spareOf t ≡ 0
+
+-- no row changes the protection
+moved-protection : (mv : Move) (h : Head) → movedHead mv h .protection ≡ h .protection
+unfolding movedHead
+moved-protection started h = refl
+moved-protection held h = refl
+moved-protection whole h = refl
+moved-protection outOfStep h = refl
+
+after-protection : (i : ℕ) (d : List ℕ) (f : Followed) → after (one.packet i d) f .head .protection ≡ f .head .protection
+unfolding after moved
+after-protection i d f = moved-protection (moveOf (f .head .awaited) i) (f .head)
+
+seen-protection : (s : List ℕ) (a : ℕ) (f : Followed) → view s a ≡ f → protectedAt s a ≡ eqb (f .head .protection) 1
+unfolding view viewOf
+seen-protection s a f e = ap (λ (g : Followed). eqb (g .head .protection) 1) e
+
+-- what was filled up to 90 bytes begins with what was sent
+filled-begins : (n : ℕ) (d : List ℕ) → length d ≡ n → take n (filled 0 d) ≡ d
+unfolding filled
+filled-begins n d l = take-at d _ n l
+
+event-sent : (q : Bool) (i : ℕ) (d t : List ℕ) → received q t ≡ partAs i d → length d ≡ dataSize q → eventOf q t ≡ one.packet i d
+event-sent q i d t e l =
+    event-read q t (ap (λ (r : Reading). r .number) e)
+    ∙ ap (λ (r : Reading). one.packet (r .index) (take (dataSize q) (r .bytes))) e
+    ∙ ap (one.packet i) (filled-begins (dataSize q) d l)
+
+module _ (s : List ℕ) (a : ℕ) (q : Bool) (k : ℕ) (f : Followed) (r : Reads s a q k f) (i : ℕ) (d t : List ℕ) (b : Brings q a i d t) where
+  known : a ≤ 1023
+  known = omega (arith, here-bounds s a (r .serves) .address-to, here-address s a (r .serves))
+
+  arrives : Arrives a t
+  unfolding addressOf
+  arrives = record {
+    size = b .corrected .size;
+    spare = ne-eqb (spareOf t) 1 (λ e. omega (arith, e, b .spare));
+    address = header-came q a i d known (b .index) (b .size) (b .bytes) t (b .corrected .header) .0;
+  }
+
+  event-here : eventOf (protectedAt s a) t ≡ one.packet i d
+  event-here =
+      ap (λ (x : Bool). eventOf x t) (r .protection)
+      ∙ event-sent q i d t (received-corrected q a i d t known (b .index) (b .size) (b .bytes) (b .corrected)) (b .size)
+
+  others-here : (j : ℕ) → (j ≡ find s a → ⊥) → slotAt j (packetAfter s t) ≡ slotAt j s
+  others-here j ne = placed-others s t (arrives-placed s a (r .serves) t arrives) j (λ e. ne (e ∙ ap (find s) (arrives .address)))
+
+  kept-here : Kept (packetAfter s t) a (after (one.packet i d) f)
+  kept-here =
+      let k = packet-here s a (r .serves) t arrives in
+      record { serves = k .serves; seen = k .seen ∙ ap₂ after event-here (r .seen) }
+
+  -- no other slot has the address, for each is as it was
+  place-here : find (packetAfter s t) a ≡ find s a
+  place-here = go (ℕ-discrete (find u a) (find s a))
+    where
+      u : List ℕ
+      u = packetAfter s t
+
+      go : Dec (find u a ≡ find s a) → find u a ≡ find s a
+      go (yes e) = e
+      go (no ne) =
+          let v = r .serves in
+          let h = kept-here .serves .found in
+          let was : addressAt s (find u a) ≡ a =
+          sym (address-is s (find u a)) ∙ ap (λ (x : List ℕ). headOf x .address) (sym (others-here (find u a) ne)) ∙ address-is u (find u a)
+          ∙ find-has u a h in
+          let now = find-has s a (v .found) in
+          used-one s (v .all) (find u a) (find s a) h (v .found) (was ∙ sym now) (subst (λ (n : ℕ). 0 < n) (sym now) (v .pos))
+
+  step : Step s t a q k f (one.packet i d)
+  step = record {
+    number = answer-here s a (r .serves) t arrives ∙ ap₂ answer event-here (r .seen);
+    next = record {
+      serves = kept-here .serves;
+      protection = seen-protection (packetAfter s t) a _ (kept-here .seen) ∙ ap (λ (n : ℕ). eqb n 1) (after-protection i d f)
+          ∙ sym (seen-protection s a f (r .seen)) ∙ r .protection;
+      place = place-here ∙ r .place;
+      seen = kept-here .seen;
+    };
+    others = λ j ne. others-here j (λ e. ne (e ∙ r .place));
+  }
+
+-- ---- the four
+
+module _ (f : Followed) (d : ℕ → List ℕ) where
+  abbrev f1 : Followed
+  f1 = after (one.packet 0 (d 0)) f
+
+  abbrev f2 : Followed
+  f2 = after (one.packet 1 (d 1)) f1
+
+  abbrev f3 : Followed
+  f3 = after (one.packet 2 (d 2)) f2
+
+  abbrev f4 : Followed
+  f4 = after (one.packet 3 (d 3)) f3
+
+  -- "1 started", "2 held" twice, "3 whole", whatever was awaited
+  four-answers : (answer (one.packet 0 (d 0)) f ∷ answer (one.packet 1 (d 1)) f1
+      ∷ answer (one.packet 2 (d 2)) f2 ∷ answer (one.packet 3 (d 3)) f3 ∷ []) ≡ 1 ∷ 2 ∷ 2 ∷ 3 ∷ []
+  unfolding after answer moved moveOf moveNumber movedHead
+  four-answers = refl
+
+  four-group : f4 .last ≡ (((d 0 ++ d 1) ++ d 2) ++ d 3)
+  unfolding after moved moveOf movedHead joined lastOf
+  four-group = refl
+
+  four-fresh : 1 ≤ f .head .limit → shown (f4 .head) ≡ 5
+  unfolding after moved moveOf movedHead
+  four-fresh h = shown-5 (f4 .head) (λ e. omega (arith, e)) h (λ e. omega (arith, e))
+
+module _ (s : List ℕ) (a p : ℕ) (m o t0 t1 t2 t3 : List ℕ) (w : Follows s a p) (lm : length m ≡ groupSize (eqb p 1)) (bm : Bytes m)
+    (lo : length o ≡ imagesSize) where
+  abbrev q : Bool
+  q = eqb p 1
+
+  abbrev d : ℕ → List ℕ
+  d i = fourth q m i
+
+  abbrev k : ℕ
+  k = find s a
+
+  abbrev f : Followed
+  f = view s a
+
+  serves : Serves s a
+  serves = followed-serves s a (w .size) (w .good) (w .found)
+
+  limit-from : 1 ≤ f .head .limit
+  unfolding view viewOf
+  limit-from = here-bounds s a serves .limit-from
+
+  brings : (i : ℕ) (t : List ℕ) → i < 4 → Sound q (writeAfter a p m o) i t → Brings q a i (d i) t
+  brings i t h sound =
+      let b = here-bounds s a serves in
+      let e = here-address s a serves in
+      let within : (1 ≤ a) × (a ≤ 1022) × (p ≤ 1) =
+      (omega (arith, b .address-from, e), omega (arith, b .address-to, e), omega (arith, b .protection-to, w .protection)) in
+      record {
+        index = omega arith;
+        size = fourth-length q m i h lm;
+        bytes = fourth-bytes q m i bm;
+        corrected = subst (λ (x : List ℕ). Corrected q x t) (written-at a p m o (within .0) (within .1) (within .2) lm lo i h) (sound .corrected);
+        spare = sound .spare;
+      }
+
+  module _ (h0 : Sound q (writeAfter a p m o) 0 t0) (h1 : Sound q (writeAfter a p m o) 1 t1) (h2 : Sound q (writeAfter a p m o) 2 t2)
+      (h3 : Sound q (writeAfter a p m o) 3 t3) where
+    step-0 : Step s t0 a q k f (one.packet 0 (d 0))
+    step-0 =
+        step s a q k f (record { serves = serves; protection = ap (λ (n : ℕ). eqb n 1) (w .protection); place = refl; seen = refl })
+        0 (d 0) t0 (brings 0 t0 (omega arith) h0)
+
+    abbrev s1 : List ℕ
+    s1 = packetAfter s t0
+
+    step-1 : Step s1 t1 a q k (f1 f d) (one.packet 1 (d 1))
+    step-1 = step s1 a q k (f1 f d) (step-0 .next) 1 (d 1) t1 (brings 1 t1 (omega arith) h1)
+
+    abbrev s2 : List ℕ
+    s2 = packetAfter s1 t1
+
+    step-2 : Step s2 t2 a q k (f2 f d) (one.packet 2 (d 2))
+    step-2 = step s2 a q k (f2 f d) (step-1 .next) 2 (d 2) t2 (brings 2 t2 (omega arith) h2)
+
+    abbrev s3 : List ℕ
+    s3 = packetAfter s2 t2
+
+    step-3 : Step s3 t3 a q k (f3 f d) (one.packet 3 (d 3))
+    step-3 = step s3 a q k (f3 f d) (step-2 .next) 3 (d 3) t3 (brings 3 t3 (omega arith) h3)
+
+    abbrev s4 : List ℕ
+    s4 = packetAfter s3 t3
+
+    read-back : ReadBack ours s a m (t0 ∷ t1 ∷ t2 ∷ t3 ∷ [])
+    unfolding answersTo packets run ourAnswer ourAfter
+    read-back =
+        let r = step-3 .next in
+        record {
+          size = r .serves .size ∙ sym (w .size);
+          answers = (λ i. step-0 .number i ∷ step-1 .number i ∷ step-2 .number i ∷ step-3 .number i ∷ []) ∙ four-answers f d;
+          fresh = ask-here s4 a (r .serves) ∙ ap (λ (g : Followed). shown (g .head)) (r .seen) ∙ four-fresh f d limit-from;
+          group = shown-here s4 a (r .serves) ∙ ap (λ (g : Followed). g .last) (r .seen) ∙ four-group f d ∙ fourths-whole q m lm;
+          others = λ j h ne. step-3 .others j ne ∙ step-2 .others j ne ∙ step-1 .others j ne ∙ step-0 .others j ne;
+        }
+
+pub demand-2 : Demand2 ours
+demand-2 = record { writes = write-zero; back = read-back }
