@@ -186,7 +186,7 @@ module _ (s : List ℕ) (a : ℕ) (v : Serves s a) where
   unfolding view
   aged-here = view-aged (slotAt (find s a) s) (here-size s a v) (here-good s a v)
 
-  end-acts : Kept (endAfter s) a (one.after one.ended (view s a))
+  pub end-acts : Kept (endAfter s) a (one.after one.ended (view s a))
   unfolding endAfter one.after
   end-acts =
       let t = ages slots 0 s in

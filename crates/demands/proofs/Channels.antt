@@ -50,14 +50,14 @@ module _ (p : Bool) (a c : ℕ) (d image : List ℕ) (ha : a ≤ 1023) (hc : c <
   unfolding addressOf
   came-address = header-came p a c d ha (omega arith) l b image (came .header) .0
 
-  came-arrives : spareOf image ≡ 0 → Arrives a image
+  pub came-arrives : spareOf image ≡ 0 → Arrives a image
   came-arrives z = record {
     size = came .size;
     spare = ne-eqb (spareOf image) 1 (λ q. omega (arith, z, q));
     address = came-address;
   }
 
-  came-event : received p image .number ≡ 0 → eventOf p image ≡ one.packet c d
+  pub came-event : received p image .number ≡ 0 → eventOf p image ≡ one.packet c d
   unfolding filled
   came-event z = event-read p image z ∙ go (received-came p a c d image ha (omega arith) l b came)
     where

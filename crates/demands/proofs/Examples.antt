@@ -5,37 +5,46 @@
 --   zeros, zeros-carried         what is sent
 --   clean c, whole-group         packet c of group 0 as it was sent; all four
 --   whole-channel                they meet the channel's words; whole-arrived: all four arrived readable
---   whole-events                 as events
+--   clean-step, end-step         what a step of a history does, where the address is known
+--   clean-arrives, clean-index, clean-event     one of them at its address, and as an event
 --
 -- Assumes nothing.
-use mathlib.Core.Path.{_≡_, refl, sym, ap, _∙_, subst}
-use mathlib.Core.Bool.{Bool, false, _||_}
+use mathlib.Core.Path.{_≡_, refl, sym, ap, ap₂, _∙_}
+use mathlib.Core.Bool.{Bool, false, cond, _||_}
 use mathlib.Core.List.{List, [], _∷_}
 use mathlib.Core.Logic.{_⊎_, inl, inr}
 use Prim.Native.Nat.{ℕ, zero, suc, _+_, _*_, _≤_, _<_}
 use native.Mathlib.Omega.{arith}
 use native.Mathlib.Decide.{decLt}
 use borrow.Author.Tests.{le-leb}
-use lib.Dec.{ltb, lit≤, lit<}
+use lib.Dec.{ltb, eqb, lit≤, lit<}
 use lib.ListN.{length}
 use Rattle.bits.specs.Bits.{blank}
 use Rattle.bits.proofs.Storing.{blank-length}
+use Rattle.bare.specs.Bare.{headerRead}
+use Rattle.image.specs.Image.{headerOf}
 use Rattle.packet.specs.Received.{received, partAs}
 use Rattle.packet.specs.Damage.{sentImage}
 use Rattle.packet.specs.declared.Reading.{Reading}
-use Rattle.packet.proofs.Damages.{sent-corrected, corrected-came, sent-spare, received-sent}
+use Rattle.packet.proofs.Damages.{sent-corrected, corrected-came, sent-spare, received-sent, header-came}
 use Rattle.slot.specs.Slot.{headOf}
 use Rattle.slot.specs.declared.Head.{Head}
 use Rattle.slot.proofs.Laws.{blank-at, head-blank}
 use Rattle.table.specs.State.{stateSize, slots, slotAt, addressAt, find}
-use Rattle.table.specs.Calls.{followAnswer}
+use Rattle.table.specs.Calls.{followAnswer, endAfter}
 use Rattle.table.proofs.Looking.{Passed, follow-0}
 use Rattle.table.proofs.States.{address-is, each-good, find-has, find-none}
 use Rattle.table.proofs.Kept.{slot-blank, blank-good}
 use Rattle.history.specs.Followed as one
 use Rattle.history.specs.Sent.{Sent}
-use Rattle.demands.specs.Machine.{Call, packet, Bytes}
-use Rattle.demands.specs.Demand3.{Carries, Happening, arrives, call, calls, Comes, Channel, ReadableIn, Arrived}
+use Rattle.adapter.specs.Calls.{packetAnswer, packetAfter}
+use Rattle.demands.specs.Machine.{packet, ourAfter, Bytes}
+use Rattle.demands.specs.Demand3.{Stays, Carries, Happening, arrives, Comes, Channel, ReadableIn, Arrived}
+use Rattle.demands.proofs.Acting.{eventOf, eventsAt}
+use Rattle.demands.proofs.Calling.{Arrives, is-arrives, end-acts}
+use Rattle.demands.proofs.Serving.{view, Kept}
+use Rattle.demands.proofs.Telling.{by, next, answer-by}
+use Rattle.demands.proofs.Channels.{came-arrives, came-event}
 
 abbrev pub empty-state : List ℕ
 empty-state = blank stateSize
@@ -106,3 +115,52 @@ whole-arrived (suc zero) h = inr (inl (refl, refl, clean-number 1 (lit< tt)))
 whole-arrived (suc (suc zero)) h = inr (inr (inl (refl, refl, clean-number 2 (lit< tt))))
 whole-arrived (suc (suc (suc zero))) h = inr (inr (inr (inl (refl, refl, clean-number 3 (lit< tt)))))
 whole-arrived (suc (suc (suc (suc c)))) h = absurd (omega arith)
+
+-- ---- as events
+
+pub clean-arrives : (c : ℕ) → c < 4 → Arrives 17 (clean c)
+clean-arrives c h =
+    came-arrives false 17 c (blank 90) (clean c) (lit≤ tt) h (blank-length 90) bytes-zero (comes c h .came) (comes c h .spare)
+
+pub clean-index : (c : ℕ) → c < 4 → headerRead (headerOf (clean c)) .index ≡ c
+clean-index c h = header-came false 17 c (blank 90) (lit≤ tt) (omega arith) (blank-length 90) bytes-zero (clean c) (comes c h .came .header) .1
+
+clean-read-event : (c : ℕ) → c < 4 → eventOf false (clean c) ≡ one.packet c (blank 90)
+clean-read-event c h =
+    came-event false 17 c (blank 90) (clean c) (lit≤ tt) h (blank-length 90) bytes-zero (comes c h .came) (clean-number c h)
+
+stays-here : (c : ℕ) → Stays 17 (packet (clean c))
+unfolding Stays
+stays-here c = tt
+
+pub clean-event : (c : ℕ) → c < 4 → eventsAt 17 false (packet (clean c)) ≡ one.packet c (blank 90) ∷ []
+unfolding eventsAt
+clean-event c h =
+    ap (λ (b : Bool). cond b (eventOf false (clean c) ∷ []) []) (is-arrives 17 (clean c) (clean-arrives c h))
+    ∙ ap (λ (e : one.Event). e ∷ []) (clean-read-event c h)
+
+-- ---- a step of a history: one of the packets, or a subframe's end, where the address is known
+
+pub record Steps (s : List ℕ) (c : ℕ) (f : one.Followed) : Type 0 where
+  pub answer : packetAnswer s (clean c) ≡ one.answer (one.packet c (blank 90)) f
+  pub next : Kept (packetAfter s (clean c)) 17 (one.after (one.packet c (blank 90)) f)
+
+pub clean-step : (s : List ℕ) (f : one.Followed) → Kept s 17 f → f .head .protection ≡ 0 → (c : ℕ) → c < 4 → Steps s c f
+unfolding ourAfter one.run
+clean-step s f k p c h =
+    let plain : by (view s 17) ≡ false = ap by (k .seen) ∙ ap (λ (n : ℕ). eqb n 1) p in
+    let n = next s 17 (k .serves) (packet (clean c)) (stays-here c) in
+    record {
+      answer = answer-by s 17 (k .serves) (clean c) (clean-arrives c h)
+          ∙ ap₂ (λ (b : Bool) (g : one.Followed). one.answer (eventOf b (clean c)) g) plain (k .seen)
+          ∙ ap (λ (e : one.Event). one.answer e f) (clean-read-event c h);
+      next = record {
+        serves = n .serves;
+        seen = n .seen ∙ ap₂ (λ (b : Bool) (g : one.Followed). one.run (eventsAt 17 b (packet (clean c))) g) plain (k .seen)
+            ∙ ap (λ (es : List one.Event). one.run es f) (clean-event c h);
+      };
+    }
+
+pub end-step : (s : List ℕ) (f : one.Followed) → Kept s 17 f → Kept (endAfter s) 17 (one.aged f)
+unfolding one.after
+end-step s f k = record { serves = end-acts s 17 (k .serves) .serves; seen = end-acts s 17 (k .serves) .seen ∙ ap one.aged (k .seen) }

@@ -2,6 +2,7 @@ pub mod Acting
 pub mod Calling
 pub mod Channels
 pub mod Cleanness
+pub mod Empties
 pub mod Examples
 pub mod First
 pub mod Parts

@@ -51,7 +51,7 @@ moved-protection held h = refl
 moved-protection whole h = refl
 moved-protection outOfStep h = refl
 
-after-protection : (e : one.Event) (f : one.Followed) → one.after e f .head .protection ≡ f .head .protection
+pub after-protection : (e : one.Event) (f : one.Followed) → one.after e f .head .protection ≡ f .head .protection
 unfolding one.after one.moved one.dropped one.aged
 after-protection (one.packet c b) f = moved-protection (moveOf (f .head .awaited) c) (f .head)
 after-protection (one.refused r) f = refl

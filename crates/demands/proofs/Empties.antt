@@ -1,0 +1,293 @@
+-- The empty versions are refuted by demand 3 itself.
+--
+--   fixed-fails          one fixed answer, and so refusing everything
+--   deaf-fails           every packet refused
+--   untouching-fails     nothing touched
+--   nodding-fails        the first packet truly, and nods at the rest
+--   still-fails, aging-fails     an age that stands still, and one that is invented
+--
+-- Assumes nothing.
+use mathlib.Core.Path.{_≡_, refl, sym, ap, ap₂, _∙_, subst}
+use mathlib.Core.Bool.{Bool, true, false, cond, not, _&&_, _||_}
+use mathlib.Core.List.{List, [], _∷_, _++_}
+use mathlib.Core.Logic.{_⊎_, inl, inr}
+use Prim.Native.Nat.{ℕ, zero, suc, _<_}
+use native.Mathlib.Omega.{arith}
+use native.Mathlib.Decide.{ℕ-discrete}
+use borrow.Author.Tests.{eq-eqb, ne-eqb}
+use lib.Dec.{T, eqb, lit<}
+use Rattle.bits.specs.Bits.{blank}
+use Rattle.slot.specs.Head.{shown}
+use Rattle.slot.specs.Move.{moveOf, moveNumber, movedHead}
+use Rattle.table.specs.State.{find}
+use Rattle.table.specs.Calls.{followAnswer, followAfter, endAfter, askPart, asked}
+use Rattle.table.specs.declared.Asked.{Asked}
+use Rattle.table.proofs.Looking.{leave-27}
+use Rattle.table.proofs.Doing.{asked-refused}
+use Rattle.history.specs.Followed as one
+use Rattle.history.specs.Sent.{group, groups, In, Exactly}
+use Rattle.history.specs.Transcript.{Entry, answered, subframe, isWhole, anyWhole, sinceWhole, ends, marked, called}
+use Rattle.adapter.specs.Calls.{addressOf, packetAnswer, packetAfter}
+use Rattle.demands.specs.Machine.{Call, follow, packet, subframeEnd, ask, Machine, ours, ourAnswer, ourAfter, run}
+use Rattle.demands.specs.Demand2.{packets}
+use Rattle.demands.specs.Demand3.{AllStay, Stays, Arrived, calls, callOf, handsOut, handedOut, noted, tells, Demand3}
+use Rattle.demands.specs.Empty.{fixed, answerTo, leaving, deaf, untouching, nods, leaves, indexIn, nodding, still, aging}
+use Rattle.demands.proofs.Serving.{Serves, view, Kept}
+use Rattle.demands.proofs.Calling.{follow-serves}
+use Rattle.demands.proofs.Parts.{ask-here, shown-here}
+use Rattle.demands.proofs.Telling.{after-protection}
+use Rattle.demands.proofs.Examples.{empty-state, empty-passed, empty-absent, accepted, zeros, zeros-carried, clean, whole-group, whole-channel, whole-arrived, clean-arrives, clean-index, Steps, clean-step, end-step}
+
+-- ---- what any machine that meets the demand hands out of the group of zeros
+
+module _ (out : List (List ℕ)) (x : Exactly zeros (Arrived false whole-group) out) where
+  -- something
+  something : out ≡ [] → ⊥
+  unfolding groups In
+  something e = go (x .which) (x .those 0 whole-arrived) (sym (x .bytes) ∙ e)
+    where
+      isSome : List (List ℕ) → Bool
+      isSome [] = false
+      isSome (y ∷ ys) = true
+
+      go : (which : List ℕ) → In 0 which → groups zeros which ≡ [] → ⊥
+      go [] i q = i
+      go (j ∷ which) i q = subst T (ap isSome q) tt
+
+  -- and no empty group
+  no-empty : (rest : List (List ℕ)) → out ≡ [] ∷ rest → ⊥
+  unfolding groups In group blank
+  no-empty rest e = go (x .which) (sym (x .bytes) ∙ e)
+    where
+      first : List (List ℕ) → Bool
+      first [] = false
+      first ([] ∷ ys) = false
+      first ((n ∷ y) ∷ ys) = true
+
+      isSome : List (List ℕ) → Bool
+      isSome [] = false
+      isSome (y ∷ ys) = true
+
+      go : (which : List ℕ) → groups zeros which ≡ [] ∷ rest → ⊥
+      go [] q = subst T (sym (ap isSome q)) tt
+      go (j ∷ which) q = subst T (ap first q) tt
+
+yes-1 : followAnswer empty-state 17 0 1 ≡ 0
+yes-1 = accepted 1 refl
+
+yes-2 : followAnswer empty-state 17 0 2 ≡ 0
+yes-2 = accepted 2 refl
+
+module _ (m : Machine) (d : Demand3 m) where
+  abbrev begun : List ℕ
+  begun = m .after (follow 17 0 2) empty-state
+
+  handed : Exactly zeros (Arrived false whole-group) (handedOut m 17 (calls whole-group) begun)
+  handed = d .exactly empty-state 17 0 2 yes-2 zeros zeros-carried 0 whole-group whole-channel
+
+-- ---- one fixed answer
+
+pub fixed-fails : (n : ℕ) (m : Machine) → Demand3 (fixed n m) → ⊥
+unfolding called anyWhole tells run AllStay
+fixed-fails n m d =
+    let done : n ≡ 0 = d .accepted empty-state 17 0 2 yes-2 in
+    let nothing-yet : n ≡ 4 = d .fresh empty-state 17 0 2 yes-2 [] tt in
+    omega arith
+
+-- ---- every packet answered alike, and nothing done
+
+-- another number than 3 hands out nothing
+silent : (n : ℕ) → eqb n 3 ≡ false → (ts : List (List ℕ)) (s : List ℕ) → handedOut (deaf n) 17 (packets ts) s ≡ []
+unfolding packets handedOut handsOut leaving answerTo
+silent n e [] s = refl
+silent n e (i ∷ ts) s =
+    ap (λ (b : Bool). cond (eqb (addressOf i) 17 && b) (askPart s 17 ∷ handedOut (deaf n) 17 (packets ts) s) (handedOut (deaf n) 17 (packets ts) s)) e
+    ∙ never (eqb (addressOf i) 17) ∙ silent n e ts s
+  where
+    never : (b : Bool)
+        → cond (b && false) (askPart s 17 ∷ handedOut (deaf n) 17 (packets ts) s) (handedOut (deaf n) 17 (packets ts) s)
+        ≡ handedOut (deaf n) 17 (packets ts) s
+    never true = refl
+    never false = refl
+
+-- an address that was just followed shows nothing
+new-shows : (l : ℕ) → followAnswer empty-state 17 0 l ≡ 0 → askPart (followAfter empty-state 17 0 l) 17 ≡ []
+unfolding one.followed
+new-shows l e =
+    let k = follow-serves empty-state 17 0 l e in
+    shown-here (followAfter empty-state 17 0 l) 17 (k .serves) ∙ ap (λ (f : one.Followed). f .last) (k .seen)
+
+pub deaf-fails : (n : ℕ) → Demand3 (deaf n) → ⊥
+unfolding calls callOf packets handedOut handsOut leaving answerTo
+deaf-fails n d = go (ℕ-discrete n 3)
+  where
+    go : Dec (n ≡ 3) → ⊥
+    go (no ne) =
+        something _ (handed (deaf n) d) (silent n (ne-eqb n 3 ne) (clean 0 ∷ clean 1 ∷ clean 2 ∷ clean 3 ∷ []) (followAfter empty-state 17 0 2))
+    go (yes e) =
+        let s = followAfter empty-state 17 0 2 in
+        let rest = handedOut (deaf n) 17 (packets (clean 1 ∷ clean 2 ∷ clean 3 ∷ [])) s in
+        no-empty _ (handed (deaf n) d) rest
+        (ap₂ (λ (b c : Bool). cond (b && c) (askPart s 17 ∷ rest) rest) (eq-eqb (addressOf (clean 0)) 17 (clean-arrives 0 (lit< tt) .address)) (eq-eqb n 3 e)
+        ∙ ap (λ (l : List ℕ). l ∷ rest) (new-shows 2 yes-2))
+
+-- ---- nothing touched
+
+pub untouching-fails : Demand3 untouching → ⊥
+unfolding called anyWhole tells run AllStay ourAnswer
+untouching-fails d =
+    let q : 27 ≡ asked empty-state 17 .number =
+      ap (λ (x : Asked). x .number) (asked-refused empty-state 17 27
+      (sym (leave-27 empty-state 17 empty-passed refl (find empty-state 17) refl (empty-absent 17 (lit< tt)))) (λ z. omega (arith, z))) in
+    let nothing-yet : asked empty-state 17 .number ≡ 4 = d .fresh empty-state 17 0 2 yes-2 [] tt in
+    omega arith
+
+-- ---- the first packet truly, and nods at the rest
+
+nods-same : (c n : ℕ) → nods (suc c) n ≡ nods (suc c) 0
+unfolding nods
+nods-same zero n = refl
+nods-same (suc zero) n = refl
+nods-same (suc (suc c)) n = refl
+
+-- a packet with another index than 0 is answered by its index, and changes nothing
+nod-step : (c : ℕ) (image : List ℕ) (h : List Call) (s : List ℕ) → indexIn image ≡ suc c → addressOf image ≡ 17
+    → handedOut nodding 17 (packet image ∷ h) s
+    ≡ cond (eqb (nods (suc c) 0) 3) (askPart s 17 ∷ handedOut nodding 17 h s) (handedOut nodding 17 h s)
+unfolding handedOut handsOut leaving answerTo leaves
+nod-step c image h s ei ea =
+    ap₂ (λ (b : Bool) (i : ℕ). cond (b && eqb (nods i (packetAnswer s image)) 3)
+    (askPart (leaves i (packetAfter s image) s) 17 ∷ handedOut nodding 17 h (leaves i (packetAfter s image) s)) (handedOut nodding 17 h (leaves i (packetAfter s image) s)))
+    (eq-eqb (addressOf image) 17 ea) ei
+    ∙ ap (λ (n : ℕ). cond (eqb n 3) (askPart s 17 ∷ handedOut nodding 17 h s) (handedOut nodding 17 h s)) (nods-same c (packetAnswer s image))
+
+-- the followed address, and after its first packet
+abbrev begun-at : ℕ → List ℕ
+begun-at l = followAfter empty-state 17 0 l
+
+first-step : (l : ℕ) → followAnswer empty-state 17 0 l ≡ 0 → Steps (begun-at l) 0 (one.followed 17 0 l)
+unfolding one.followed
+first-step l e = clean-step (begun-at l) (one.followed 17 0 l) (follow-serves empty-state 17 0 l e) refl 0 (lit< tt)
+
+pub nodding-fails : Demand3 nodding → ⊥
+unfolding calls callOf handedOut handsOut leaving answerTo leaves nods one.followed one.after one.answer one.moved one.lastOf moveOf moveNumber
+nodding-fails d =
+    let t = begun-at 2 in
+    let one-step = first-step 2 yes-2 in
+    let s = packetAfter t (clean 0) in
+    let at : (c : ℕ) → c < 4 → addressOf (clean c) ≡ 17 = λ c h. clean-arrives c h .address in
+    let h1 = packet (clean 1) ∷ packet (clean 2) ∷ packet (clean 3) ∷ [] in
+    let shows : askPart s 17 ≡ [] = shown-here s 17 (one-step .next .serves) ∙ ap (λ (f : one.Followed). f .last) (one-step .next .seen) in
+    let begins : handedOut nodding 17 (packet (clean 0) ∷ h1) t ≡ handedOut nodding 17 h1 s =
+      ap₂ (λ (b : Bool) (i : ℕ). cond (b && eqb (nods i (packetAnswer t (clean 0))) 3)
+      (askPart (leaves i s t) 17 ∷ handedOut nodding 17 h1 (leaves i s t)) (handedOut nodding 17 h1 (leaves i s t)))
+      (eq-eqb (addressOf (clean 0)) 17 (at 0 (lit< tt))) (clean-index 0 (lit< tt))
+      ∙ ap (λ (n : ℕ). cond (eqb n 3) (askPart s 17 ∷ handedOut nodding 17 h1 s) (handedOut nodding 17 h1 s)) (one-step .answer) in
+    no-empty _ (handed nodding d) []
+    (begins ∙ nod-step 0 (clean 1) (packet (clean 2) ∷ packet (clean 3) ∷ []) s (clean-index 1 (lit< tt)) (at 1 (lit< tt)) ∙ nod-step 1 (clean 2) (packet (clean 3) ∷ []) s (clean-index 2 (lit< tt)) (at 2 (lit< tt))
+    ∙ nod-step 2 (clean 3) [] s (clean-index 3 (lit< tt)) (at 3 (lit< tt)) ∙ ap (λ (l : List ℕ). l ∷ []) shows)
+
+-- ---- an age that stands still, and one that is invented
+
+-- what a packet that is answered n adds to what is told
+noted-here : (c n k : ℕ) (t : List Entry) → c < 4 → n ≡ k → (eqb k 20 || eqb k 21) ≡ false → noted 17 (packet (clean c)) n t ≡ answered k ∷ t
+unfolding noted
+noted-here c n k t h e q =
+    ap (λ (i : ℕ). cond (eqb (addressOf (clean c)) 17 && not (eqb i 20 || eqb i 21)) (answered i ∷ t) t) e
+    ∙ ap₂ (λ (x y : Bool). cond (x && not y) (answered k ∷ t) t) (eq-eqb (addressOf (clean c)) 17 (clean-arrives c h .address)) q
+
+-- the four packets, and their answers
+abbrev four : List Call
+four = packet (clean 0) ∷ packet (clean 1) ∷ packet (clean 2) ∷ packet (clean 3) ∷ []
+
+abbrev told-four : List Entry
+told-four = answered 3 ∷ answered 2 ∷ answered 2 ∷ answered 1 ∷ []
+
+-- the states on the way, where g is what a packet leaves beside its own change
+module _ (g : List ℕ → List ℕ) (view-g : one.Followed → one.Followed) (acts : (s : List ℕ) (f : one.Followed) → Kept s 17 f → Kept (g s) 17 (view-g f))
+    (plain : (f : one.Followed) → view-g f .head .protection ≡ f .head .protection) where
+  abbrev state-1 : List ℕ
+  state-1 = g (packetAfter (begun-at 1) (clean 0))
+
+  abbrev state-2 : List ℕ
+  state-2 = g (packetAfter state-1 (clean 1))
+
+  abbrev state-3 : List ℕ
+  state-3 = g (packetAfter state-2 (clean 2))
+
+  abbrev state-4 : List ℕ
+  state-4 = g (packetAfter state-3 (clean 3))
+
+  abbrev view-1 : one.Followed
+  view-1 = view-g (one.after (one.packet 0 (blank 90)) (one.followed 17 0 1))
+
+  abbrev view-2 : one.Followed
+  view-2 = view-g (one.after (one.packet 1 (blank 90)) view-1)
+
+  abbrev view-3 : one.Followed
+  view-3 = view-g (one.after (one.packet 2 (blank 90)) view-2)
+
+  abbrev view-4 : one.Followed
+  view-4 = view-g (one.after (one.packet 3 (blank 90)) view-3)
+
+  step-0 : Steps (begun-at 1) 0 (one.followed 17 0 1)
+  step-0 = first-step 1 yes-1
+
+  kept-on : (f : one.Followed) (b : ℕ) → f .head .protection ≡ 0 → view-g (one.after (one.packet b (blank 90)) f) .head .protection ≡ 0
+  kept-on f b p = plain (one.after (one.packet b (blank 90)) f) ∙ after-protection (one.packet b (blank 90)) f ∙ p
+
+  step-on : (s : List ℕ) (f : one.Followed) (b c : ℕ) → Steps s b f → f .head .protection ≡ 0 → c < 4
+      → Steps (g (packetAfter s (clean b))) c (view-g (one.after (one.packet b (blank 90)) f))
+  step-on s f b c k p h = clean-step _ _ (acts _ _ (k .next)) (kept-on f b p) c h
+
+  begun-plain : one.followed 17 0 1 .head .protection ≡ 0
+  unfolding one.followed
+  begun-plain = refl
+
+  step-1 : Steps state-1 1 view-1
+  step-1 = step-on (begun-at 1) (one.followed 17 0 1) 0 1 step-0 begun-plain (lit< tt)
+
+  step-2 : Steps state-2 2 view-2
+  step-2 = step-on state-1 view-1 1 2 step-1 (kept-on _ 0 begun-plain) (lit< tt)
+
+  step-3 : Steps state-3 3 view-3
+  step-3 = step-on state-2 view-2 2 3 step-2 (kept-on _ 1 (kept-on _ 0 begun-plain)) (lit< tt)
+
+  whole : Kept state-4 17 view-4
+  whole = acts _ _ (step-3 .next)
+
+  -- what the answers tell, once they are known
+  tells-four : one.answer (one.packet 0 (blank 90)) (one.followed 17 0 1) ≡ 1 → one.answer (one.packet 1 (blank 90)) view-1 ≡ 2
+      → one.answer (one.packet 2 (blank 90)) view-2 ≡ 2 → one.answer (one.packet 3 (blank 90)) view-3 ≡ 3
+      → noted 17 (packet (clean 3)) (packetAnswer state-3 (clean 3)) (noted 17 (packet (clean 2)) (packetAnswer state-2 (clean 2))
+      (noted 17 (packet (clean 1)) (packetAnswer state-1 (clean 1)) (noted 17 (packet (clean 0)) (packetAnswer (begun-at 1) (clean 0)) []))) ≡ told-four
+  tells-four a b c d =
+      noted-here 3 _ 3 _ (lit< tt) (step-3 .answer ∙ d) refl
+      ∙ ap (λ (t : List Entry). answered 3 ∷ t) (noted-here 2 _ 2 _ (lit< tt) (step-2 .answer ∙ c) refl
+      ∙ ap (λ (t : List Entry). answered 2 ∷ t) (noted-here 1 _ 2 _ (lit< tt) (step-1 .answer ∙ b) refl
+      ∙ ap (λ (t : List Entry). answered 2 ∷ t) (noted-here 0 _ 1 [] (lit< tt) (step-0 .answer ∙ a) refl)))
+
+  asks : asked state-4 17 .number ≡ shown (view-4 .head)
+  asks = ask-here state-4 17 (whole .serves) ∙ ap (λ (f : one.Followed). shown (f .head)) (whole .seen)
+
+pub still-fails : Demand3 still → ⊥
+unfolding tells run leaving AllStay Stays ourAnswer noted one.followed one.after one.answer one.moved one.joined one.lastOf moveOf moveNumber movedHead shown called anyWhole isWhole sinceWhole ends marked
+still-fails d =
+    let same : (f : one.Followed) → f .head .protection ≡ f .head .protection = λ f. refl in
+    let stays : AllStay 17 (four ++ (subframeEnd ∷ [])) = (tt, (tt, (tt, (tt, (tt, tt))))) in
+    let fresh : asked _ 17 .number ≡ 5 = asks (λ s. s) (λ f. f) (λ s f k. k) same in
+    let told = tells-four (λ s. s) (λ f. f) (λ s f k. k) same refl refl refl refl in
+    let stale = d .fresh empty-state 17 0 1 yes-1 (four ++ (subframeEnd ∷ [])) stays ∙ ap (λ (t : List Entry). called 1 (subframe ∷ t)) told in
+    let clash : _≡_ {A = ℕ} 5 7 = sym fresh ∙ stale in
+    omega arith
+
+pub aging-fails : Demand3 aging → ⊥
+unfolding tells run leaving AllStay Stays ourAnswer one.followed one.after one.answer one.moved one.joined one.lastOf one.aged moveOf moveNumber movedHead shown called anyWhole isWhole sinceWhole ends marked
+aging-fails d =
+    let same : (f : one.Followed) → one.aged f .head .protection ≡ f .head .protection = λ f. refl in
+    let stays : AllStay 17 four = (tt, (tt, (tt, (tt, tt)))) in
+    let stale : asked _ 17 .number ≡ 7 = asks endAfter one.aged end-step same in
+    let told = tells-four endAfter one.aged end-step same refl refl refl refl in
+    let fresh = d .fresh empty-state 17 0 1 yes-1 four stays ∙ ap (called 1) told in
+    let clash : _≡_ {A = ℕ} 7 5 = sym stale ∙ fresh in
+    omega arith
