@@ -2,8 +2,8 @@
 --
 --   image-20, image-state, image-21, image-0     the rows that need no slot, in the code's tests
 --   Sized, image-sized           where none of them holds, the image and the state have their lengths
---   Placed                       an answer with the state after it, past those rows
---   packet-refused, packet-placed     the answer with the bytes after, by the answer of those rows
+--   AtPlace                      an answer with the state after it, past those rows
+--   image-refused, image-placed       the answer with the bytes after, by the answer of those rows
 --   place-27, place-lt           27 by the code's test; where that fails, there is a slot of the address
 --   slot-served                  the answer with the state after, by what the lent slot answered
 --   reading-at                   the reading by the slot's protection
@@ -19,7 +19,7 @@ use borrow.Author.Tests.{ltb-true, lt-ltb, le-ltb, eq-eqb, ne-eqb, eqb-true, not
 use lib.Dec.{ltb, eqb}
 use lib.ListN.{length, take, drop}
 use Rattle.bits.specs.Rows.{Row, row, refusal, further, done}
-use Rattle.bits.proofs.Rows.{refusal-hit, refusal-miss, refusal-passed, refusal-none, further-refused, further-passed, done-refused, done-passed}
+use Rattle.bits.proofs.Rows.{refusal-hit, refusal-miss, refusal-passed, refusal-none, further-refused, further-passed, done-passed}
 use Rattle.bits.proofs.Search.{and-right}
 use Rattle.image.specs.Image.{spareOf}
 use Rattle.packet.specs.Received.{received}
@@ -32,6 +32,7 @@ use Rattle.table.proofs.States.{find-le}
 use Rattle.table.proofs.Looking.{state-rest, state-refused, state-passed, past-state, slot-part}
 use Rattle.table.proofs.Doing.{span, slot-given}
 use Rattle.group.specs.Group.{takenNumber, takenAfter}
+use Rattle.adapter.proofs.Laws.{packet-refused}
 use Rattle.adapter.specs.Calls.{addressOf, followed, imageRows, placeRow, unplaced, readingAt, slotAnswer, slotAfter, packetAnswer, packetAfter}
 
 -- ---- the rows that need no slot
@@ -88,8 +89,8 @@ rows-further false false false true rest = refl
 rows-further false false false false rest = refl
 
 -- an answer with the state after it, by the row of 27 and the slot
-abbrev pub Placed : List ℕ → List ℕ → ℕ → List ℕ → Type 0
-Placed s image n t =
+abbrev pub AtPlace : List ℕ → List ℕ → ℕ → List ℕ → Type 0
+AtPlace s image n t =
     (n ≡ further (refusal (placeRow s image)) (slotAnswer s image)) × (t ≡ done (refusal (placeRow s image)) (slotAfter s image) s)
 
 module _ (s image : List ℕ) (r : ℕ) (e : r ≡ refusal (imageRows s image [])) where
@@ -97,18 +98,16 @@ module _ (s image : List ℕ) (r : ℕ) (e : r ≡ refusal (imageRows s image []
   unfolding unplaced
   unplaced-further = rows-further _ _ _ _ (placeRow s image) ∙ ap (λ (n : ℕ). further n (refusal (placeRow s image))) (sym e)
 
-  pub packet-refused : (r ≡ 0 → ⊥) → (r ≡ packetAnswer s image) × (s ≡ packetAfter s image)
-  unfolding packetAnswer packetAfter
-  packet-refused ne =
-      let same : r ≡ unplaced s image = sym (unplaced-further ∙ further-refused r _ ne) in (
-        same ∙ sym (further-refused (unplaced s image) (slotAnswer s image) (λ z. ne (same ∙ z))),
-        sym (done-refused (unplaced s image) (slotAfter s image) s (λ z. ne (same ∙ z))),
-      )
+  pub image-refused : (r ≡ 0 → ⊥) → (r ≡ packetAnswer s image) × (s ≡ packetAfter s image)
+  image-refused ne =
+      let equal : r ≡ unplaced s image = sym (unplaced-further ∙ further-refused r _ ne) in
+      let q = packet-refused s image (λ z. ne (equal ∙ z)) in
+      (equal ∙ sym (q .0), sym (q .1))
 
-  pub packet-placed : (n : ℕ) (t : List ℕ) → r ≡ 0 → Placed s image n t
+  pub image-placed : (n : ℕ) (t : List ℕ) → r ≡ 0 → AtPlace s image n t
       → (n ≡ packetAnswer s image) × (t ≡ packetAfter s image)
   unfolding packetAnswer packetAfter
-  packet-placed n t z q =
+  image-placed n t z q =
       let same : refusal (placeRow s image) ≡ unplaced s image = sym (unplaced-further ∙ further-passed r _ z) in (
         q .0 ∙ ap (λ (x : ℕ). further x (slotAnswer s image)) same,
         q .1 ∙ ap (λ (x : ℕ). done x (slotAfter s image) s) same,
@@ -133,7 +132,7 @@ module _ (s image : List ℕ) (a k : ℕ) (ea : a ≡ addressOf image) (ek : k �
   test : (eqb a 0 || eqb k slots) ≡ not (followed s (addressOf image))
   test = ap (λ (x : ℕ). eqb a 0 || eqb x slots) ek ∙ no-place s a ∙ ap (λ (x : ℕ). not (followed s x)) ea
 
-  pub place-27 : (eqb a 0 || eqb k slots) ≡ true → Placed s image 27 s
+  pub place-27 : (eqb a 0 || eqb k slots) ≡ true → AtPlace s image 27 s
   unfolding further done
   place-27 t =
       let hit : 27 ≡ refusal (placeRow s image) = sym (refusal-hit (not (followed s (addressOf image))) 27 [] (sym test ∙ t)) in
@@ -153,7 +152,7 @@ module _ (s image : List ℕ) (a k : ℕ) (ea : a ≡ addressOf image) (ek : k �
   pub slot-served : (n : ℕ) (b : List ℕ) → (eqb a 0 || eqb k slots) ≡ false
       → let x = take (span (k * slotSize)) (drop (k * slotSize) s) in
       (n ≡ takenNumber (readingAt x image) (headOf x)) × (b ≡ takenAfter (readingAt x image) x)
-      → Placed s image n (take (k * slotSize) s ++ (b ++ drop (span (k * slotSize)) (drop (k * slotSize) s)))
+      → AtPlace s image n (take (k * slotSize) s ++ (b ++ drop (span (k * slotSize)) (drop (k * slotSize) s)))
   unfolding slotAnswer slotAfter
   slot-served n b t q =
       let j : k ≡ find s (addressOf image) = ek ∙ ap (find s) ea in

@@ -1,3 +1,4 @@
 pub mod Arriving
+pub mod Determined
 pub mod Laws
 pub mod Writing

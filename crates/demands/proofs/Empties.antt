@@ -1,6 +1,6 @@
 -- The empty versions are refuted by demand 3 itself.
 --
---   fixed-fails          one fixed answer, and so refusing everything
+--   fixed-fails          one fixed answer, and so refusing everything; fixed-unread: by demand 2
 --   deaf-fails           every packet refused
 --   untouching-fails     nothing touched
 --   nodding-fails        the first packet truly, and nods at the rest
@@ -15,28 +15,34 @@ use Prim.Native.Nat.{ℕ, zero, suc, _<_}
 use native.Mathlib.Omega.{arith}
 use native.Mathlib.Decide.{ℕ-discrete}
 use borrow.Author.Tests.{eq-eqb, ne-eqb}
-use lib.Dec.{T, eqb, lit<}
+use lib.Dec.{T, eqb, lit≤, lit<}
+use lib.ListN.{getD}
 use Rattle.bits.specs.Bits.{blank}
+use Rattle.bits.proofs.Storing.{blank-length}
 use Rattle.slot.specs.Head.{shown}
 use Rattle.slot.specs.Move.{moveOf, moveNumber, movedHead}
 use Rattle.table.specs.State.{find}
 use Rattle.table.specs.Calls.{followAnswer, followAfter, endAfter, askPart, asked}
 use Rattle.table.specs.declared.Asked.{Asked}
 use Rattle.table.proofs.Looking.{leave-27}
+use Rattle.table.proofs.States.{each-good}
 use Rattle.table.proofs.Doing.{asked-refused}
 use Rattle.history.specs.Followed as one
 use Rattle.history.specs.Sent.{group, groups, In, Exactly}
 use Rattle.history.specs.Transcript.{Entry, answered, subframe, isWhole, anyWhole, sinceWhole, ends, marked, called}
-use Rattle.adapter.specs.Calls.{addressOf, packetAnswer, packetAfter}
+use Rattle.adapter.specs.Calls.{addressOf, packetAnswer, packetAfter, writeAfter}
+use Rattle.adapter.proofs.Laws.{both-followed}
 use Rattle.demands.specs.Machine.{Call, follow, packet, subframeEnd, ask, Machine, ours, ourAnswer, ourAfter, run}
-use Rattle.demands.specs.Demand2.{packets}
+use Rattle.demands.specs.Demand2.{Follows, imageAt, Sound, answersTo, packets, Demand2}
 use Rattle.demands.specs.Demand3.{AllStay, Stays, Arrived, calls, callOf, handsOut, handedOut, noted, tells, Demand3}
 use Rattle.demands.specs.Empty.{fixed, answerTo, leaving, deaf, untouching, nods, leaves, indexIn, nodding, still, aging}
 use Rattle.demands.proofs.Serving.{Serves, view, Kept}
+use Rattle.demands.proofs.View.{viewOf}
 use Rattle.demands.proofs.Calling.{follow-serves}
-use Rattle.demands.proofs.Parts.{ask-here, shown-here}
-use Rattle.demands.proofs.Telling.{after-protection}
-use Rattle.demands.proofs.Examples.{empty-state, empty-passed, empty-absent, accepted, zeros, zeros-carried, clean, whole-group, whole-channel, whole-arrived, clean-arrives, clean-index, Steps, clean-step, end-step}
+use Rattle.demands.proofs.Second.{sent-sound}
+use Rattle.demands.proofs.Parts.{shown-here}
+use Rattle.demands.proofs.Examples.{bytes-zero, empty-state, empty-passed, empty-absent, accepted, zeros, zeros-carried, clean, whole-group, whole-channel, whole-arrived, clean-arrives, clean-index, end-step}
+use Rattle.demands.proofs.Turns.{begun-at, first-step, four, told-four, asks, tells-four}
 
 -- ---- what any machine that meets the demand hands out of the group of zeros
 
@@ -94,6 +100,26 @@ fixed-fails n m d =
     let nothing-yet : n ≡ 4 = d .fresh empty-state 17 0 2 yes-2 [] tt in
     omega arith
 
+-- by demand 2 too: it must write, and the packets of what it wrote are answered 1, 2, 2 and 3
+pub fixed-unread : (n : ℕ) → Demand2 (fixed n ours) → ⊥
+unfolding answersTo one.followed view viewOf
+fixed-unread n d =
+    let k = follow-serves empty-state 17 0 2 yes-2 in
+    let t = followAfter empty-state 17 0 2 in
+    let follows : Follows t 17 0 = record {
+      size = k .serves .size;
+      good = each-good t (k .serves .all);
+      found = both-followed t 17 (k .serves .pos) (k .serves .found);
+      protection = ap (λ (f : one.Followed). f .head .protection) (k .seen);
+    } in
+    let sound : (i : ℕ) → i < 4 → Sound false (writeAfter 17 0 (blank 360) (blank 376)) i (imageAt (writeAfter 17 0 (blank 360) (blank 376)) i) =
+      λ i h. sent-sound 17 0 (blank 360) (blank 376) (lit≤ tt) (lit≤ tt) (lit≤ tt) (blank-length 360) (bytes-zero 360) (blank-length 376) i h in
+    let back = d .back t 17 0 (blank 360) (blank 376) _ _ _ _ follows (blank-length 360) (bytes-zero 360) (blank-length 376)
+      (sound 0 (lit< tt)) (sound 1 (lit< tt)) (sound 2 (lit< tt)) (sound 3 (lit< tt)) in
+    let done : n ≡ 0 = d .writes 17 0 (blank 360) (blank 376) (lit≤ tt) (lit≤ tt) (lit≤ tt) (blank-length 360) (blank-length 376) in
+    let started : n ≡ 1 = ap (λ (ns : List ℕ). getD ns 0 0) (back .answers) in
+    omega arith
+
 -- ---- every packet answered alike, and nothing done
 
 -- another number than 3 hands out nothing
@@ -137,8 +163,8 @@ pub untouching-fails : Demand3 untouching → ⊥
 unfolding called anyWhole tells run AllStay ourAnswer
 untouching-fails d =
     let q : 27 ≡ asked empty-state 17 .number =
-      ap (λ (x : Asked). x .number) (asked-refused empty-state 17 27
-      (sym (leave-27 empty-state 17 empty-passed refl (find empty-state 17) refl (empty-absent 17 (lit< tt)))) (λ z. omega (arith, z))) in
+    ap (λ (x : Asked). x .number) (asked-refused empty-state 17 27
+    (sym (leave-27 empty-state 17 empty-passed refl (find empty-state 17) refl (empty-absent 17 (lit< tt)))) (λ z. omega (arith, z))) in
     let nothing-yet : asked empty-state 17 .number ≡ 4 = d .fresh empty-state 17 0 2 yes-2 [] tt in
     omega arith
 
@@ -161,14 +187,6 @@ nod-step c image h s ei ea =
     (eq-eqb (addressOf image) 17 ea) ei
     ∙ ap (λ (n : ℕ). cond (eqb n 3) (askPart s 17 ∷ handedOut nodding 17 h s) (handedOut nodding 17 h s)) (nods-same c (packetAnswer s image))
 
--- the followed address, and after its first packet
-abbrev begun-at : ℕ → List ℕ
-begun-at l = followAfter empty-state 17 0 l
-
-first-step : (l : ℕ) → followAnswer empty-state 17 0 l ≡ 0 → Steps (begun-at l) 0 (one.followed 17 0 l)
-unfolding one.followed
-first-step l e = clean-step (begun-at l) (one.followed 17 0 l) (follow-serves empty-state 17 0 l e) refl 0 (lit< tt)
-
 pub nodding-fails : Demand3 nodding → ⊥
 unfolding calls callOf handedOut handsOut leaving answerTo leaves nods one.followed one.after one.answer one.moved one.lastOf moveOf moveNumber
 nodding-fails d =
@@ -179,104 +197,23 @@ nodding-fails d =
     let h1 = packet (clean 1) ∷ packet (clean 2) ∷ packet (clean 3) ∷ [] in
     let shows : askPart s 17 ≡ [] = shown-here s 17 (one-step .next .serves) ∙ ap (λ (f : one.Followed). f .last) (one-step .next .seen) in
     let begins : handedOut nodding 17 (packet (clean 0) ∷ h1) t ≡ handedOut nodding 17 h1 s =
-      ap₂ (λ (b : Bool) (i : ℕ). cond (b && eqb (nods i (packetAnswer t (clean 0))) 3)
-      (askPart (leaves i s t) 17 ∷ handedOut nodding 17 h1 (leaves i s t)) (handedOut nodding 17 h1 (leaves i s t)))
-      (eq-eqb (addressOf (clean 0)) 17 (at 0 (lit< tt))) (clean-index 0 (lit< tt))
-      ∙ ap (λ (n : ℕ). cond (eqb n 3) (askPart s 17 ∷ handedOut nodding 17 h1 s) (handedOut nodding 17 h1 s)) (one-step .answer) in
+    ap₂ (λ (b : Bool) (i : ℕ). cond (b && eqb (nods i (packetAnswer t (clean 0))) 3)
+    (askPart (leaves i s t) 17 ∷ handedOut nodding 17 h1 (leaves i s t)) (handedOut nodding 17 h1 (leaves i s t)))
+    (eq-eqb (addressOf (clean 0)) 17 (at 0 (lit< tt))) (clean-index 0 (lit< tt))
+    ∙ ap (λ (n : ℕ). cond (eqb n 3) (askPart s 17 ∷ handedOut nodding 17 h1 s) (handedOut nodding 17 h1 s)) (one-step .answer) in
     no-empty _ (handed nodding d) []
     (begins ∙ nod-step 0 (clean 1) (packet (clean 2) ∷ packet (clean 3) ∷ []) s (clean-index 1 (lit< tt)) (at 1 (lit< tt)) ∙ nod-step 1 (clean 2) (packet (clean 3) ∷ []) s (clean-index 2 (lit< tt)) (at 2 (lit< tt))
     ∙ nod-step 2 (clean 3) [] s (clean-index 3 (lit< tt)) (at 3 (lit< tt)) ∙ ap (λ (l : List ℕ). l ∷ []) shows)
 
 -- ---- an age that stands still, and one that is invented
 
--- what a packet that is answered n adds to what is told
-noted-here : (c n k : ℕ) (t : List Entry) → c < 4 → n ≡ k → (eqb k 20 || eqb k 21) ≡ false → noted 17 (packet (clean c)) n t ≡ answered k ∷ t
-unfolding noted
-noted-here c n k t h e q =
-    ap (λ (i : ℕ). cond (eqb (addressOf (clean c)) 17 && not (eqb i 20 || eqb i 21)) (answered i ∷ t) t) e
-    ∙ ap₂ (λ (x y : Bool). cond (x && not y) (answered k ∷ t) t) (eq-eqb (addressOf (clean c)) 17 (clean-arrives c h .address)) q
-
--- the four packets, and their answers
-abbrev four : List Call
-four = packet (clean 0) ∷ packet (clean 1) ∷ packet (clean 2) ∷ packet (clean 3) ∷ []
-
-abbrev told-four : List Entry
-told-four = answered 3 ∷ answered 2 ∷ answered 2 ∷ answered 1 ∷ []
-
--- the states on the way, where g is what a packet leaves beside its own change
-module _ (g : List ℕ → List ℕ) (view-g : one.Followed → one.Followed) (acts : (s : List ℕ) (f : one.Followed) → Kept s 17 f → Kept (g s) 17 (view-g f))
-    (plain : (f : one.Followed) → view-g f .head .protection ≡ f .head .protection) where
-  abbrev state-1 : List ℕ
-  state-1 = g (packetAfter (begun-at 1) (clean 0))
-
-  abbrev state-2 : List ℕ
-  state-2 = g (packetAfter state-1 (clean 1))
-
-  abbrev state-3 : List ℕ
-  state-3 = g (packetAfter state-2 (clean 2))
-
-  abbrev state-4 : List ℕ
-  state-4 = g (packetAfter state-3 (clean 3))
-
-  abbrev view-1 : one.Followed
-  view-1 = view-g (one.after (one.packet 0 (blank 90)) (one.followed 17 0 1))
-
-  abbrev view-2 : one.Followed
-  view-2 = view-g (one.after (one.packet 1 (blank 90)) view-1)
-
-  abbrev view-3 : one.Followed
-  view-3 = view-g (one.after (one.packet 2 (blank 90)) view-2)
-
-  abbrev view-4 : one.Followed
-  view-4 = view-g (one.after (one.packet 3 (blank 90)) view-3)
-
-  step-0 : Steps (begun-at 1) 0 (one.followed 17 0 1)
-  step-0 = first-step 1 yes-1
-
-  kept-on : (f : one.Followed) (b : ℕ) → f .head .protection ≡ 0 → view-g (one.after (one.packet b (blank 90)) f) .head .protection ≡ 0
-  kept-on f b p = plain (one.after (one.packet b (blank 90)) f) ∙ after-protection (one.packet b (blank 90)) f ∙ p
-
-  step-on : (s : List ℕ) (f : one.Followed) (b c : ℕ) → Steps s b f → f .head .protection ≡ 0 → c < 4
-      → Steps (g (packetAfter s (clean b))) c (view-g (one.after (one.packet b (blank 90)) f))
-  step-on s f b c k p h = clean-step _ _ (acts _ _ (k .next)) (kept-on f b p) c h
-
-  begun-plain : one.followed 17 0 1 .head .protection ≡ 0
-  unfolding one.followed
-  begun-plain = refl
-
-  step-1 : Steps state-1 1 view-1
-  step-1 = step-on (begun-at 1) (one.followed 17 0 1) 0 1 step-0 begun-plain (lit< tt)
-
-  step-2 : Steps state-2 2 view-2
-  step-2 = step-on state-1 view-1 1 2 step-1 (kept-on _ 0 begun-plain) (lit< tt)
-
-  step-3 : Steps state-3 3 view-3
-  step-3 = step-on state-2 view-2 2 3 step-2 (kept-on _ 1 (kept-on _ 0 begun-plain)) (lit< tt)
-
-  whole : Kept state-4 17 view-4
-  whole = acts _ _ (step-3 .next)
-
-  -- what the answers tell, once they are known
-  tells-four : one.answer (one.packet 0 (blank 90)) (one.followed 17 0 1) ≡ 1 → one.answer (one.packet 1 (blank 90)) view-1 ≡ 2
-      → one.answer (one.packet 2 (blank 90)) view-2 ≡ 2 → one.answer (one.packet 3 (blank 90)) view-3 ≡ 3
-      → noted 17 (packet (clean 3)) (packetAnswer state-3 (clean 3)) (noted 17 (packet (clean 2)) (packetAnswer state-2 (clean 2))
-      (noted 17 (packet (clean 1)) (packetAnswer state-1 (clean 1)) (noted 17 (packet (clean 0)) (packetAnswer (begun-at 1) (clean 0)) []))) ≡ told-four
-  tells-four a b c d =
-      noted-here 3 _ 3 _ (lit< tt) (step-3 .answer ∙ d) refl
-      ∙ ap (λ (t : List Entry). answered 3 ∷ t) (noted-here 2 _ 2 _ (lit< tt) (step-2 .answer ∙ c) refl
-      ∙ ap (λ (t : List Entry). answered 2 ∷ t) (noted-here 1 _ 2 _ (lit< tt) (step-1 .answer ∙ b) refl
-      ∙ ap (λ (t : List Entry). answered 2 ∷ t) (noted-here 0 _ 1 [] (lit< tt) (step-0 .answer ∙ a) refl)))
-
-  asks : asked state-4 17 .number ≡ shown (view-4 .head)
-  asks = ask-here state-4 17 (whole .serves) ∙ ap (λ (f : one.Followed). shown (f .head)) (whole .seen)
-
 pub still-fails : Demand3 still → ⊥
 unfolding tells run leaving AllStay Stays ourAnswer noted one.followed one.after one.answer one.moved one.joined one.lastOf moveOf moveNumber movedHead shown called anyWhole isWhole sinceWhole ends marked
 still-fails d =
     let same : (f : one.Followed) → f .head .protection ≡ f .head .protection = λ f. refl in
     let stays : AllStay 17 (four ++ (subframeEnd ∷ [])) = (tt, (tt, (tt, (tt, (tt, tt))))) in
-    let fresh : asked _ 17 .number ≡ 5 = asks (λ s. s) (λ f. f) (λ s f k. k) same in
-    let told = tells-four (λ s. s) (λ f. f) (λ s f k. k) same refl refl refl refl in
+    let fresh : asked _ 17 .number ≡ 5 = asks 1 yes-1 (λ s. s) (λ f. f) (λ s f k. k) same in
+    let told = tells-four 1 yes-1 (λ s. s) (λ f. f) (λ s f k. k) same refl refl refl refl in
     let stale = d .fresh empty-state 17 0 1 yes-1 (four ++ (subframeEnd ∷ [])) stays ∙ ap (λ (t : List Entry). called 1 (subframe ∷ t)) told in
     let clash : _≡_ {A = ℕ} 5 7 = sym fresh ∙ stale in
     omega arith
@@ -286,8 +223,8 @@ unfolding tells run leaving AllStay Stays ourAnswer one.followed one.after one.a
 aging-fails d =
     let same : (f : one.Followed) → one.aged f .head .protection ≡ f .head .protection = λ f. refl in
     let stays : AllStay 17 four = (tt, (tt, (tt, (tt, tt)))) in
-    let stale : asked _ 17 .number ≡ 7 = asks endAfter one.aged end-step same in
-    let told = tells-four endAfter one.aged end-step same refl refl refl refl in
+    let stale : asked _ 17 .number ≡ 7 = asks 1 yes-1 endAfter one.aged end-step same in
+    let told = tells-four 1 yes-1 endAfter one.aged end-step same refl refl refl refl in
     let fresh = d .fresh empty-state 17 0 1 yes-1 four stays ∙ ap (called 1) told in
     let clash : _≡_ {A = ℕ} 7 5 = sym stale ∙ fresh in
     omega arith

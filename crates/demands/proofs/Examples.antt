@@ -4,6 +4,7 @@
 --   empty-state, accepted        the state of 0 alone, in which a follow is accepted
 --   zeros, zeros-carried         what is sent
 --   clean c, whole-group         packet c of group 0 as it was sent; all four
+--   comes-at                     one of them at any address
 --   whole-channel                they meet the channel's words; whole-arrived: all four arrived readable
 --   clean-step, end-step         what a step of a history does, where the address is known
 --   clean-arrives, clean-index, clean-event     one of them at its address, and as an event
@@ -50,7 +51,7 @@ abbrev pub empty-state : List ℕ
 empty-state = blank stateSize
 
 -- no slot of it has an address
-empty-address : (k : ℕ) → k < slots → addressAt empty-state k ≡ 0
+pub empty-address : (k : ℕ) → k < slots → addressAt empty-state k ≡ 0
 empty-address k h =
     sym (address-is empty-state k) ∙ ap (λ (x : List ℕ). headOf x .address) (slot-blank k h) ∙ ap (λ (h : Head). h .address) (head-blank 736)
 
@@ -79,11 +80,11 @@ accepted l t = follow-0 empty-state 17 0 l empty-passed refl (lit≤ tt) t (find
 abbrev pub zeros : Sent
 zeros i c = blank 90
 
-bytes-zero : Bytes (blank 90)
-bytes-zero k = omega (arith, blank-at 90 k)
+pub bytes-zero : (n : ℕ) → Bytes (blank n)
+bytes-zero n k = omega (arith, blank-at n k)
 
 pub zeros-carried : Carries false zeros
-zeros-carried = record { size = λ i c h. blank-length 90; bytes = λ i c h. bytes-zero }
+zeros-carried = record { size = λ i c h. blank-length 90; bytes = λ i c h. bytes-zero 90 }
 
 abbrev pub clean : ℕ → List ℕ
 clean c = sentImage false 17 c (blank 90)
@@ -91,19 +92,25 @@ clean c = sentImage false 17 c (blank 90)
 abbrev pub whole-group : List Happening
 whole-group = arrives 0 0 (clean 0) ∷ arrives 0 1 (clean 1) ∷ arrives 0 2 (clean 2) ∷ arrives 0 3 (clean 3) ∷ []
 
+-- so at any address
+pub comes-at : (a : ℕ) → a ≤ 1023 → (c : ℕ) → c < 4 → Comes false a zeros c 0 c (sentImage false a c (blank 90))
+comes-at a ha c h =
+    let image = sentImage false a c (blank 90) in
+    record {
+      next = record { index = h; once = omega arith; lost = omega arith };
+      came = corrected-came false image image (sent-corrected false a c (blank 90));
+      spare = sent-spare false a c (blank 90) ha (omega arith) (blank-length 90) (bytes-zero 90);
+    }
+
 comes : (c : ℕ) → c < 4 → Comes false 17 zeros c 0 c (clean c)
-comes c h = record {
-  next = record { index = h; once = omega arith; lost = omega arith };
-  came = corrected-came false (clean c) (clean c) (sent-corrected false 17 c (blank 90));
-  spare = sent-spare false 17 c (blank 90) (lit≤ tt) (omega arith) (blank-length 90) bytes-zero;
-}
+comes c h = comes-at 17 (lit≤ tt) c h
 
 pub whole-channel : Channel false 17 zeros 0 whole-group
 unfolding Channel
 whole-channel = (comes 0 (lit< tt), (comes 1 (lit< tt), (comes 2 (lit< tt), (comes 3 (lit< tt), tt))))
 
 pub clean-read : (c : ℕ) → c < 4 → received false (clean c) ≡ partAs c (blank 90)
-clean-read c h = received-sent false 17 c (blank 90) (lit≤ tt) (omega arith) (blank-length 90) bytes-zero
+clean-read c h = received-sent false 17 c (blank 90) (lit≤ tt) (omega arith) (blank-length 90) (bytes-zero 90)
 
 clean-number : (c : ℕ) → c < 4 → received false (clean c) .number ≡ 0
 clean-number c h = ap (λ (r : Reading). r .number) (clean-read c h)
@@ -120,14 +127,14 @@ whole-arrived (suc (suc (suc (suc c)))) h = absurd (omega arith)
 
 pub clean-arrives : (c : ℕ) → c < 4 → Arrives 17 (clean c)
 clean-arrives c h =
-    came-arrives false 17 c (blank 90) (clean c) (lit≤ tt) h (blank-length 90) bytes-zero (comes c h .came) (comes c h .spare)
+    came-arrives false 17 c (blank 90) (clean c) (lit≤ tt) h (blank-length 90) (bytes-zero 90) (comes c h .came) (comes c h .spare)
 
 pub clean-index : (c : ℕ) → c < 4 → headerRead (headerOf (clean c)) .index ≡ c
-clean-index c h = header-came false 17 c (blank 90) (lit≤ tt) (omega arith) (blank-length 90) bytes-zero (clean c) (comes c h .came .header) .1
+clean-index c h = header-came false 17 c (blank 90) (lit≤ tt) (omega arith) (blank-length 90) (bytes-zero 90) (clean c) (comes c h .came .header) .1
 
 clean-read-event : (c : ℕ) → c < 4 → eventOf false (clean c) ≡ one.packet c (blank 90)
 clean-read-event c h =
-    came-event false 17 c (blank 90) (clean c) (lit≤ tt) h (blank-length 90) bytes-zero (comes c h .came) (clean-number c h)
+    came-event false 17 c (blank 90) (clean c) (lit≤ tt) h (blank-length 90) (bytes-zero 90) (comes c h .came) (clean-number c h)
 
 stays-here : (c : ℕ) → Stays 17 (packet (clean c))
 unfolding Stays

@@ -8,6 +8,8 @@ pub mod First
 pub mod Parts
 pub mod Second
 pub mod Serving
+pub mod Story
 pub mod Telling
 pub mod Third
+pub mod Turns
 pub mod View

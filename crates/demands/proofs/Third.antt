@@ -75,9 +75,9 @@ module _ (s : List ℕ) (a p l : ℕ) (e : followAnswer s a p l ≡ 0) where
       let st = channel-stays (eqb p 1) a sent n h ch in
       let x = exactly a p l sent n (arrivals (eqb p 1) h) (channel-order (eqb p 1) a sent n h ch) in
       let same : handedOut ours a (calls h) t ≡ _ =
-        handed-same (calls h) t a (begun .serves) st
-        ∙ ap₂ (λ (b : Bool) (f : one.Followed). one.handedOut (eventsOf a b (calls h)) f) begun-by (begun .seen)
-        ∙ ap (λ (es : List one.Event). one.handedOut es (one.followed a p l)) (sym (channel-events (eqb p 1) a sent low k n h ch)) in
+      handed-same (calls h) t a (begun .serves) st
+      ∙ ap₂ (λ (b : Bool) (f : one.Followed). one.handedOut (eventsOf a b (calls h)) f) begun-by (begun .seen)
+      ∙ ap (λ (es : List one.Event). one.handedOut es (one.followed a p l)) (sym (channel-events (eqb p 1) a sent low k n h ch)) in
       record {
         which = x .which;
         bytes = same ∙ x .bytes;
@@ -94,7 +94,7 @@ follow-again : (s : List ℕ) (a p l : ℕ) → Serves s a
 unfolding followAnswer refusal
 follow-again s a p l v =
     let rest = row (not (within 1 1022 a)) 22 ∷ row (ltb 1 p) 23 ∷ row (not (within 1 1500 l)) 24 ∷ row (ltb (find s a) slots) 25
-      ∷ row (not (ltb (find s 0) slots)) 26 ∷ [] in
+    ∷ row (not (ltb (find s 0) slots)) 26 ∷ [] in
     state-rest s rest (v .size) (each-good s (v .all))
     ∙ ap (λ (b : Bool). refusal (row (not (within 1 1022 a)) 22 ∷ row (ltb 1 p) 23 ∷ row (not (within 1 1500 l)) 24 ∷ row b 25
     ∷ row (not (ltb (find s 0) slots)) 26 ∷ [])) (lt-ltb (find s a) slots (v .found))

@@ -12,7 +12,7 @@ abbrev pub Same : ℕ → List ℕ → Type 0
 Same answer after =
     (r q : ℕ) (t u : List ℕ) → r ≡ answer → t ≡ after → q ≡ answer → u ≡ after → (r ≡ q) × (t ≡ u)
 
-same : (answer : ℕ) (after : List ℕ) → Same answer after
+pub same : (answer : ℕ) (after : List ℕ) → Same answer after
 same answer after r q t u a b c d = (determined a c, determined b d)
 
 pub start-same : (s : List ℕ) → Same (startAnswer s) (startAfter s)

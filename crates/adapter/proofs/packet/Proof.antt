@@ -5,7 +5,7 @@ use Prim.Native.Nat.{ℕ, _<_, _^_}
 use Rattle.bare.specs.Bare.{headerRead}
 use Rattle.golay.proofs.Reading.{clean-nearest, lent-none, lent-table}
 use Rattle.image.proofs.Laws.{header-lt}
-use Rattle.adapter.proofs.Arriving.{Sized, image-sized, packet-refused, packet-placed}
+use Rattle.adapter.proofs.Arriving.{Sized, image-sized, image-refused, image-placed}
 use borrow.Author.Needs.{needs}
 use Rattle.adapter.proofs.packet.Statement.{statement}
 use Rattle.adapter.proofs.packet.Tie as tie
@@ -26,7 +26,7 @@ same-length : tie.Need-same-length
 same-length c = search needs
 
 returns : tie.Need-returns
-returns c = packet-refused _ _ _ (c .before .checked .ensures) (c .if1 .taken)
+returns c = image-refused _ _ _ (c .before .checked .ensures) (c .if1 .taken)
 
 checks-requires : tie.Need-checks-requires
 checks-requires c κs = search needs
@@ -60,7 +60,7 @@ same-length-2 c = search needs
 returns-2 : tie.Need-returns-2
 returns-2 c =
     let passed = c .before .before .before .before .before .before .before .before .before .before .before in
-    packet-placed _ _ _ (passed .before .checked .ensures) _ _ (passed .if1 .left) (c .before .before .arrived .ensures)
+    image-placed _ _ _ (passed .before .checked .ensures) _ _ (passed .if1 .left) (c .before .before .arrived .ensures)
 
 patterns-requires : tie.Need-patterns-requires
 patterns-requires c κs = search needs
@@ -91,7 +91,7 @@ same-length-3 c = search needs
 returns-3 : tie.Need-returns-3
 returns-3 c =
     let passed = c .before .before .before .before .before .before .before .before .before .before .before .before .before .before .before in
-    packet-placed _ _ _ (passed .before .checked .ensures) _ _ (passed .if1 .left) (c .before .before .arrived2 .ensures)
+    image-placed _ _ _ (passed .before .checked .ensures) _ _ (passed .if1 .left) (c .before .before .arrived2 .ensures)
 
 pub packet-spec : {M : Type 1} → statement M
 packet-spec =
