@@ -113,9 +113,9 @@ fixed-unread n d =
       protection = ap (λ (f : one.Followed). f .head .protection) (k .seen);
     } in
     let sound : (i : ℕ) → i < 4 → Sound false (writeAfter 17 0 (blank 360) (blank 376)) i (imageAt (writeAfter 17 0 (blank 360) (blank 376)) i) =
-      λ i h. sent-sound 17 0 (blank 360) (blank 376) (lit≤ tt) (lit≤ tt) (lit≤ tt) (blank-length 360) (bytes-zero 360) (blank-length 376) i h in
+    λ i h. sent-sound 17 0 (blank 360) (blank 376) (lit≤ tt) (lit≤ tt) (lit≤ tt) (blank-length 360) (bytes-zero 360) (blank-length 376) i h in
     let back = d .back t 17 0 (blank 360) (blank 376) _ _ _ _ follows (blank-length 360) (bytes-zero 360) (blank-length 376)
-      (sound 0 (lit< tt)) (sound 1 (lit< tt)) (sound 2 (lit< tt)) (sound 3 (lit< tt)) in
+    (sound 0 (lit< tt)) (sound 1 (lit< tt)) (sound 2 (lit< tt)) (sound 3 (lit< tt)) in
     let done : n ≡ 0 = d .writes 17 0 (blank 360) (blank 376) (lit≤ tt) (lit≤ tt) (lit≤ tt) (blank-length 360) (blank-length 376) in
     let started : n ≡ 1 = ap (λ (ns : List ℕ). getD ns 0 0) (back .answers) in
     omega arith

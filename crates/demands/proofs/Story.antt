@@ -131,9 +131,28 @@ away a b c hb h ne =
 
 pub channel-17 : Channel false 17 zeros 0 at-17
 unfolding Channel
-channel-17 =
-    (here 0 (lit< tt), (there 0 (lit< tt), (here 1 (lit< tt), (there 1 (lit< tt), (here 2 (lit< tt), (there 2 (lit< tt), (here 3 (lit< tt),
-    (there 3 (lit< tt), tt))))))))
+channel-17 = (
+  here 0 (lit< tt),
+  (
+    there 0 (lit< tt),
+    (
+      here 1 (lit< tt),
+      (
+        there 1 (lit< tt),
+        (
+          here 2 (lit< tt),
+          (
+            there 2 (lit< tt),
+            (
+              here 3 (lit< tt),
+              (there 3 (lit< tt), tt),
+            ),
+          ),
+        ),
+      ),
+    ),
+  ),
+)
   where
     here : (c : ℕ) → c < 4 → Comes false 17 zeros c 0 c (sent-to 17 c)
     here c h = comes-at 17 (lit≤ tt) c h
@@ -143,9 +162,28 @@ channel-17 =
 
 pub channel-18 : Channel false 18 zeros 0 at-18
 unfolding Channel
-channel-18 =
-    (there 0 (lit< tt), (here 0 (lit< tt), (there 1 (lit< tt), (here 1 (lit< tt), (there 2 (lit< tt), (here 2 (lit< tt), (there 3 (lit< tt),
-    (here 3 (lit< tt), tt))))))))
+channel-18 = (
+  there 0 (lit< tt),
+  (
+    here 0 (lit< tt),
+    (
+      there 1 (lit< tt),
+      (
+        here 1 (lit< tt),
+        (
+          there 2 (lit< tt),
+          (
+            here 2 (lit< tt),
+            (
+              there 3 (lit< tt),
+              (here 3 (lit< tt), tt),
+            ),
+          ),
+        ),
+      ),
+    ),
+  ),
+)
   where
     here : (c : ℕ) → c < 4 → Comes false 18 zeros c 0 c (sent-to 18 c)
     here c h = comes-at 18 (lit≤ tt) c h
