@@ -183,12 +183,16 @@ fn put_four(slot: &mut [u8], at: usize, n: u32)
 }
 
 impl Slot {
-    // Free, every byte 0, or within the bounds. No early end: the bytes are folded together.
+    // Within the bounds, or free, every byte 0. The bytes are folded together, with no early end, and only where the head says
+    // that the slot is not used.
     pub fn good(slot: &[u8]) -> bool
         requires { ⌜ length (now slot) ≡ 736 ⌝ }
         ensures { λ r. ⌜ r ≡ goodSlot (now (slot .entry)) ⌝ }
     {
-        (folded(slot) == 0) | Head::load(slot).good()
+        if Head::load(slot).good() {
+            return true;
+        }
+        folded(slot) == 0
     }
 }
 

@@ -2,7 +2,7 @@
 --
 --   slot-part        a lent part of 736 bytes is a slot
 --   find-down, find-hit, find-pass, find-end     the search from the last slot to the first
---   good-by-address  a good slot is free exactly if its address is 0
+--   good-unused, good-used-at    a good slot is free exactly if its address is 0
 --   all-next, all-end    the fold over the slots
 --   state-*          the rows of the state, before a call's own
 --   outside          a test on both sides of a range
@@ -11,7 +11,7 @@
 --
 -- Assumes nothing.
 use mathlib.Core.Path.{_≡_, refl, sym, ap, ap₂, _∙_, subst}
-use mathlib.Core.Bool.{Bool, true, false, cond, not, _&&_, _||_}
+use mathlib.Core.Bool.{Bool, true, false, cond, not, _&&_, _||_, and-true, and-assoc}
 use mathlib.Core.List.{List, [], _∷_}
 use Prim.Native.Nat.{ℕ, suc, _+_, _-_, _*_, _≤_, _<_}
 use native.Mathlib.Omega.{arith}
@@ -69,7 +69,7 @@ find-end s a k found e f = f ∙ ap (λ (n : ℕ). first (has s a) (slots - n) n
 
 -- ---- good
 
-pub good-by-address : (s : List ℕ) (k : ℕ)
+good-by-address : (s : List ℕ) (k : ℕ)
     → (goodSlot (slotAt k s) && (eqb (addressAt s k) 0 || eqb (find s (addressAt s k)) k)) ≡ goodAt s k
 unfolding goodAt addressAt
 good-by-address s k = go (goodSlot (slotAt k s)) refl
@@ -94,13 +94,19 @@ good-by-address s k = go (goodSlot (slotAt k s)) refl
         ap (λ (x : Bool). x && (eqb (headOf (slotAt k s) .address) 0 || other)) e
         ∙ sym (ap (λ (x : Bool). x && (free (slotAt k s) || other)) e)
 
-and-assoc : (a b c : Bool) → ((a && b) && c) ≡ (a && (b && c))
-and-assoc true b c = refl
-and-assoc false b c = refl
+-- so by its address, as the code tests it
+module _ (s : List ℕ) (k : ℕ) (g : Bool) (a : ℕ) (eg : g ≡ goodSlot (slotAt k s)) (ea : a ≡ addressAt s k) where
+  pub good-unused : a ≡ 0 → g ≡ goodAt s k
+  good-unused z =
+      sym (and-true g) ∙ ap (λ (b : Bool). b && true) eg
+      ∙ ap (λ (b : Bool). goodSlot (slotAt k s) && (b || eqb (find s (addressAt s k)) k)) (sym (eq-eqb (addressAt s k) 0 (sym ea ∙ z)))
+      ∙ good-by-address s k
 
-and-true : (a : Bool) → (a && true) ≡ a
-and-true true = refl
-and-true false = refl
+  pub good-used-at : (f : ℕ) → (a ≡ 0 → ⊥) → f ≡ find s a → (g && eqb f k) ≡ goodAt s k
+  good-used-at f ne ef =
+      ap₂ (λ (b : Bool) (n : ℕ). b && eqb n k) eg (ef ∙ ap (find s) ea)
+      ∙ ap (λ (b : Bool). goodSlot (slotAt k s) && (b || eqb (find s (addressAt s k)) k)) (sym (ne-eqb (addressAt s k) 0 (λ z. ne (ea ∙ z))))
+      ∙ good-by-address s k
 
 pub all-next : (s : List ℕ) (so : Bool) (k : ℕ) → k < slots → (so && all (goodAt s) (slots - k) k) ≡ good s
     → ((so && goodAt s k) && all (goodAt s) (slots - (k + 1)) (k + 1)) ≡ good s

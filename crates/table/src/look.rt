@@ -47,7 +47,10 @@ fn good_at(state: &[u8], k: usize) -> bool
     let at = k * Slot::SIZE;
     let bounds = Slot::good(&state[at..at + Slot::SIZE]);
     let address = head(state, k).address;
-    bounds & ((address == 0) | (find(state, address) == k))
+    if address == 0 {
+        return bounds;
+    }
+    bounds & (find(state, address) == k)
 }
 
 pub fn is_good(state: &[u8]) -> bool

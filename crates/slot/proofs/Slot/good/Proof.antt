@@ -1,14 +1,12 @@
--- `slot::Slot::good` meets its contract: the fold says whether the slot is free, the head's tests whether it is good.
+-- `slot::Slot::good` meets its contract: the head's tests say whether it is good, and if not the fold says whether it is free.
 -- Assumes nothing.
-use mathlib.Core.Path.{ap, ap₂, _∙_}
-use mathlib.Core.Bool.{_||_}
+use mathlib.Core.Path.{sym, ap, _∙_}
+use mathlib.Core.Bool.{Bool, _||_, or-false}
+use Rattle.slot.specs.Head.{goodHead, free, goodSlot}
+use Rattle.slot.proofs.Laws.{good-slot}
 use borrow.Author.Needs.{needs}
-use Rattle.slot.specs.Head.{goodHead, goodSlot}
 use Rattle.slot.proofs.Slot.good.Statement.{statement}
 use Rattle.slot.proofs.Slot.good.Tie as tie
-
-folded-requires : tie.Need-folded-requires
-folded-requires c κs = search needs
 
 load-requires : tie.Need-load-requires
 load-requires c κs = search needs
@@ -17,9 +15,14 @@ good-requires : tie.Need-good-requires
 good-requires c κs = search needs
 
 returns : tie.Need-returns
+returns c = sym (good-slot (c .before .before .before .before .args .slot .now) (sym (c .before .good2 .ensures ∙ ap goodHead (c .before .before .load .ensures)) ∙ c .if1 .taken))
+
+folded-requires : tie.Need-folded-requires
+folded-requires c κs = search needs
+
+returns-2 : tie.Need-returns-2
 unfolding goodSlot
-returns c =
-    ap₂ _||_ (c .before .before .folded .ensures) (c .good2 .ensures ∙ ap goodHead (c .before .load .ensures))
+returns-2 c = c .folded .ensures ∙ sym (or-false (free (c .before .before .before .before .before .args .slot .now))) ∙ ap (λ (b : Bool). free (c .before .before .before .before .before .args .slot .now) || b) (sym (c .before .if1 .left) ∙ c .before .before .good2 .ensures ∙ ap goodHead (c .before .before .before .load .ensures))
 
 pub good-spec : {M : Type 1} → statement M
-good-spec = tie.close (tie.spec folded-requires load-requires good-requires returns)
+good-spec = tie.close (tie.spec load-requires good-requires returns folded-requires returns-2)

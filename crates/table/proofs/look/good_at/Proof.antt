@@ -1,13 +1,10 @@
 -- `table::look::good_at` meets its contract: a good slot is free exactly if its address is 0.
 -- Assumes nothing.
-use mathlib.Core.Path.{_≡_, ap, ap₂, _∙_}
-use mathlib.Core.Bool.{Bool, _&&_, _||_}
-use Prim.Native.Nat.{ℕ}
-use lib.Dec.{eqb}
+use mathlib.Core.Path.{ap, _∙_}
 use Rattle.slot.specs.Head.{goodSlot}
 use Rattle.slot.specs.declared.Head.{Head}
-use Rattle.table.specs.State.{slotAt, addressAt, find}
-use Rattle.table.proofs.Looking.{slot-part, good-by-address}
+use Rattle.table.specs.State.{addressAt}
+use Rattle.table.proofs.Looking.{slot-part, good-unused, good-used-at}
 use borrow.Author.Needs.{needs}
 use Rattle.table.proofs.look.good_at.Statement.{statement}
 use Rattle.table.proofs.look.good_at.Tie as tie
@@ -33,18 +30,16 @@ good-requires c κs = search needs
 head-requires : tie.Need-head-requires
 head-requires c κs = search needs
 
+returns : tie.Need-returns
+unfolding addressAt
+returns c = good-unused (c .before .before .before .before .before .args .state .now) (c .before .before .before .before .before .args .k) _ (c .before .head .result .address) (c .before .before .good2 .ensures ∙ ap goodSlot (slot-part (c .before .before .before .before .before .args .k) (c .before .before .before .before .before .args .state .now))) (ap (λ (h : Head). h .address) (c .before .head .ensures)) (c .if1 .taken)
+
 find-requires : tie.Need-find-requires
 find-requires c κs = search needs
 
-returns : tie.Need-returns
+returns-2 : tie.Need-returns-2
 unfolding addressAt
-returns c = let s = c .before .before .before .before .before .args .state .now in
-    let k = c .before .before .before .before .before .args .k in
-    let a : c .before .head .result .address ≡ addressAt s k = ap (λ (h : Head). h .address) (c .before .head .ensures) in
-    let f : c .find .result ≡ find s (addressAt s k) = c .find .ensures ∙ ap (find s) a in
-    ap₂ (λ (g : Bool) (x : ℕ). g && (eqb x 0 || eqb (c .find .result) k)) (c .before .before .good2 .ensures ∙ ap goodSlot (slot-part k s)) a
-    ∙ ap (λ (x : ℕ). goodSlot (slotAt k s) && (eqb (addressAt s k) 0 || eqb x k)) f
-    ∙ good-by-address s k
+returns-2 c = good-used-at (c .before .before .before .before .before .before .args .state .now) (c .before .before .before .before .before .before .args .k) _ (c .before .before .head .result .address) (c .before .before .before .good2 .ensures ∙ ap goodSlot (slot-part (c .before .before .before .before .before .before .args .k) (c .before .before .before .before .before .before .args .state .now))) (ap (λ (h : Head). h .address) (c .before .before .head .ensures)) (c .find .result) (c .before .if1 .left) (c .find .ensures)
 
 pub good-at-spec : {M : Type 1} → statement M
 good-at-spec =
@@ -57,5 +52,6 @@ good-at-spec =
     part-good-end
     good-requires
     head-requires
+    returns
     find-requires
-    returns)
+    returns-2)
