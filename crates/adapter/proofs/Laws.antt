@@ -7,8 +7,8 @@
 --   packet-refused, packet-placed    the call's answer with the state after it, by these rows
 --
 -- Assumes nothing.
-use mathlib.Core.Path.{_≡_, refl, sym, ap, ap₂, _∙_}
-use mathlib.Core.Bool.{Bool, true, false, not, _&&_}
+use mathlib.Core.Path.{_≡_, ap, ap₂, _∙_}
+use mathlib.Core.Bool.{true, false, not, _&&_}
 use mathlib.Core.List.{List, [], _∷_}
 use Prim.Native.Nat.{ℕ, _<_}
 use native.Mathlib.Omega.{arith}
@@ -19,7 +19,7 @@ use Rattle.bits.specs.Rows.{row, refusal}
 use Rattle.bits.proofs.Rows.{refusal-hit, refusal-miss, refusal-passed, refusal-none, further-refused, further-passed, done-refused, done-passed}
 use Rattle.bits.proofs.Search.{and-left, and-right}
 use Rattle.image.specs.Image.{spareOf}
-use Rattle.table.specs.State.{stateSize, slots, find, good}
+use Rattle.table.specs.State.{slots, find, good}
 use Rattle.table.proofs.Looking.{Passed, past-state, state-rest}
 use Rattle.adapter.specs.Calls.{addressOf, followed, placeRow, unplaced, slotAnswer, slotAfter, packetAnswer, packetAfter}
 

@@ -10,7 +10,7 @@
 --   groupSize p              the message of a group: 360 bytes plain, 180 protected
 --   groupImages p a m        its four images, indices 0 to 3
 --   writeAnswer, writeAfter  22, 23, 20
-use mathlib.Core.Bool.{Bool, true, false, not, _&&_}
+use mathlib.Core.Bool.{Bool, not, _&&_}
 use mathlib.Core.List.{List, [], _∷_, _++_}
 use Prim.Native.Nat.{ℕ, _*_}
 use lib.Dec.{ltb, eqb}

@@ -10,18 +10,15 @@
 --   ask-here, shown-here   ask says what the view's head says, and shows its group
 --
 -- Assumes nothing.
-use mathlib.Core.Path.{_≡_, refl, sym, ap, ap₂, _∙_, subst}
+use mathlib.Core.Path.{_≡_, refl, sym, ap, _∙_, subst}
 use mathlib.Core.Bool.{Bool, true, false, cond, not, _&&_}
 use mathlib.Core.List.{List, [], _∷_}
 use mathlib.Core.Logic.{_⊎_, inl, inr}
-use Prim.Native.Nat.{ℕ, zero, suc, _<_, _≤_}
+use Prim.Native.Nat.{ℕ, zero, suc}
 use native.Mathlib.Omega.{arith}
-use native.Mathlib.Decide.{ℕ-discrete}
-use borrow.Author.Tests.{eq-eqb, ne-eqb, eqb-true, not-false}
 use lib.Dec.{eqb}
 use lib.ListN.{length, take}
 use lib.Seq.{length-take-le}
-use Rattle.bits.specs.Bits.{blank}
 use Rattle.bits.specs.Rows.{further, done}
 use Rattle.bits.proofs.Rows.{further-refused, further-passed, done-refused, done-passed}
 use Rattle.image.specs.Image.{spareOf}
@@ -31,13 +28,13 @@ use Rattle.packet.specs.declared.Reading.{Reading}
 use Rattle.packet.proofs.Answers.{received-length, received-either}
 use Rattle.slot.specs.Slot.{headOf}
 use Rattle.slot.specs.Head.{droppedHead, goodHead, goodSlot}
-use Rattle.slot.specs.Move.{Move, started, held, whole, outOfStep, moveOf, moveNumber, movedHead}
+use Rattle.slot.specs.Move.{Move, started, held, whole, outOfStep, moveOf, movedHead}
 use Rattle.slot.specs.declared.Head.{Head}
 use Rattle.slot.proofs.Laws.{good-slot, good-dropped}
 use Rattle.group.specs.Group.{blockOf, slotMoved, slotDropped, takenNumber, takenAfter}
 use Rattle.group.proofs.Doing.{block-le}
 use Rattle.group.proofs.Laws.{Fits, moveOf-wants, moved-size, moved-good, moved-head, dropped-size, dropped-head}
-use Rattle.history.specs.Followed.{Followed, Reason, typeUnreadable, typeReserved, typeScrambled, wordUnreadable, number, Event, ended, after, answer}
+use Rattle.history.specs.Followed.{Reason, typeUnreadable, typeReserved, typeScrambled, wordUnreadable, number, Event, ended, after, answer}
 use Rattle.history.specs.Followed as one
 use Rattle.adapter.specs.Calls.{addressOf, readingAt}
 use Rattle.table.specs.State.{slotAt, find}

@@ -6,41 +6,39 @@
 --   follow-serves    an accepted follow gives a new one
 --
 -- Assumes nothing.
-use mathlib.Core.Path.{_≡_, refl, sym, ap, ap₂, _∙_, subst}
+use mathlib.Core.Path.{_≡_, refl, sym, ap, _∙_, subst}
 use mathlib.Core.Bool.{Bool, true, false, cond, not, _&&_}
 use mathlib.Core.List.{List, [], _∷_}
-use mathlib.Core.Logic.{_⊎_, inl, inr}
-use Prim.Native.Nat.{ℕ, _*_, _+_, _≤_, _<_}
+use Prim.Native.Nat.{ℕ, _≤_, _<_}
 use native.Mathlib.Omega.{arith}
 use native.Mathlib.Decide.{ℕ-discrete}
-use borrow.Author.Tests.{eq-eqb, ne-eqb, eqb-true, not-false, le-leb, lt-ltb, leb-true}
-use lib.Dec.{T, leb, ltb, eqb}
+use borrow.Author.Tests.{eq-eqb, ne-eqb, eqb-true, le-leb, leb-true}
+use lib.Dec.{T, leb, eqb}
 use lib.ListN.{length}
 use Rattle.bits.specs.Bits.{blank}
 use Rattle.bits.specs.Rows.{done}
-use Rattle.bits.proofs.Rows.{refusal-miss, refusal-none, done-passed}
+use Rattle.bits.proofs.Rows.{refusal-none, done-passed}
 use Rattle.bits.proofs.Storing.{blank-length}
 use Rattle.bits.proofs.Search.{and-left, and-right}
 use Rattle.image.specs.Image.{spareOf}
 use Rattle.slot.specs.Part.{part}
-use Rattle.slot.specs.Slot.{headOf, withHead, stored}
-use Rattle.slot.specs.Head.{newHead, within, shown}
+use Rattle.slot.specs.Slot.{headOf, withHead}
+use Rattle.slot.specs.Head.{newHead}
 use Rattle.slot.specs.declared.Head.{Head}
-use Rattle.slot.proofs.Laws.{good-new, good-load, good-store, withHead-length, head-blank, part-part}
+use Rattle.slot.proofs.Laws.{good-new, good-load, withHead-length, head-blank}
 use Rattle.table.specs.State.{stateSize, slots, slotAt, withSlot, addressAt, find, good}
-use Rattle.table.specs.Calls.{followAnswer, followAfter, leaveAnswer, leaveAfter, endAnswer, endAfter, ages, groupLength, askedAt, askedBy, asked, askPart}
-use Rattle.table.specs.declared.Asked.{Asked}
-use Rattle.table.proofs.Looking.{Passed, state-rest, asked-none, asked-group}
+use Rattle.table.specs.Calls.{followAnswer, followAfter, leaveAnswer, leaveAfter, endAnswer, endAfter, ages}
+use Rattle.table.proofs.Looking.{Passed, state-rest}
 use Rattle.table.proofs.States.{each-good, good-each, find-has, find-only, find-none, slot-length, with-length, slot-same, address-is, address-same, address-other}
 use Rattle.table.proofs.Kept.{Followed, follow-passed, leave-passed, done-either, follow-good, leave-good, aged-slot, ages-good}
 use Rattle.group.specs.Group.{takenNumber, takenAfter}
 use Rattle.history.specs.Followed as one
 use Rattle.adapter.specs.Calls.{addressOf, followed, unplaced, readingAt, slotAnswer, slotAfter, packetAnswer, packetAfter}
 use Rattle.adapter.proofs.Laws.{both-followed, followed-both, Placed, placed, placed-zero, packet-refused, packet-placed}
-use Rattle.demands.specs.Machine.{Call, start, follow, leave, packet, subframeEnd, ask, ourAfter, ourAnswer}
+use Rattle.demands.specs.Machine.{Call, start, follow, leave, packet, subframeEnd, ask, ourAfter}
 use Rattle.demands.specs.Demand3.{Stays}
-use Rattle.demands.proofs.View.{lastIn, viewOf, view-aged, view-new}
-use Rattle.demands.proofs.Serving.{Serves, view, Kept, kept-by, here-size, here-address, here-good, here-bounds, change-here, change-apart, change-none, older, ages-at, ages-long}
+use Rattle.demands.proofs.View.{viewOf, view-aged, view-new}
+use Rattle.demands.proofs.Serving.{Serves, view, Kept, kept-by, here-size, here-address, here-good, change-here, change-apart, change-none, older, ages-at, ages-long}
 use Rattle.demands.proofs.Acting.{eventOf, Does, taken-does, arrivesAt, eventsAt, protectedAt}
 
 -- ---- images that arrive at an address

@@ -8,39 +8,29 @@
 --
 -- Assumes nothing.
 use mathlib.Core.Path.{_≡_, refl, sym, ap, ap₂, _∙_, subst}
-use mathlib.Core.Bool.{Bool, true, false, cond, not, _&&_}
+use mathlib.Core.Bool.{Bool, true, false, cond, not}
 use mathlib.Core.List.{List, [], _∷_, _++_}
 use mathlib.Core.Logic.{_⊎_, inl, inr}
 use Prim.Native.Nat.{ℕ, zero, suc, _+_, _*_, _≤_, _<_}
 use native.Mathlib.Omega.{arith}
-use native.Mathlib.Decide.{ℕ-discrete}
-use borrow.Author.Tests.{eq-eqb, ne-eqb, eqb-true, leb-true}
-use lib.Dec.{T, leb, eqb}
+use borrow.Author.Tests.{eq-eqb, ne-eqb}
+use lib.Dec.{T, eqb}
 use lib.ListN.{length, take}
 use lib.Seq.{take-at}
-use Rattle.bits.specs.Bits.{flips, blank}
-use Rattle.bits.proofs.Search.{and-left, and-right}
+use Rattle.bits.specs.Bits.{flips}
 use Rattle.image.specs.Image.{headerOf, spareOf}
 use Rattle.packet.specs.Received.{received, partAs, filled}
 use Rattle.packet.specs.Damage.{dataSize, sentImage, Came, Refused}
 use Rattle.packet.specs.declared.Reading.{Reading}
 use Rattle.packet.proofs.Damages.{header-came, received-came}
-use Rattle.slot.specs.Slot.{headOf}
-use Rattle.slot.specs.Head.{within}
-use Rattle.table.specs.Calls.{followAnswer, followAfter}
-use Rattle.table.proofs.Kept.{Followed, follow-passed}
 use Rattle.history.specs.Followed as one
-use Rattle.history.specs.Transcript.{called, told}
 use Rattle.history.specs.Sent as sent
-use Rattle.history.proofs.Exactness.{exactly}
-use Rattle.history.proofs.Freshness.{freshness}
 use Rattle.adapter.specs.Calls.{addressOf}
-use Rattle.demands.specs.Machine.{Call, start, follow, leave, packet, subframeEnd, ask, Bytes, ours, ourAnswer, ourAfter, run}
-use Rattle.demands.specs.Demand3.{Stays, AllStay, Carries, Lost, Happening, arrives, call, callOf, calls, Apart, Comes, Channel, ReadableIn, Arrived, handedOut, tells, concerns, only, answersAt, Demand3}
-use Rattle.demands.proofs.Serving.{Serves, view, Kept}
-use Rattle.demands.proofs.Acting.{reasonOf, eventBy, eventOf, event-read, event-refused, refused-not-zero, arrivesAt, eventsAt}
+use Rattle.demands.specs.Machine.{Call, start, follow, leave, packet, subframeEnd, ask, Bytes}
+use Rattle.demands.specs.Demand3.{Stays, AllStay, Carries, Lost, Happening, arrives, call, callOf, calls, Apart, Channel, ReadableIn}
+use Rattle.demands.proofs.Acting.{reasonOf, eventOf, event-read, event-refused, refused-not-zero, arrivesAt, eventsAt}
 use Rattle.demands.proofs.Calling.{Arrives, is-arrives, arrives-is}
-use Rattle.demands.proofs.Telling.{by, eventsOf, run-acts, tells-told, handed-same}
+use Rattle.demands.proofs.Telling.{by, eventsOf}
 
 -- ---- one image that came of a sent packet
 

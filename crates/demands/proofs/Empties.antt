@@ -8,9 +8,8 @@
 --
 -- Assumes nothing.
 use mathlib.Core.Path.{_≡_, refl, sym, ap, ap₂, _∙_, subst}
-use mathlib.Core.Bool.{Bool, true, false, cond, not, _&&_, _||_}
+use mathlib.Core.Bool.{Bool, true, false, cond, not, _&&_}
 use mathlib.Core.List.{List, [], _∷_, _++_}
-use mathlib.Core.Logic.{_⊎_, inl, inr}
 use Prim.Native.Nat.{ℕ, zero, suc, _<_}
 use native.Mathlib.Omega.{arith}
 use native.Mathlib.Decide.{ℕ-discrete}
@@ -29,20 +28,20 @@ use Rattle.table.proofs.States.{each-good}
 use Rattle.table.proofs.Doing.{asked-refused}
 use Rattle.history.specs.Followed as one
 use Rattle.history.specs.Sent.{group, groups, In, Exactly}
-use Rattle.history.specs.Transcript.{Entry, answered, subframe, isWhole, anyWhole, sinceWhole, ends, marked, called}
+use Rattle.history.specs.Transcript.{Entry, subframe, isWhole, anyWhole, sinceWhole, ends, marked, called}
 use Rattle.adapter.specs.Calls.{addressOf, packetAnswer, packetAfter, writeAfter}
 use Rattle.adapter.proofs.Laws.{both-followed}
-use Rattle.demands.specs.Machine.{Call, follow, packet, subframeEnd, ask, Machine, ours, ourAnswer, ourAfter, run}
+use Rattle.demands.specs.Machine.{Call, follow, packet, subframeEnd, ask, Machine, ours, ourAnswer, run}
 use Rattle.demands.specs.Demand2.{Follows, imageAt, Sound, answersTo, packets, Demand2}
 use Rattle.demands.specs.Demand3.{AllStay, Stays, Arrived, calls, callOf, handsOut, handedOut, noted, tells, Demand3}
 use Rattle.demands.specs.Empty.{fixed, answerTo, leaving, deaf, untouching, nods, leaves, indexIn, nodding, still, aging}
-use Rattle.demands.proofs.Serving.{Serves, view, Kept}
+use Rattle.demands.proofs.Serving.{view}
 use Rattle.demands.proofs.View.{viewOf}
 use Rattle.demands.proofs.Calling.{follow-serves}
 use Rattle.demands.proofs.Second.{sent-sound}
 use Rattle.demands.proofs.Parts.{shown-here}
 use Rattle.demands.proofs.Examples.{bytes-zero, empty-state, empty-passed, empty-absent, accepted, zeros, zeros-carried, clean, whole-group, whole-channel, whole-arrived, clean-arrives, clean-index, end-step}
-use Rattle.demands.proofs.Turns.{begun-at, first-step, four, told-four, asks, tells-four}
+use Rattle.demands.proofs.Turns.{begun-at, first-step, four, asks, tells-four}
 
 -- ---- what any machine that meets the demand hands out of the group of zeros
 

@@ -13,11 +13,10 @@
 use mathlib.Core.Path.{_≡_, refl, sym, ap, ap₂, _∙_}
 use mathlib.Core.Bool.{Bool, false, cond, _||_}
 use mathlib.Core.List.{List, [], _∷_}
-use mathlib.Core.Logic.{_⊎_, inl, inr}
-use Prim.Native.Nat.{ℕ, zero, suc, _+_, _*_, _≤_, _<_}
+use mathlib.Core.Logic.{inl, inr}
+use Prim.Native.Nat.{ℕ, zero, suc, _≤_, _<_}
 use native.Mathlib.Omega.{arith}
 use native.Mathlib.Decide.{decLt}
-use borrow.Author.Tests.{le-leb}
 use lib.Dec.{ltb, eqb, lit≤, lit<}
 use lib.ListN.{length}
 use Rattle.bits.specs.Bits.{blank}
@@ -31,7 +30,7 @@ use Rattle.packet.proofs.Damages.{sent-corrected, corrected-came, sent-spare, r
 use Rattle.slot.specs.Slot.{headOf}
 use Rattle.slot.specs.declared.Head.{Head}
 use Rattle.slot.proofs.Laws.{blank-at, head-blank}
-use Rattle.table.specs.State.{stateSize, slots, slotAt, addressAt, find}
+use Rattle.table.specs.State.{stateSize, slots, addressAt, find}
 use Rattle.table.specs.Calls.{followAnswer, endAfter}
 use Rattle.table.proofs.Looking.{Passed, follow-0}
 use Rattle.table.proofs.States.{address-is, each-good, find-has, find-none}

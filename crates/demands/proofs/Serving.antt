@@ -9,7 +9,7 @@
 --
 -- Assumes nothing.
 use mathlib.Core.Path.{_≡_, refl, sym, ap, _∙_, subst}
-use mathlib.Core.Bool.{Bool, true}
+use mathlib.Core.Bool.{true}
 use mathlib.Core.List.{List}
 use mathlib.Core.Logic.{_⊎_, inl, inr}
 use Prim.Native.Nat.{ℕ, zero, suc, _+_, _≤_, _<_}
@@ -18,14 +18,13 @@ use native.Mathlib.Decide.{ℕ-discrete}
 use lib.Dec.{eqb}
 use lib.ListN.{length}
 use Rattle.bits.specs.Bits.{blank}
-use Rattle.slot.specs.Slot.{slotSize, headOf, withHead}
-use Rattle.slot.specs.Head.{agedHead, freeHead, goodHead, goodSlot}
+use Rattle.slot.specs.Slot.{headOf, withHead}
+use Rattle.slot.specs.Head.{agedHead, goodHead, goodSlot}
 use Rattle.slot.specs.declared.Head.{Head}
 use Rattle.slot.proofs.Laws.{Bounds, good-bounds, good-cases, head-blank, withHead-length}
 use Rattle.table.specs.State.{stateSize, slots, slotAt, withSlot, addressAt, find}
 use Rattle.table.specs.Calls.{ages}
 use Rattle.table.proofs.States.{Good, slot-length, with-length, slot-same, slot-other, address-same, address-other, address-is, find-has, find-agree, good-change}
-use Rattle.table.proofs.Kept.{aged-slot}
 use Rattle.history.specs.Followed.{Followed}
 use Rattle.demands.proofs.View.{viewOf}
 

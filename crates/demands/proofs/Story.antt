@@ -9,8 +9,7 @@
 use mathlib.Core.Path.{_≡_, refl, sym, ap, ap₂, _∙_}
 use mathlib.Core.Bool.{Bool, false, cond}
 use mathlib.Core.List.{List, [], _∷_, _++_, append-assoc}
-use mathlib.Core.Logic.{_⊎_, inl, inr}
-use Prim.Native.Nat.{ℕ, zero, suc, _≤_, _<_}
+use Prim.Native.Nat.{ℕ, zero, _≤_, _<_}
 use native.Mathlib.Omega.{arith}
 use native.Mathlib.Decide.{decLt, ℕ-discrete}
 use borrow.Author.Tests.{eq-eqb, ne-eqb}
@@ -20,13 +19,13 @@ use Rattle.bits.specs.Bits.{blank}
 use Rattle.bits.proofs.Rows.{done-passed}
 use Rattle.bits.proofs.Storing.{blank-length}
 use Rattle.slot.specs.Head.{shown}
-use Rattle.slot.specs.Move.{moveOf, moveNumber, movedHead}
+use Rattle.slot.specs.Move.{moveOf, movedHead}
 use Rattle.slot.specs.Slot.{withHead}
 use Rattle.slot.specs.Head.{newHead}
 use Rattle.slot.specs.declared.Head.{Head}
 use Rattle.slot.proofs.Laws.{good-new, good-load, withHead-length}
 use Rattle.table.specs.State.{slots, slotAt, withSlot, addressAt, find}
-use Rattle.table.specs.Calls.{followAnswer, followAfter, endAfter, asked, askPart, boardText}
+use Rattle.table.specs.Calls.{followAnswer, followAfter, asked, askPart, boardText}
 use Rattle.table.proofs.Looking.{follow-0}
 use Rattle.table.proofs.States.{slot-length, address-same, address-other, find-has, find-none}
 use Rattle.table.proofs.Kept.{follow-passed}

@@ -14,16 +14,14 @@ use mathlib.Core.List.{List, [], _∷_, _++_}
 use Prim.Native.Nat.{ℕ, zero, suc, _<_}
 use native.Mathlib.Omega.{arith}
 use native.Mathlib.Decide.{ℕ-discrete}
-use borrow.Author.Tests.{eq-eqb, ne-eqb, eqb-true}
+use borrow.Author.Tests.{eq-eqb, ne-eqb}
 use lib.Dec.{T, eqb}
 use lib.ListN.{length, take}
 use Rattle.image.specs.Image.{spareOf}
 use Rattle.packet.specs.Received.{received}
 use Rattle.packet.specs.Damage.{dataSize}
-use Rattle.slot.specs.Slot.{headOf}
 use Rattle.slot.specs.Move.{Move, started, held, whole, outOfStep, moveOf, moveNumber, movedHead}
 use Rattle.slot.specs.declared.Head.{Head}
-use Rattle.table.specs.State.{slotAt, find}
 use Rattle.table.specs.Calls.{askPart}
 use Rattle.history.specs.Followed as one
 use Rattle.history.specs.Transcript.{Entry, answered, subframe, entry, told}
@@ -34,7 +32,7 @@ use Rattle.demands.specs.Machine.{Call, start, follow, leave, packet, su
 use Rattle.demands.specs.Demand3.{Stays, AllStay, handsOut, handedOut, noted, tells}
 use Rattle.demands.proofs.View.{viewOf}
 use Rattle.demands.proofs.Serving.{Serves, view, Kept}
-use Rattle.demands.proofs.Acting.{eventOf, eventBy, reasonOf, arrivesAt, eventsAt, protectedAt}
+use Rattle.demands.proofs.Acting.{eventOf, eventBy, arrivesAt, eventsAt, protectedAt}
 use Rattle.demands.proofs.Calling.{Arrives, arrives-is, is-arrives, passed, answer-here, acts}
 use Rattle.demands.proofs.Parts.{shown-here}
 

@@ -15,7 +15,7 @@ use Rattle.bits.specs.Rows.{row, refusal}
 use Rattle.bits.proofs.Search.{and-left, and-right}
 use Rattle.slot.specs.Head.{within, shown}
 use Rattle.table.specs.State.{slots, find}
-use Rattle.table.specs.Calls.{followAnswer, endAnswer, asked, askPart}
+use Rattle.table.specs.Calls.{followAnswer, asked, askPart}
 use Rattle.table.proofs.Looking.{state-rest}
 use Rattle.table.proofs.States.{each-good}
 use Rattle.table.proofs.Kept.{follow-passed}

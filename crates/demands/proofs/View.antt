@@ -8,14 +8,11 @@
 -- Assumes nothing.
 use mathlib.Core.Path.{_≡_, refl, sym, ap, ap₂, _∙_}
 use mathlib.Core.Bool.{Bool, true, false, cond}
-use mathlib.Core.List.{List, [], _∷_, _++_}
+use mathlib.Core.List.{List, [], _++_}
 use Prim.Native.Nat.{ℕ, _+_, _*_}
-use native.Mathlib.Omega.{arith}
 use native.Mathlib.Nat.{zero-mul, one-mul, add-mul}
 use lib.Dec.{eqb}
 use lib.ListN.{length}
-use Rattle.bits.specs.Bits.{blank}
-use Rattle.bits.proofs.Storing.{blank-length}
 use Rattle.slot.specs.Part.{part}
 use Rattle.slot.specs.Slot.{headOf, withHead, unfinished, stored}
 use Rattle.slot.specs.Head.{newHead, droppedHead, agedHead, goodHead}

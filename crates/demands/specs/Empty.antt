@@ -12,7 +12,7 @@ use Rattle.bare.specs.Bare.{headerRead}
 use Rattle.image.specs.Image.{headerOf}
 use Rattle.table.specs.Calls.{startAfter, followAfter, leaveAfter, endAfter}
 use Rattle.adapter.specs.Calls.{packetAnswer, packetAfter}
-use Rattle.demands.specs.Machine.{Call, start, follow, leave, packet, subframeEnd, ask, Machine, ours, ourAnswer, ourAfter}
+use Rattle.demands.specs.Machine.{Call, start, follow, leave, packet, subframeEnd, ask, Machine, ours, ourAnswer}
 
 -- ours, but for what is answered and left
 abbrev pub but : (Call → List ℕ → ℕ) → (Call → List ℕ → List ℕ) → Machine

@@ -7,7 +7,6 @@ use lib.Dec.{ltb}
 use Rattle.bits.proofs.Rows.{further-passed}
 use Rattle.bare.specs.Edges as below
 use Rattle.bare.proofs.Edges as proved
-use Rattle.packet.specs.declared.Reading.{Reading}
 use Rattle.slot.specs.Move.{moveOf, moveNumber, movedHead}
 use Rattle.slot.specs.declared.Head.{Head}
 use Rattle.group.specs.Group.{takenNumber}

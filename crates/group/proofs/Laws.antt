@@ -8,15 +8,14 @@
 --   dropped-*              the same of a drop
 --
 -- Assumes nothing.
-use mathlib.Core.Path.{_≡_, refl, sym, ap, ap₂, _∙_}
+use mathlib.Core.Path.{_≡_, refl, ap, ap₂, _∙_}
 use mathlib.Core.Bool.{Bool, true, false, cond, _&&_}
-use mathlib.Core.List.{List, [], _∷_, _++_}
+use mathlib.Core.List.{List, [], _++_}
 use Prim.Native.Nat.{ℕ, _+_, _-_, _*_, _≤_, _<_}
 use native.Mathlib.Omega.{arith}
 use native.Mathlib.Nat.{mul-le-mul-right, zero-mul, zero-add}
-use native.Mathlib.Decide.{ℕ-discrete}
 use lib.Dec.{eqb, ltb}
-use lib.ListN.{length, take, length-append}
+use lib.ListN.{length, length-append}
 use Rattle.bits.specs.Bits.{blank}
 use Rattle.bits.proofs.Storing.{blank-length}
 use Rattle.slot.specs.Part.{part, put}
@@ -24,8 +23,8 @@ use Rattle.slot.specs.Slot.{headOf, withHead, unfinished, stored, withUnfinishe
 use Rattle.slot.specs.Head.{droppedHead, goodHead}
 use Rattle.slot.specs.Move.{Move, started, held, whole, outOfStep, moveOf, movedHead}
 use Rattle.slot.specs.declared.Head.{Head}
-use Rattle.slot.proofs.Laws.{part-length, part-cat, part-front, part-part, part-put, part-put-before, put-length, unfinished-room, unfinished-put, unfinished-stored, unfinished-length, stored-put, stored-unfinished, stored-length, store-unfinished, store-stored, withHead-length, good-load, good-bounds, good-started, good-held, good-whole, good-dropped}
-use Rattle.slot.proofs.Moves.{move-started, move-held, move-whole, move-out, held-test, whole-test}
+use Rattle.slot.proofs.Laws.{part-length, part-cat, part-front, part-part, part-put, part-put-before, unfinished-room, unfinished-put, unfinished-stored, unfinished-length, stored-put, stored-length, store-unfinished, store-stored, withHead-length, good-load, good-started, good-held, good-whole, good-dropped}
+use Rattle.slot.proofs.Moves.{held-test, whole-test}
 use Rattle.group.specs.Group.{blockOf, placed, roomsMoved, slotMoved, slotDropped}
 use Rattle.group.proofs.Doing.{placed-length, block-le}
 

@@ -6,7 +6,7 @@
 --   after, answer         what an event changes, and its answer
 --   followed a p l        as follow leaves it
 --   run, handedOut        a list of events in order: what is left, and what was handed out on the way
-use mathlib.Core.Bool.{Bool, cond}
+use mathlib.Core.Bool.{cond}
 use mathlib.Core.List.{List, [], _∷_, _++_}
 use Prim.Native.Nat.{ℕ}
 use lib.Dec.{eqb}

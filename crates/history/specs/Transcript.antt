@@ -7,9 +7,9 @@
 --   ends t           how many subframes ended in them
 --   marked t         a gap was marked in them: an answer 28 to 32, or a 1 directly after a 1 or 2
 --   called limit t   4 where there is no 3; otherwise 7, 6 or 5 by the entries since the last one
-use mathlib.Core.Bool.{Bool, true, false, cond, not, _&&_, _||_}
+use mathlib.Core.Bool.{Bool, false, cond, not, _&&_, _||_}
 use mathlib.Core.List.{List, [], _∷_}
-use Prim.Native.Nat.{ℕ, zero, suc}
+use Prim.Native.Nat.{ℕ, suc}
 use lib.Dec.{leb, eqb}
 use Rattle.history.specs.Followed.{Followed, Event, packet, refused, ended, after, answer}
 

@@ -1,9 +1,7 @@
-use native.Mathlib.Omega.{arith}
+-- `group::block` meets its contract. Assumes nothing.
 use Rattle.group.proofs.Doing.{block-45, block-90}
 use Rattle.group.proofs.block.Statement.{statement}
 use Rattle.group.proofs.block.Tie as tie
-use Rattle.group.proofs.block.Reads as reads
-use Rattle.group.proofs.block.Lts as lts
 
 returns : tie.Need-returns
 returns c = block-45 (c .before .before .args .head) (c .if1 .taken)

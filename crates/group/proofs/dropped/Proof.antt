@@ -1,14 +1,10 @@
+-- `group::dropped` meets its contract: the unfinished room cleared, then the head. Assumes nothing.
 use mathlib.Core.List.{[]}
 use native.Mathlib.Omega.{arith}
 use Rattle.group.proofs.Doing.{drop-does}
 use borrow.Author.Needs.{needs}
 use Rattle.group.proofs.dropped.Statement.{statement}
 use Rattle.group.proofs.dropped.Tie as tie
-use Rattle.group.proofs.dropped.Reads as reads
-use Rattle.group.proofs.dropped.Lts as lts
-use Rattle.slot.proofs.Head.dropped.Reads as dropped-reads
-use Rattle.slot.proofs.Head.store.Reads as store-reads
-use Rattle.slot.proofs.room.empty.Reads as empty-reads
 
 empty-requires : tie.Need-empty-requires
 empty-requires c κs = search needs

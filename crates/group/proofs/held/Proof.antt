@@ -1,17 +1,11 @@
-use Prim.Native.Nat.{ℕ, _*_}
+-- `group::held` meets its contract: the packet's bytes at its place, then the head. Assumes nothing.
 use lib.ListN.{length}
 use native.Mathlib.Nat.{mul-le-mul-right, le-of-lt}
-use mathlib.Core.Path.{ap}
 use native.Mathlib.Omega.{arith}
 use Rattle.group.proofs.Doing.{held-does}
 use borrow.Author.Needs.{needs}
 use Rattle.group.proofs.held.Statement.{statement}
 use Rattle.group.proofs.held.Tie as tie
-use Rattle.group.proofs.held.Reads as reads
-use Rattle.group.proofs.held.Lts as lts
-use Rattle.slot.proofs.Head.held.Reads as held-reads
-use Rattle.slot.proofs.Head.store.Reads as store-reads
-use Rattle.slot.proofs.room.copy.Reads as copy-reads
 
 cast-copy : tie.Need-cast-copy
 cast-copy c = search needs

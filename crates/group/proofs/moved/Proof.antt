@@ -1,3 +1,4 @@
+-- `group::moved` meets its contract: the row of section 4's table, by its tests in the paper's order. Assumes nothing.
 use mathlib.Core.Path.{refl, sym, _∙_}
 use native.Mathlib.Omega.{arith}
 use Rattle.slot.specs.Move.{started, held, whole, outOfStep}
@@ -6,12 +7,6 @@ use Rattle.group.proofs.Doing.{row-does, numbers, out-drops}
 use borrow.Author.Needs.{needs}
 use Rattle.group.proofs.moved.Statement.{statement}
 use Rattle.group.proofs.moved.Tie as tie
-use Rattle.group.proofs.moved.Reads as reads
-use Rattle.group.proofs.moved.Lts as lts
-use Rattle.group.proofs.dropped.Reads as dropped-reads
-use Rattle.group.proofs.held.Reads as held-reads
-use Rattle.group.proofs.started.Reads as started-reads
-use Rattle.group.proofs.whole.Reads as whole-reads
 
 started-requires : tie.Need-started-requires
 started-requires c κs = search needs

@@ -1,14 +1,8 @@
-use native.Mathlib.Omega.{arith}
+-- `group::started` meets its contract: the room cleared, the packet's bytes first, then the head. Assumes nothing.
 use Rattle.group.proofs.Doing.{start-does}
 use borrow.Author.Needs.{needs}
 use Rattle.group.proofs.started.Statement.{statement}
 use Rattle.group.proofs.started.Tie as tie
-use Rattle.group.proofs.started.Reads as reads
-use Rattle.group.proofs.started.Lts as lts
-use Rattle.slot.proofs.Head.started.Reads as started-reads
-use Rattle.slot.proofs.Head.store.Reads as store-reads
-use Rattle.slot.proofs.room.copy.Reads as copy-reads
-use Rattle.slot.proofs.room.empty.Reads as empty-reads
 
 empty-requires : tie.Need-empty-requires
 empty-requires c κs = search needs

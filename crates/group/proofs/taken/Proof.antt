@@ -1,17 +1,13 @@
+-- `group::taken` meets its contract: a refused reading drops, another one moves by its row. Assumes nothing.
 use Prim.Native.Nat.{ℕ}
 use lib.ListN.{take}
 use lib.Seq.{length-take-le}
-use mathlib.Core.Path.{refl, sym, ap, _∙_}
+use mathlib.Core.Path.{sym, ap, _∙_}
 use native.Mathlib.Omega.{arith}
 use Rattle.group.proofs.Doing.{taken-refused, taken-moved, block-le}
 use borrow.Author.Needs.{needs}
 use Rattle.group.proofs.taken.Statement.{statement}
 use Rattle.group.proofs.taken.Tie as tie
-use Rattle.group.proofs.taken.Reads as reads
-use Rattle.group.proofs.taken.Lts as lts
-use Rattle.group.proofs.block.Reads as block-reads
-use Rattle.group.proofs.dropped.Reads as dropped-reads
-use Rattle.group.proofs.moved.Reads as moved-reads
 
 dropped-requires : tie.Need-dropped-requires
 dropped-requires c κs = search needs

@@ -1,19 +1,12 @@
+-- `group::whole` meets its contract: the packet's bytes at its place, the room kept and cleared, then the head. Assumes nothing.
 use Prim.Native.Nat.{ℕ, _*_}
 use lib.ListN.{length}
-use native.Mathlib.Nat.{mul-le-mul-right, le-of-lt}
 use mathlib.Core.Path.{ap}
 use native.Mathlib.Omega.{arith}
 use Rattle.group.proofs.Doing.{whole-does}
 use borrow.Author.Needs.{needs}
 use Rattle.group.proofs.whole.Statement.{statement}
 use Rattle.group.proofs.whole.Tie as tie
-use Rattle.group.proofs.whole.Reads as reads
-use Rattle.group.proofs.whole.Lts as lts
-use Rattle.slot.proofs.Head.store.Reads as store-reads
-use Rattle.slot.proofs.Head.whole.Reads as whole-reads
-use Rattle.slot.proofs.room.copy.Reads as copy-reads
-use Rattle.slot.proofs.room.empty.Reads as empty-reads
-use Rattle.slot.proofs.room.keep.Reads as keep-reads
 
 cast-copy : tie.Need-cast-copy
 cast-copy c = search needs

@@ -1,11 +1,9 @@
+-- `feed::calls::feed_ask` meets its contract. Assumes nothing.
 use mathlib.Core.Path.{ap}
 use Rattle.table.specs.declared.Asked.{Asked}
 use borrow.Author.Needs.{needs}
 use Rattle.feed.proofs.calls.feed_ask.Statement.{statement}
 use Rattle.feed.proofs.calls.feed_ask.Tie as tie
-use Rattle.feed.proofs.calls.feed_ask.Reads as reads
-use Rattle.feed.proofs.calls.feed_ask.Lts as lts
-use Rattle.table.proofs.answer.Reads as answer-reads
 
 answer-requires : tie.Need-answer-requires
 answer-requires c κs = search needs

@@ -1,10 +1,8 @@
+-- `feed::calls::feed_board_text` meets its contract, by ask's number. Assumes nothing.
 use Rattle.feed.proofs.Boards.{board-state, board-notice}
 use borrow.Author.Needs.{needs}
 use Rattle.feed.proofs.calls.feed_board_text.Statement.{statement}
 use Rattle.feed.proofs.calls.feed_board_text.Tie as tie
-use Rattle.feed.proofs.calls.feed_board_text.Reads as reads
-use Rattle.feed.proofs.calls.feed_board_text.Lts as lts
-use Rattle.table.proofs.answer.Reads as answer-reads
 
 answer-requires : tie.Need-answer-requires
 answer-requires c κs = search needs

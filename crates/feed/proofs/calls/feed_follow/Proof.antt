@@ -1,12 +1,9 @@
+-- `feed::calls::feed_follow` meets its contract. Assumes nothing.
 use mathlib.Core.Path.{_∙_}
 use Rattle.table.specs.Calls.{followAnswer, followAfter}
 use borrow.Author.Needs.{needs}
 use Rattle.feed.proofs.calls.feed_follow.Statement.{statement}
 use Rattle.feed.proofs.calls.feed_follow.Tie as tie
-use Rattle.feed.proofs.calls.feed_follow.Reads as reads
-use Rattle.feed.proofs.calls.feed_follow.Lts as lts
-use Rattle.table.proofs.Following.new.Reads as new-reads
-use Rattle.table.proofs.follow.Reads as follow-reads
 
 new-requires : tie.Need-new-requires
 new-requires c κs = search needs

@@ -4,8 +4,7 @@ use Prim.Native.Nat.{_-_, _≤_}
 use native.Mathlib.Omega.{arith}
 use lib.ListN.{length, set, length-set}
 use lib.Seq.{paste, paste-zero}
-use borrow.Author.Needs.{needs}
-use Rattle.bits.proofs.Storing.{copied, copied-length}
+use Rattle.bits.proofs.Storing.{copied}
 use Rattle.slot.proofs.Rooms.{copy-end}
 use Rattle.slot.proofs.room.copy.Statement.{statement}
 use Rattle.slot.proofs.room.copy.Tie as tie

@@ -5,7 +5,7 @@ use native.Mathlib.Omega.{arith}
 use lib.ListN.{length, set, length-set}
 use lib.Seq.{paste, paste-zero}
 use borrow.Author.Needs.{needs}
-use Rattle.bits.proofs.Storing.{copied, copied-length}
+use Rattle.bits.proofs.Storing.{copied}
 use Rattle.slot.proofs.Rooms.{keep-read, keep-lent}
 use Rattle.slot.proofs.room.keep.Statement.{statement}
 use Rattle.slot.proofs.room.keep.Tie as tie
