@@ -123,7 +123,7 @@ pub data-le : (p : Bool) → dataSize p ≤ 90
 data-le false = omega arith
 data-le true = omega arith
 
-sent-length : (p : Bool) (a i : ℕ) (b : List ℕ) → length (sentImage p a i b) ≡ 94
+pub sent-length : (p : Bool) (a i : ℕ) (b : List ℕ) → length (sentImage p a i b) ≡ 94
 unfolding written
 sent-length p a i b = image-length _ _
 
@@ -171,7 +171,7 @@ four-put a b c d o s t u v la lb lc lo es et eu ev =
     ∙ append-assoc (a ++ b) c d ∙ append-assoc a b (c ++ d)
 
 module _ (p : Bool) (a : ℕ) (m : List ℕ) where
-  packet-length : (i : ℕ) → length (packetOf p a m i) ≡ 94
+  pub packet-length : (i : ℕ) → length (packetOf p a m i) ≡ 94
   unfolding packetOf
   packet-length i = sent-length p a i _
 

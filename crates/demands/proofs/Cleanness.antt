@@ -9,9 +9,9 @@
 -- Assumes nothing.
 use mathlib.Core.Path.{_≡_, refl, sym, ap, ap₂, _∙_, subst}
 use mathlib.Core.Bool.{true, cond}
-use mathlib.Core.List.{List, _∷_, _++_}
+use mathlib.Core.List.{List, _++_}
 use mathlib.Core.Logic.{_⊎_, inl, inr}
-use Prim.Native.Nat.{ℕ, zero, suc, _+_, _-_, _*_, _≤_, _<_}
+use Prim.Native.Nat.{ℕ, zero, _+_, _-_, _*_, _≤_, _<_}
 use native.Mathlib.Omega.{arith}
 use native.Mathlib.Nat.{one-mul, add-mul, mul-le-mul-right}
 use native.Mathlib.Decide.{ℕ-discrete}
@@ -33,7 +33,7 @@ use Rattle.table.specs.State.{stateSize, slots, slotAt, withSlot, find}
 use Rattle.table.specs.Calls.{groupLength, startAnswer, startAfter, followAnswer, followAfter, leaveAnswer, leaveAfter, endAnswer, ages, endAfter}
 use Rattle.table.proofs.States.{good-each, slot-length, slot-same, slot-other, address-is, find-has, zero-free}
 use Rattle.table.proofs.Looking.{Passed, state-passed}
-use Rattle.table.proofs.Kept.{Followed, follow-passed, leave-passed, done-either}
+use Rattle.table.proofs.Kept.{part-blank, Followed, follow-passed, leave-passed, done-either}
 use Rattle.table.proofs.Doing.{start-passed}
 use Rattle.group.specs.Group.{blockOf, placed, roomsMoved, slotMoved, slotDropped, takenAfter}
 use Rattle.group.proofs.Laws.{Wants, Fits, moveOf-wants, moved-head, started-stored, held-stored, whole-room, whole-stored, dropped-room, dropped-stored, dropped-head}
@@ -176,16 +176,6 @@ taken-clean x image l g k = go (ℕ-discrete (r .number) 0)
     go (no ne) = subst CleanSlot (sym (done-refused (r .number) _ (slotDropped x) ne)) (dropped-clean x l g k)
 
 -- ---- a free slot, and a slot that is aged
-
-take-blank : (n m : ℕ) → n ≤ m → take n (blank m) ≡ blank n
-unfolding blank
-take-blank zero m h = refl
-take-blank (suc n) zero h = absurd (omega arith)
-take-blank (suc n) (suc m) h = ap (λ (x : List ℕ). 0 ∷ x) (take-blank n m (omega arith))
-
-part-blank : (at n m : ℕ) → at + n ≤ m → part at n (blank m) ≡ blank n
-unfolding part
-part-blank at n m h = ap (take n) (drop-blank at m) ∙ take-blank n (m - at) (omega arith)
 
 blank-clean : CleanSlot (blank slotSize)
 unfolding unfinished stored

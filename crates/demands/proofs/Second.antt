@@ -17,19 +17,16 @@ use native.Mathlib.Decide.{ℕ-discrete}
 use native.Mathlib.Nat.{mul-le-mul-right}
 use borrow.Author.Tests.{le-ltb, ne-eqb}
 use lib.Dec.{ltb, eqb}
-use lib.ListN.{length, take, drop, getD}
+use lib.ListN.{length, take, drop}
 use lib.Seq.{take-at, drop-at, take-all, drop-drop}
-use Rattle.bits.proofs.Flips.{flips-same}
 use Rattle.bits.proofs.Rows.{done-passed}
 use Rattle.bits.proofs.Runs.{below-take, below-drop}
-use Rattle.image.specs.Image.{headerOf, bytesOf, spareOf}
-use Rattle.image.proofs.Laws.{image-length, spare-image}
-use Rattle.packet.specs.Received.{received, usefulOf, filled, partAs, written}
+use Rattle.image.specs.Image.{spareOf}
+use Rattle.packet.specs.Received.{received, filled, partAs, written}
 use Rattle.packet.specs.Damage.{dataSize, sentImage, Corrected}
 use Rattle.packet.specs.Damage as damage
 use Rattle.packet.specs.declared.Reading.{Reading}
-use Rattle.packet.proofs.Answers.{useful-length}
-use Rattle.packet.proofs.Damages.{sent-useful, header-came, received-corrected}
+use Rattle.packet.proofs.Damages.{header-came, received-corrected, sent-corrected, sent-spare}
 use Rattle.slot.specs.Part.{part}
 use Rattle.slot.specs.Slot.{headOf}
 use Rattle.slot.specs.Head.{shown}
@@ -42,7 +39,7 @@ use Rattle.table.proofs.Looking.{shown-5}
 use Rattle.history.specs.Followed.{Followed, Event, moved, joined, lastOf, after, answer}
 use Rattle.history.specs.Followed as one
 use Rattle.adapter.specs.Calls.{addressOf, groupSize, imagesSize, packetOf, groupImages, packetAnswer, packetAfter, writeAnswer, writeAfter}
-use Rattle.adapter.proofs.Writing.{write-0}
+use Rattle.adapter.proofs.Writing.{packet-length, write-0}
 use Rattle.demands.specs.Machine.{packet, ours, ourAnswer, ourAfter, Bytes, run}
 use Rattle.demands.specs.Demand2.{Follows, imageAt, Sound, answersTo, packets, ReadBack, Demand2}
 use Rattle.demands.proofs.View.{viewOf}
@@ -52,10 +49,6 @@ use Rattle.demands.proofs.Calling.{Arrives, arrives-placed, answer-here
 use Rattle.demands.proofs.Parts.{ask-here, shown-here, followed-serves, placed-others}
 
 -- ---- what is written
-
-sent-length : (p : Bool) (a i : ℕ) (d : List ℕ) → length (sentImage p a i d) ≡ 94
-unfolding written
-sent-length p a i d = image-length _ _
 
 module _ (p : Bool) (a : ℕ) (m : List ℕ) where
   abbrev x : ℕ → List ℕ
@@ -67,18 +60,14 @@ module _ (p : Bool) (a : ℕ) (m : List ℕ) where
   abbrev from-1 : List ℕ
   from-1 = x 1 ++ from-2
 
-  packet-length : (i : ℕ) → length (x i) ≡ 94
-  unfolding packetOf
-  packet-length i = sent-length p a i _
-
   -- the first of several images, and those behind it
   first : (i : ℕ) (y : List ℕ) → part 0 94 (x i ++ y) ≡ x i
   unfolding part
-  first i y = take-at (x i) y 94 (packet-length i)
+  first i y = take-at (x i) y 94 (packet-length p a m i)
 
   behind : (k i : ℕ) (y : List ℕ) → part (94 + k) 94 (x i ++ y) ≡ part k 94 y
   unfolding part
-  behind k i y = ap (take 94) (sym (drop-drop k 94 (x i ++ y)) ∙ ap (drop k) (drop-at (x i) y 94 (packet-length i)))
+  behind k i y = ap (take 94) (sym (drop-drop k 94 (x i ++ y)) ∙ ap (drop k) (drop-at (x i) y 94 (packet-length p a m i)))
 
   images-at : (i : ℕ) → i < 4 → imageAt (groupImages p a m) i ≡ x i
   unfolding groupImages part
@@ -86,7 +75,7 @@ module _ (p : Bool) (a : ℕ) (m : List ℕ) where
   images-at (suc zero) h = behind 0 0 from-1 ∙ first 1 from-2
   images-at (suc (suc zero)) h = behind 94 0 from-1 ∙ behind 0 1 from-2 ∙ first 2 (x 3)
   images-at (suc (suc (suc zero))) h =
-      behind 188 0 from-1 ∙ behind 94 1 from-2 ∙ behind 0 2 (x 3) ∙ take-all 94 (x 3) (omega (arith, packet-length 3))
+      behind 188 0 from-1 ∙ behind 94 1 from-2 ∙ behind 0 2 (x 3) ∙ take-all 94 (x 3) (omega (arith, packet-length p a m 3))
   images-at (suc (suc (suc (suc i)))) h = absurd (omega arith)
 
 -- a fourth of the message
@@ -129,26 +118,6 @@ module _ (a p : ℕ) (m o : List ℕ) (from : 1 ≤ a) (to : a ≤ 1022) (hp : p
 
 -- ---- no damage is no more than the codes correct
 
-none-few : {n : ℕ} (most : ℕ) → n ≡ 0 → n ≤ most
-none-few most e = omega (arith, e)
-
-kept-whole : (p : Bool) (u : List ℕ) → damage.Kept 3 p u u
-kept-whole false u = refl
-kept-whole true u = λ w h. none-few 3 (flips-same _)
-
-corrected-whole : (p : Bool) (s : List ℕ) → length s ≡ 94 → Corrected p s s
-corrected-whole p s l = record {
-  size = l;
-  header = none-few 3 (flips-same (headerOf s));
-  type = none-few 2 (flips-same (getD (bytesOf s) 0 0));
-  useful = kept-whole p (usefulOf s);
-}
-
-sent-spare : (p : Bool) (a i : ℕ) (d : List ℕ) → a ≤ 1023 → i ≤ 3 → length d ≡ dataSize p → Bytes d → spareOf (sentImage p a i d) ≡ 0
-unfolding written
-sent-spare p a i d ha hi l b =
-    spare-image _ _ (ap suc (sym (ap length (sent-useful p a i d ha hi l b)) ∙ useful-length (sentImage p a i d)))
-
 pub sent-sound : (a p : ℕ) (message output : List ℕ) → 1 ≤ a → a ≤ 1022 → p ≤ 1 → length message ≡ groupSize (eqb p 1) → Bytes message
     → length output ≡ imagesSize → (i : ℕ) → i < 4
     → Sound (eqb p 1) (writeAfter a p message output) i (imageAt (writeAfter a p message output) i)
@@ -156,7 +125,7 @@ sent-sound a p m o from to hp lm b lo i h =
     let q = eqb p 1 in
     let e = written-at a p m o from to hp lm lo i h in
     record {
-      corrected = corrected-whole q _ (ap length e ∙ sent-length q a i (fourth q m i));
+      corrected = subst (λ (x : List ℕ). Corrected q x x) (sym e) (sent-corrected q a i (fourth q m i));
       spare = ap spareOf e ∙ sent-spare q a i (fourth q m i) (omega arith) (omega arith) (fourth-length q m i h lm) (fourth-bytes q m i b);
     }
 

@@ -1,7 +1,7 @@
 -- Every call keeps the state good, whatever it answers.
 --
 --   follow-passed, leave-passed    what holds where a call is accepted: none of its rows
---   slot-blank, blank-good         the state of 0 alone
+--   part-blank, slot-blank, blank-good     the state of 0 alone
 --   start-good, follow-good, leave-good, end-good
 --   age-waits       the age does not move before the first whole group
 --
@@ -70,7 +70,7 @@ leave-passed s a e =
 
 -- ---- start
 
-part-blank : (at n m : ℕ) → at + n ≤ m → part at n (blank m) ≡ blank n
+pub part-blank : (at n m : ℕ) → at + n ≤ m → part at n (blank m) ≡ blank n
 unfolding part blank
 part-blank zero zero m h = refl
 part-blank zero (suc n) zero h = absurd (omega arith)
