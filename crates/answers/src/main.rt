@@ -2,6 +2,9 @@
 // and then a line for each: its number from 1, a space, the answer.
 //
 // text     lines, gathered in a buffer
+ghost use mathlib.Core.Path.{_≡_};
+ghost use Prim.Native.Nat.{_≤_};
+ghost use lib.ListN.{length};
 use libc::STDIN_FILENO;
 use libc::STDOUT_FILENO;
 use records::Step;
@@ -39,7 +42,9 @@ fn run(state: &mut [u8]) {
 }
 
 // One buffer: what is read is put behind what was kept, the whole records are served, and the rest is kept.
-fn turn(state: &mut [u8], buffer: &mut [u8], progress: Progress) -> Progress {
+fn turn(state: &mut [u8], buffer: &mut [u8], progress: Progress) -> Progress
+    requires { ⌜ length (now buffer) ≡ 4096 ⌝ }
+{
     let kept = progress.kept;
     if buffer.len() <= kept {
         return stopped(progress.number);
@@ -65,5 +70,44 @@ fn stopped(number: u64) -> Progress {
         number,
         kept: 0,
         going: false,
+    }
+}
+
+// Serves what the buffer holds, prints the answers, and keeps what is behind the last whole record.
+fn served(state: &mut [u8], buffer: &mut [u8], n: usize, number: u64) -> Progress
+    requires { ⌜ n ≤ length (now buffer) ⌝ }
+    requires { ⌜ length (now buffer) ≡ 4096 ⌝ }
+{
+    let mut answers = io::buffer();
+    let mut count: usize = 0;
+    let mut at: usize = 0;
+    let last = records::serve_all(state, &buffer[..n], &mut answers, &mut count, &mut at);
+    text::lines(number, &answers[..count]);
+    let next = std::num::wrapping_add_u64(number, count as u64);
+    match last {
+        Step::Bad => {
+            text::one(next, 35);
+            stopped(next)
+        }
+        Step::Record(_, _) => kept(buffer, at, n, next),
+        Step::End => kept(buffer, at, n, next),
+        Step::More => kept(buffer, at, n, next),
+    }
+}
+
+// Moves the rest of the buffer to its front.
+fn kept(buffer: &mut [u8], at: usize, n: usize, number: u64) -> Progress
+    requires { ⌜ at ≤ n ⌝ }
+    requires { ⌜ n ≤ length (now buffer) ⌝ }
+{
+    let mut k: usize = 0;
+    while at + k < n {
+        buffer[k] = buffer[at + k];
+        k += 1;
+    }
+    Progress {
+        number,
+        kept: k,
+        going: true,
     }
 }
