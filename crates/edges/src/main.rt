@@ -1,13 +1,9 @@
-// Both sides of each edge of document 01, section 8, run on the calls of the table: what each call answers, and that a
-// refused one leaves the state byte for byte as it was.
-//
-// text     a line of a label and a number
+// Both sides of each edge of document 01, section 8, run on the calls: what each answers, and that a refused one leaves what
+// is lent to it byte for byte as it was.
 use libc::STDOUT_FILENO;
-use slot::Head;
-use slot::Slot;
 use table::Following;
-
-mod text;
+use trial::sent;
+use trial::text;
 
 fn main() {
     io::write_all(STDOUT_FILENO, b"edges 1\n");
@@ -31,9 +27,9 @@ fn follow(state: &mut [u8], address: u32, limit: u32) -> u8 {
     table::follow(state, Following::new(address, 1, limit))
 }
 
-// Limit 2 is fresh at ages 0 and 1, stale at 2. The whole group is put there by hand until packets can bring it.
+// Limit 2 is fresh at ages 0 and 1, stale at 2.
 fn limit() {
-    io::write_all(STDOUT_FILENO, b"limit 2, a whole group of slot 0\n");
+    io::write_all(STDOUT_FILENO, b"limit 2\n");
     let mut state = [0u8; 11776];
     text::line(b"start", table::start(&mut state) as u64);
     text::line(b"follow 17", follow(&mut state, 17, 2) as u64);
@@ -47,12 +43,9 @@ fn limit() {
     text::line(b"ask, age 2", asked(&state, 17) as u64);
 }
 
-// Slot 0 as the fourth packet leaves it.
+// A group at address 17.
 fn whole(state: &mut [u8]) {
-    if state.len() == table::Table::SIZE {
-        let head = Head::load(&state[..Slot::SIZE]).whole();
-        head.store(&mut state[..Slot::SIZE]);
-    }
+    sent::feed(state, sent::written(17, 1, 1), 0, 4);
 }
 
 // Addresses 0 and 1,023 give 22, 1 and 1,022 pass; each row of follow, leave and ask.
@@ -133,6 +126,7 @@ fn copied(state: &[u8]) -> [u8; 11776] {
 fn nothing() {
     io::write_all(STDOUT_FILENO, b"no bytes at all\n");
     let mut none = [0u8; 1];
+    text::line(b"start", table::start(&mut none[..0]) as u64);
     every_call(&mut none[..0]);
 }
 
