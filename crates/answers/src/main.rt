@@ -21,22 +21,27 @@ struct Progress {
 fn main() {
     let mut state = [0u8; 11776];
     table::start(&mut state);
+    let mut buffer = io::buffer();
     if io::write_all(STDOUT_FILENO, b"answers 1\n") {
-        run(&mut state);
+        run(&mut state, &mut buffer);
     }
 }
 
 // A proved loop has to end, and nothing says that a file does: it counts its turns down from a number that no run uses up.
-fn run(state: &mut [u8]) {
-    let mut buffer = io::buffer();
+fn run(state: &mut [u8], buffer: &mut [u8])
+    requires { ⌜ length (now buffer) ≡ 4096 ⌝ }
+{
     let mut progress = Progress {
         number: 1,
         kept: 0,
         going: true,
     };
     let mut turns = u64::MAX;
-    while (turns > 0) & progress.going {
-        progress = turn(state, &mut buffer, progress);
+    while 0 < turns {
+        if !progress.going {
+            return;
+        }
+        progress = turn(state, buffer, progress);
         turns -= 1;
     }
 }

@@ -23,15 +23,25 @@ fn gathered(first: u64, answers: &[u8], out: &mut [u8]) -> bool
     let mut len: usize = 0;
     let mut k: usize = 0;
     while k < answers.len() {
-        if out.len() - Line::LONGEST < len {
-            io::write_all(STDOUT_FILENO, &out[..len]);
-            len = 0;
-        }
+        let at = flushed(out, len);
         let number = std::num::wrapping_add_u64(first, k as u64);
-        len = put(out, len, number, answers[k]);
+        len = put(out, at, number, answers[k]);
         k += 1;
     }
     io::write_all(STDOUT_FILENO, &out[..len])
+}
+
+// Where the next line begins: where the last one ended, or at the front once the lines so far are written out.
+fn flushed(out: &[u8], len: usize) -> usize
+    requires { ⌜ 42 ≤ length (now out) ⌝ }
+    requires { ⌜ len ≤ length (now out) ⌝ }
+    ensures { λ r. ⌜ r + 42 ≤ length (now (out .entry)) ⌝ }
+{
+    if out.len() - Line::LONGEST < len {
+        io::write_all(STDOUT_FILENO, &out[..len]);
+        return 0;
+    }
+    len
 }
 
 // Puts a line at a place of the buffer, and answers the place behind it.

@@ -1,9 +1,6 @@
 -- `answers::text::places` ends, and counts twenty at most. Assumes nothing.
-use mathlib.Core.Path.{_≡_, refl}
-use Prim.Native.Nat.{_+_, _-_, _≤_}
+use Prim.Native.Nat.{_-_, _≤_}
 use native.Mathlib.Omega.{arith}
-use lib.ListN.{length, length-set}
-use borrow.Author.Needs.{needs}
 use Rattle.answers.proofs.text.places.Statement.{statement}
 use Rattle.answers.proofs.text.places.Tie as tie
 

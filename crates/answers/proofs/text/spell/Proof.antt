@@ -1,50 +1,53 @@
+-- `answers::text::spell` ends and stays in the buffer. Assumes nothing.
+use mathlib.Core.Path.{_≡_, refl}
+use Prim.Native.Nat.{_-_, _≤_}
+use native.Mathlib.Omega.{arith}
+use lib.ListN.{length, length-set}
+use borrow.Author.Needs.{needs}
 use Rattle.answers.proofs.text.spell.Statement.{statement}
 use Rattle.answers.proofs.text.spell.Tie as tie
-use Rattle.answers.proofs.text.spell.Reads as reads
-use Rattle.answers.proofs.text.spell.Lts as lts
-use Rattle.answers.proofs.text.places.Reads as places-reads
 
 abbrev Inv-loop : tie.InvT-loop
-Inv-loop out₀ at n count rest₀ k₀ out rest k = ?
+Inv-loop out₀ at n count rest₀ k₀ out rest k = (k ≤ 20) × (length out ≡ length out₀)
 
 abbrev μ-loop : tie.MeasureT-loop
-μ-loop out₀ at n count rest₀ k₀ out rest k = ?
+μ-loop out₀ at n count rest₀ k₀ out rest k = k
 
 places-requires : tie.Need-places-requires Inv-loop μ-loop
-places-requires c κs = ?
+places-requires c κs = search needs
 
 loop-holds : tie.Need-loop-holds Inv-loop μ-loop
-loop-holds c = ?
+loop-holds c = (omega arith, refl)
 
 sub-k : tie.Need-sub-k Inv-loop μ-loop
-sub-k c = ?
+sub-k c = omega arith
 
 cast-out : tie.Need-cast-out Inv-loop μ-loop
-cast-out c = ?
+cast-out c = omega arith
 
 add-out : tie.Need-add-out Inv-loop μ-loop
-add-out c = ?
+add-out c = omega arith
 
 add-out-2 : tie.Need-add-out-2 Inv-loop μ-loop
-add-out-2 c = ?
+add-out-2 c = omega arith
 
 slice-write-out : tie.Need-slice-write-out Inv-loop μ-loop
-slice-write-out c = ?
+slice-write-out c = omega arith
 
 loop-less : tie.Need-loop-less Inv-loop μ-loop
-loop-less c = ?
+loop-less c = omega arith
 
 loop-again : tie.Need-loop-again Inv-loop μ-loop
-loop-again c = ?
+loop-again c = (omega arith, simp length-set (omega arith))
 
 add-result : tie.Need-add-result Inv-loop μ-loop
-add-result c = ?
+add-result c = omega arith
 
 same-length : tie.Need-same-length Inv-loop μ-loop
-same-length c = ?
+same-length c = omega arith
 
 returns : tie.Need-returns Inv-loop μ-loop
-returns c = ?
+returns c = omega arith
 
 pub spell-spec : {M : Type 1} → statement M
 spell-spec =
