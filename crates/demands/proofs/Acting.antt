@@ -53,7 +53,7 @@ eventBy (suc n) c b = one.refused (reasonOf (suc n))
 unfoldable pub eventOf : Bool → List ℕ → Event
 eventOf p image = eventBy (received p image .number) (received p image .index) (take (dataSize p) (received p image .bytes))
 
-reason-number : (r : Reading) → Refused r → number (reasonOf (r .number)) ≡ r .number
+pub reason-number : (r : Reading) → Refused r → number (reasonOf (r .number)) ≡ r .number
 unfolding number reasonOf
 reason-number r (inl e) = ap (λ (n : ℕ). number (reasonOf n)) e ∙ sym e
 reason-number r (inr (inl e)) = ap (λ (n : ℕ). number (reasonOf n)) e ∙ sym e

@@ -6,6 +6,7 @@
 --   start-in .. ask-in             so the numbers of each call but a packet: 0, 4 to 7, and those that change nothing
 --   refused-in-plain, placed-in    a packet's: those, or where it is placed 1 to 3 and 28 to 32
 --   placed-drops                   and 28 to 32 drop
+--   bare-in, valueless             the bare calls' numbers, and 0 beside a refusal
 --   demand-1
 --
 -- Assumes nothing.
@@ -17,7 +18,8 @@ use Prim.Native.Nat.{ℕ, zero, suc}
 use borrow.Author.Tests.{eqb-true, eq-eqb}
 use lib.Dec.{T, eqb, leb}
 use lib.ListN.{length}
-use Rattle.bits.specs.Rows.{Row, row, refusal, done}
+use Rattle.bits.specs.Rows.{Row, row, refusal, done, given}
+use Rattle.bare.specs.Bare.{headerRead, headerWritten, wordRead, wordWritten, typeRead, typeWritten}
 use Rattle.bits.proofs.Rows.{further-refused, further-passed, done-refused, done-passed}
 use Rattle.packet.specs.Damage.{Refused}
 use Rattle.packet.specs.declared.Reading.{Reading}
@@ -32,10 +34,11 @@ use Rattle.table.specs.Calls.{startAnswer, startAfter, followAnswer, followAfte
 use Rattle.group.specs.Group.{slotMoved, slotDropped, takenNumber, takenAfter}
 use Rattle.group.proofs.Laws.{dropped-room, dropped-stored, dropped-head}
 use Rattle.group.proofs.Doing.{out-drops}
+use Rattle.history.specs.Sent.{In}
 use Rattle.adapter.specs.Calls.{addressOf, unplaced, readingAt, packetAnswer, packetAfter, writeAnswer, writeAfter}
 use Rattle.adapter.proofs.Laws.{Placed, packet-refused}
-use Rattle.demands.specs.Machine.{Call, start, follow, leave, packet, subframeEnd, ask, ours, ourAnswer, ourAfter}
-use Rattle.demands.specs.Demand1.{In, answers, unchanging, dropping, Dropped, DroppedBy, Demand1}
+use Rattle.demands.specs.Machine.{Call, start, follow, leave, packet, subframeEnd, ask, ours, ourAnswer, ourAfter, Bare, readHeader, writeHeader, readWord, writeWord, readType, writeType, ourBare, ourValues}
+use Rattle.demands.specs.Demand1.{answers, unchanging, dropping, Dropped, DroppedBy, Demand1, AllZero}
 use Rattle.demands.proofs.Serving.{here-size, here-good}
 use Rattle.demands.proofs.Acting.{refused-not-zero}
 use Rattle.demands.proofs.Parts.{asked-number, by-place, placed-serves, placed-answer, placed-size, placed-here, placed-others}
@@ -277,6 +280,31 @@ unwritten : (a p : ℕ) (m o : List ℕ) → (writeAnswer a p (length m) (length
 unfolding writeAfter
 unwritten a p m o ne = done-refused (writeAnswer a p (length m) (length o)) _ o ne
 
+-- ---- the bare calls
+
+bare-in : (x : Bare) → In (ourBare x) (0 ∷ 33 ∷ 31 ∷ 28 ∷ [])
+unfolding ourBare headerRead headerWritten wordRead wordWritten typeRead typeWritten
+bare-in (readHeader n) = rows-in _ (0 ∷ 33 ∷ 31 ∷ 28 ∷ []) tt
+bare-in (writeHeader a i) = rows-in _ (0 ∷ 33 ∷ 31 ∷ 28 ∷ []) tt
+bare-in (readWord n) = rows-in _ (0 ∷ 33 ∷ 31 ∷ 28 ∷ []) tt
+bare-in (writeWord i) = rows-in _ (0 ∷ 33 ∷ 31 ∷ 28 ∷ []) tt
+bare-in (readType b) = rows-in _ (0 ∷ 33 ∷ 31 ∷ 28 ∷ []) tt
+bare-in (writeType b) = rows-in _ (0 ∷ 33 ∷ 31 ∷ 28 ∷ []) tt
+
+given-refused : (n v : ℕ) → (n ≡ 0 → ⊥) → given n v ≡ 0
+unfolding given
+given-refused zero v ne = absurd (ne refl)
+given-refused (suc n) v ne = refl
+
+valueless : (x : Bare) → (ourBare x ≡ 0 → ⊥) → AllZero (ourValues x)
+unfolding ourBare ourValues AllZero headerRead headerWritten wordRead wordWritten typeRead typeWritten
+valueless (readHeader n) ne = (given-refused _ _ ne, (given-refused _ _ ne, (given-refused _ _ ne, tt)))
+valueless (writeHeader a i) ne = (given-refused _ _ ne, tt)
+valueless (readWord n) ne = (given-refused _ _ ne, (given-refused _ _ ne, tt))
+valueless (writeWord i) ne = (given-refused _ _ ne, tt)
+valueless (readType b) ne = (given-refused _ _ ne, (given-refused _ _ ne, tt))
+valueless (writeType b) ne = (given-refused _ _ ne, tt)
+
 pub demand-1 : Demand1 ours
 demand-1 = record {
   numbered = numbered;
@@ -284,4 +312,6 @@ demand-1 = record {
   dropped = drops;
   writes = λ a p m o. write-in a p (length m) (length o);
   unwritten = unwritten;
+  bare = bare-in;
+  valueless = valueless;
 }

@@ -4,6 +4,7 @@
 --   eventsOf a p h       the events of a list of calls
 --   run-acts             the address after the calls is the address after their events
 --   lost-answer, answer-by     what a packet at the address is answered that does not arrive, and one that does
+--   readable-answered, unreadable-answered     readable: 1, 2, 3 or 32; otherwise 28 to 31
 --   tells-told           the transcript of the answers is the events' own
 --   handed-same          what is handed out is what the events hand out
 --
@@ -11,6 +12,7 @@
 use mathlib.Core.Path.{_≡_, refl, sym, ap, ap₂, _∙_, subst}
 use mathlib.Core.Bool.{Bool, true, false, cond, not, _&&_, _||_}
 use mathlib.Core.List.{List, [], _∷_, _++_}
+use mathlib.Core.Logic.{inl, inr}
 use Prim.Native.Nat.{ℕ, zero, suc, _<_}
 use native.Mathlib.Omega.{arith}
 use native.Mathlib.Decide.{ℕ-discrete}
@@ -19,20 +21,22 @@ use lib.Dec.{T, eqb}
 use lib.ListN.{length, take}
 use Rattle.image.specs.Image.{spareOf}
 use Rattle.packet.specs.Received.{received}
-use Rattle.packet.specs.Damage.{dataSize}
+use Rattle.packet.specs.Damage.{dataSize, Refused}
+use Rattle.packet.specs.declared.Reading.{Reading}
 use Rattle.slot.specs.Move.{Move, started, held, whole, outOfStep, moveOf, moveNumber, movedHead}
 use Rattle.slot.specs.declared.Head.{Head}
 use Rattle.table.specs.Calls.{askPart}
 use Rattle.history.specs.Followed as one
 use Rattle.history.specs.Transcript.{Entry, answered, subframe, entry, told}
 use Rattle.history.proofs.Laws.{run-app}
+use Rattle.history.specs.Sent.{In}
 use Rattle.adapter.specs.Calls.{addressOf, unplaced, packetAnswer}
 use Rattle.adapter.proofs.Laws.{size-refused, spare-refused, packet-refused}
 use Rattle.demands.specs.Machine.{Call, start, follow, leave, packet, subframeEnd, ask, ours, ourAnswer, ourAfter, run}
 use Rattle.demands.specs.Demand3.{Stays, AllStay, handsOut, handedOut, noted, tells}
 use Rattle.demands.proofs.View.{viewOf}
 use Rattle.demands.proofs.Serving.{Serves, view, Kept}
-use Rattle.demands.proofs.Acting.{eventOf, eventBy, arrivesAt, eventsAt, protectedAt}
+use Rattle.demands.proofs.Acting.{eventOf, eventBy, arrivesAt, eventsAt, protectedAt, event-read, event-refused, refused-not-zero, reason-number}
 use Rattle.demands.proofs.Calling.{Arrives, arrives-is, is-arrives, passed, answer-here, acts}
 use Rattle.demands.proofs.Parts.{shown-here}
 
@@ -151,6 +155,31 @@ pub answer-by : (s : List ℕ) (a : ℕ) → Serves s a → (image : List ℕ) �
     → packetAnswer s image ≡ one.answer (eventOf (by (view s a)) image) (view s a)
 answer-by s a v image r =
     answer-here s a v image r ∙ ap (λ (p : Bool). one.answer (eventOf p image) (view s a)) (sym (view-protected s a))
+
+-- "readable there means not refused with 20, 21 or 28 to 31": of ours, readable is what the image is received as
+number-in : (mv : Move) → In (moveNumber mv) (1 ∷ 2 ∷ 3 ∷ 32 ∷ [])
+unfolding moveNumber In
+number-in started = inl refl
+number-in held = inr (inl refl)
+number-in whole = inr (inr (inl refl))
+number-in outOfStep = inr (inr (inr (inl refl)))
+
+module _ (s : List ℕ) (a : ℕ) (v : Serves s a) (image : List ℕ) (r : Arrives a image) where
+  abbrev came-as : Reading
+  came-as = received (by (view s a)) image
+
+  pub readable-answered : came-as .number ≡ 0 → In (packetAnswer s image) (1 ∷ 2 ∷ 3 ∷ 32 ∷ [])
+  unfolding one.answer
+  readable-answered z =
+      subst (λ (n : ℕ). In n (1 ∷ 2 ∷ 3 ∷ 32 ∷ []))
+      (sym (answer-by s a v image r ∙ ap (λ (e : one.Event). one.answer e (view s a)) (event-read (by (view s a)) image z)))
+      (number-in (moveOf (view s a .head .awaited) (came-as .index)))
+
+  pub unreadable-answered : Refused came-as → packetAnswer s image ≡ came-as .number
+  unfolding one.answer
+  unreadable-answered f =
+      answer-by s a v image r
+      ∙ ap (λ (e : one.Event). one.answer e (view s a)) (event-refused (by (view s a)) image (refused-not-zero came-as f)) ∙ reason-number came-as f
 
 -- ---- the transcript
 

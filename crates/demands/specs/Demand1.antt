@@ -4,28 +4,24 @@
 --
 -- The calls are functions of every list of bytes and every number: that they take all and end is in their type.
 --
---   In n ns          n is one of the numbers
 --   answers          the numbers of an answered call: 0 done; 1 to 3, section 4; 4 to 7, section 5
 --   unchanging       the refusals that change nothing: 20 to 27, 33 and 34
 --   dropping         those that drop an unfinished group: 28 to 32
 --   Dropped k s t    slot k's unfinished room is 0, its gap marked, its awaited index 0; all else of the state s is in t as it was
+--   AllZero ns       each is 0
 --   Demand1 m
 use mathlib.Core.Path.{_≡_}
 use mathlib.Core.Bool.{true}
 use mathlib.Core.List.{List, [], _∷_, _++_}
-use mathlib.Core.Logic.{_⊎_}
 use Prim.Native.Nat.{ℕ, _<_}
 use lib.ListN.{length}
 use Rattle.bits.specs.Bits.{blank}
 use Rattle.slot.specs.Slot.{roomSize, headOf, unfinished, stored}
 use Rattle.slot.specs.Head.{droppedHead}
 use Rattle.table.specs.State.{slots, slotAt, find}
+use Rattle.history.specs.Sent.{In}
 use Rattle.adapter.specs.Calls.{addressOf, followed}
-use Rattle.demands.specs.Machine.{Call, start, follow, leave, packet, subframeEnd, ask, Machine}
-
-unfoldable pub In : ℕ → List ℕ → Type 0
-In n [] = ⊥
-In n (k ∷ ns) = (n ≡ k) ⊎ In n ns
+use Rattle.demands.specs.Machine.{Call, start, follow, leave, packet, subframeEnd, ask, Bare, Machine}
 
 abbrev pub answers : List ℕ
 answers = 0 ∷ 1 ∷ 2 ∷ 3 ∷ 4 ∷ 5 ∷ 6 ∷ 7 ∷ []
@@ -43,6 +39,10 @@ pub record Dropped (k : ℕ) (s t : List ℕ) : Type 0 where
   pub group : stored (slotAt k t) ≡ stored (slotAt k s)
   pub head : headOf (slotAt k t) ≡ droppedHead (headOf (slotAt k s))
 
+unfoldable pub AllZero : List ℕ → Type 0
+AllZero [] = Unit {0}
+AllZero (n ∷ ns) = (n ≡ 0) × AllZero ns
+
 -- only a packet is refused so, and only at an address that is followed
 unfoldable pub DroppedBy : Call → List ℕ → List ℕ → Type 0
 DroppedBy (packet image) s t = (followed s (addressOf image) ≡ true) × Dropped (find s (addressOf image)) s t
@@ -58,3 +58,6 @@ pub record Demand1 (m : Machine) : Type 0 where
   pub dropped : (x : Call) (s : List ℕ) → In (m .answer x s) dropping → DroppedBy x s (m .after x s)
   pub writes : (a p : ℕ) (message output : List ℕ) → In (m .writes a p message output) (0 ∷ 22 ∷ 23 ∷ 20 ∷ [])
   pub unwritten : (a p : ℕ) (message output : List ℕ) → (m .writes a p message output ≡ 0 → ⊥) → m .written a p message output ≡ output
+  pub bare : (x : Bare) → In (m .bare x) (0 ∷ 33 ∷ 31 ∷ 28 ∷ [])
+  -- "A refused bare reading or writing gives 0 as its value."
+  pub valueless : (x : Bare) → (m .bare x ≡ 0 → ⊥) → AllZero (m .values x)

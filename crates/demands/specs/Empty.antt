@@ -17,11 +17,27 @@ use Rattle.demands.specs.Machine.{Call, start, follow, leave, packet, su
 -- ours, but for what is answered and left
 abbrev pub but : (Call → List ℕ → ℕ) → (Call → List ℕ → List ℕ) → Machine
 but answer after =
-    record { answer = answer; after = after; shown = ours .shown; writes = ours .writes; written = ours .written }
+    record {
+      answer = answer;
+      after = after;
+      shown = ours .shown;
+      writes = ours .writes;
+      written = ours .written;
+      bare = ours .bare;
+      values = ours .values;
+    }
 
 abbrev pub fixed : ℕ → Machine → Machine
 fixed n m =
-    record { answer = λ x s. n; after = m .after; shown = m .shown; writes = λ a p message output. n; written = m .written }
+    record {
+      answer = λ x s. n;
+      after = m .after;
+      shown = m .shown;
+      writes = λ a p message output. n;
+      written = m .written;
+      bare = λ x. n;
+      values = m .values;
+    }
 
 -- another answer to a packet, and another state after it; the same of a subframe's end
 unfoldable pub answerTo : (List ℕ → List ℕ → ℕ) → Call → List ℕ → ℕ

@@ -2,13 +2,15 @@
 -- says how a machine keeps what it knows.
 --
 --   Call            a call on a lent state
---   Machine         answer and state after each call; the part that ask shows of an address; the group writer
+--   Bare            a bare call, numbers in and numbers out
+--   Machine         answer and state after each call; the part that ask shows of an address; the group writer; the bare calls
 --   ours            the definitions that the contracts of the crates table and adapter cite
 --   Bytes s         a list of bytes
 --   run m h s       the state after a list of calls, in order
 use mathlib.Core.List.{List, [], _∷_}
 use Prim.Native.Nat.{ℕ, _<_}
 use lib.ListN.{length, getD}
+use Rattle.bare.specs.Bare.{headerRead, headerWritten, wordRead, wordWritten, typeRead, typeWritten}
 use Rattle.table.specs.Calls.{startAnswer, startAfter, followAnswer, followAfter, leaveAnswer, leaveAfter, endAnswer, endAfter, asked, askPart}
 use Rattle.adapter.specs.Calls.{packetAnswer, packetAfter, writeAnswer, writeAfter}
 
@@ -23,6 +25,16 @@ pub data Call : Type 0 where
   -- and board text, whose number is ask's
   ask : ℕ → Call
 
+-- the single readers and writers of sections 1 and 2
+pub data Bare : Type 0 where
+  readHeader : ℕ → Bare
+  -- address, index
+  writeHeader : ℕ → ℕ → Bare
+  readWord : ℕ → Bare
+  writeWord : ℕ → Bare
+  readType : ℕ → Bare
+  writeType : ℕ → Bare
+
 pub record Machine : Type 0 where
   pub answer : Call → List ℕ → ℕ
   pub after : Call → List ℕ → List ℕ
@@ -30,6 +42,9 @@ pub record Machine : Type 0 where
   -- address, protection, message, output
   pub writes : ℕ → ℕ → List ℕ → List ℕ → ℕ
   pub written : ℕ → ℕ → List ℕ → List ℕ → List ℕ
+  -- a bare call's number, and the values beside it
+  pub bare : Bare → ℕ
+  pub values : Bare → List ℕ
 
 unfoldable pub ourAnswer : Call → List ℕ → ℕ
 ourAnswer start s = startAnswer s
@@ -47,6 +62,22 @@ ourAfter (packet image) s = packetAfter s image
 ourAfter subframeEnd s = endAfter s
 ourAfter (ask a) s = s
 
+unfoldable pub ourBare : Bare → ℕ
+ourBare (readHeader n) = headerRead n .number
+ourBare (writeHeader a i) = headerWritten a i .number
+ourBare (readWord n) = wordRead n .number
+ourBare (writeWord i) = wordWritten i .number
+ourBare (readType b) = typeRead b .number
+ourBare (writeType b) = typeWritten b .number
+
+unfoldable pub ourValues : Bare → List ℕ
+ourValues (readHeader n) = headerRead n .address ∷ headerRead n .index ∷ headerRead n .flips ∷ []
+ourValues (writeHeader a i) = headerWritten a i .value ∷ []
+ourValues (readWord n) = wordRead n .information ∷ wordRead n .flips ∷ []
+ourValues (writeWord i) = wordWritten i .value ∷ []
+ourValues (readType b) = typeRead b .value ∷ typeRead b .flips ∷ []
+ourValues (writeType b) = typeWritten b .value ∷ []
+
 abbrev pub ours : Machine
 ours = record {
   answer = ourAnswer;
@@ -54,6 +85,8 @@ ours = record {
   shown = λ a s. askPart s a;
   writes = λ a p m o. writeAnswer a p (length m) (length o);
   written = writeAfter;
+  bare = ourBare;
+  values = ourValues;
 }
 
 abbrev pub Bytes : List ℕ → Type 0

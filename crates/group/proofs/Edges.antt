@@ -10,7 +10,7 @@ use Rattle.bare.proofs.Edges as proved
 use Rattle.slot.specs.Move.{moveOf, moveNumber, movedHead}
 use Rattle.slot.specs.declared.Head.{Head}
 use Rattle.group.specs.Group.{takenNumber}
-use Rattle.group.specs.Edges.{Edge, bare, answers, marks, Answers, Holds, All, edges}
+use Rattle.group.specs.Edges.{Edge, bare, Answers, Holds, All, steps, edges}
 
 -- the answer is section 4's table's
 answers-by : (a c n : ℕ) → moveNumber (moveOf a c) ≡ n → Answers a c n
@@ -23,8 +23,10 @@ bare-then : (es : List below.Edge) (rest : List Edge) → below.All below.Holds 
 bare-then [] rest h k = k
 bare-then (e ∷ es) rest h k = (h .0, bare-then es rest (h .1) k)
 
-pub edges-hold : All Holds edges
+steps-hold : All Holds steps
 unfolding moveOf moveNumber movedHead
-edges-hold =
-    bare-then below.edges (answers 2 2 2 ∷ marks 2 0 1 ∷ answers 0 1 32 ∷ []) proved.edges-hold
-    (answers-by 2 2 2 refl, ((answers-by 2 0 1 refl, λ h e. ap (λ (x : ℕ). cond (ltb 0 x) 1 (h .gap)) e), (answers-by 0 1 32 refl, tt)))
+steps-hold =
+    (answers-by _ _ _ refl, ((answers-by _ _ _ refl, λ h e. ap (λ (x : ℕ). cond (ltb 0 x) 1 (h .gap)) e), (answers-by _ _ _ refl, tt)))
+
+pub edges-hold : All Holds edges
+edges-hold = bare-then below.edges steps proved.edges-hold steps-hold

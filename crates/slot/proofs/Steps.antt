@@ -2,17 +2,18 @@
 --
 --   gathered, spread               four bytes make a number, and a number four bytes
 --   head-stores                    three numbers and four bytes stored in a row are the head's bytes
+--   aged-counts, aged-stays        the age, by the test that counts it
 --   fold-next, fold-end            the bytes folded so far and the bytes left say whether all are 0
 --
 -- Assumes nothing.
 use mathlib.Core.Path.{_≡_, refl, sym, ap, ap₂, _∙_}
-use mathlib.Core.Bool.{Bool, _&&_, and-true, and-assoc}
+use mathlib.Core.Bool.{Bool, true, false, cond, _&&_, and-true, and-assoc}
 use mathlib.Core.List.{List, [], _∷_, _++_}
 use Prim.Native.Nat.{ℕ, zero, suc, _+_, _*_, _/_, _%_, _^_, _≤_, _<_}
 use native.Mathlib.Omega.{arith}
 use native.Mathlib.Numerals.{add-one}
 use lib.Bits.{bitAnd, bitOr, and-mask, or-zero-l}
-use lib.Dec.{eqb, eqb·suc-zero, lit≤}
+use lib.Dec.{eqb, ltb, eqb·suc-zero, lit≤}
 use lib.ListN.{length, drop, getD, set, drop-of-length-le}
 use lib.Seq.{drop-cons}
 use borrow.Author.Tests.{ne-eqb}
@@ -20,7 +21,7 @@ use Rattle.bits.proofs.Flips.{or-none}
 use Rattle.bits.proofs.Runs.{Below, or-above}
 use Rattle.slot.specs.Part.{put}
 use Rattle.slot.specs.Slot.{four, fourAt, headBytes, withHead}
-use Rattle.slot.specs.Head.{free}
+use Rattle.slot.specs.Head.{agedHead, free}
 use Rattle.slot.specs.declared.Head.{Head}
 use Rattle.slot.proofs.Laws.{put-length, put-next, four-sets}
 
@@ -79,3 +80,24 @@ pub fold-end : (all k : ℕ) (s : List ℕ) → length s ≤ k → eqb all 0 ≡
 unfolding free
 fold-end all k s h =
     sym (ap (λ (x : List ℕ). eqb all 0 && free x) (drop-of-length-le s {i = k} h) ∙ and-true (eqb all 0))
+
+-- ---- the age, by the test that counts it
+
+-- a head with another age
+abbrev withAge : Head → ℕ → Head
+withAge h n = record {
+  address = h .address;
+  limit = h .limit;
+  age = n;
+  protection = h .protection;
+  awaited = h .awaited;
+  group = h .group;
+  gap = h .gap;
+}
+
+module _ (h : Head) where
+  pub aged-counts : (eqb (h .group) 1 && ltb (h .age) 1500) ≡ true → withAge h (h .age + 1) ≡ agedHead h
+  aged-counts e = sym (ap (λ (b : Bool). withAge h (cond b (h .age + 1) (h .age))) e)
+
+  pub aged-stays : (eqb (h .group) 1 && ltb (h .age) 1500) ≡ false → withAge h (h .age) ≡ agedHead h
+  aged-stays e = sym (ap (λ (b : Bool). withAge h (cond b (h .age + 1) (h .age))) e)

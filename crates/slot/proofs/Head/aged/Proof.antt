@@ -3,6 +3,7 @@ use native.Mathlib.Omega.{arith}
 use lib.Dec.{eqb, ltb}
 use borrow.Author.Tests.{ltb-true}
 use Rattle.bits.proofs.Search.{and-right}
+use Rattle.slot.proofs.Steps.{aged-counts, aged-stays}
 use Rattle.slot.proofs.Head.aged.Statement.{statement}
 use Rattle.slot.proofs.Head.aged.Tie as tie
 
@@ -12,10 +13,10 @@ add-self c =
     omega (arith, ltb-true (h .age) 1500 (and-right (eqb (h .group) 1) (ltb (h .age) 1500) (c .before .if1 .taken)))
 
 returns : tie.Need-returns
-returns c = rw (c .before .if1 .taken)
+returns c = aged-counts (c .before .before .before .before .args .self) (c .before .if1 .taken)
 
 returns-2 : tie.Need-returns-2
-returns-2 c = rw (c .if1 .left)
+returns-2 c = aged-stays (c .before .before .before .args .self) (c .if1 .left)
 
 pub aged-spec : {M : Type 1} → statement M
 aged-spec = tie.close (tie.spec add-self returns returns-2)
