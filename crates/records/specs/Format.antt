@@ -6,6 +6,7 @@
 --   goodHead s at     the four bytes at a place begin a record: version 1, a kind, and its length
 --   stepAt s at       what stands at a place: a record with its kind and its body's place, the end, bytes that do not suffice yet,
 --                     or a bad record
+--   recordSize step   how many bytes the record that stands at a place has, head and all; 0 where none stands
 --   recordOf kind b   a record, written
 use mathlib.Core.Bool.{Bool, cond, not, _&&_}
 use mathlib.Core.List.{List, _∷_}
@@ -32,6 +33,13 @@ stepAt s at =
     let kind = getD s (at + 3) 0 in
     cond (eqb left 0) End
     (cond (ltb left 4) More (cond (not (goodHead s at)) Bad (cond (ltb left (4 + bodySize kind)) More (Record kind (at + 4)))))
+
+-- how many bytes a record that stands at a place has, head and all; 0 where none stands
+unfoldable pub recordSize : Step → ℕ
+recordSize (Record kind body) = 4 + bodySize kind
+recordSize End = 0
+recordSize More = 0
+recordSize Bad = 0
 
 unfoldable pub recordOf : ℕ → List ℕ → List ℕ
 recordOf kind body = (2 + length body) / 256 ∷ (2 + length body) % 256 ∷ 1 ∷ kind ∷ body

@@ -7,6 +7,8 @@ ghost use Rattle.records.specs.Format.{twoAt, bodySize, goodHead, stepAt
 ghost use Rattle.records.specs.Served.{servedAnswer, servedAfter, pass};
 use table::Following;
 
+pub mod reading;
+
 // What stands at a place: a record, with its kind and where its body begins; the end; too few bytes yet; a bad record.
 pub enum Step {
     Record(u8, usize),

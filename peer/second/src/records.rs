@@ -20,15 +20,23 @@ const BODIES: [(u8, usize); 5] = [
     (ASK, 2),
 ];
 
+/// A packet call on a state.
+pub type Packet = fn(&mut [u8], &[u8]) -> u8;
+
 /// What the program prints: a first line, and a line for each record. A bad record is the last.
 pub fn answers(input: &[u8]) -> String {
+    answers_by(group::packet, input)
+}
+
+/// The same by another packet call: `fast::packet` where time counts.
+pub fn answers_by(packet: Packet, input: &[u8]) -> String {
     let mut state = [0; STATE];
     table::start(&mut state);
     let mut text = String::from("answers 1\n");
     let mut rest = input;
     let mut count = 0;
     while !rest.is_empty() {
-        let answer = next(&mut rest, &mut state);
+        let answer = next(packet, &mut rest, &mut state);
         count += 1;
         text += &format!("{count} {answer}\n");
     }
@@ -36,11 +44,11 @@ pub fn answers(input: &[u8]) -> String {
 }
 
 /// Serves the record at the start of the input and moves behind it. Behind a bad one nothing is left.
-fn next(rest: &mut &[u8], state: &mut [u8]) -> u8 {
+fn next(packet: Packet, rest: &mut &[u8], state: &mut [u8]) -> u8 {
     match record(rest) {
         Some((kind, body, behind)) => {
             *rest = behind;
-            serve(state, kind, body)
+            serve(packet, state, kind, body)
         }
         None => {
             *rest = &[];
@@ -59,9 +67,9 @@ fn record(input: &[u8]) -> Option<(u8, &[u8], &[u8])> {
     known.then_some((kind, body, behind))
 }
 
-fn serve(state: &mut [u8], kind: u8, body: &[u8]) -> u8 {
+fn serve(packet: Packet, state: &mut [u8], kind: u8, body: &[u8]) -> u8 {
     match (kind, body) {
-        (PACKET, image) => group::packet(state, image),
+        (PACKET, image) => packet(state, image),
         (SUBFRAME_END, []) => table::subframe_end(state),
         (FOLLOW, &[a, b, protection, c, d]) => {
             table::follow(state, number(a, b), protection.into(), number(c, d))

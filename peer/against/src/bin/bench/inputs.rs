@@ -1,6 +1,6 @@
 //! What both sides are given. Made from seeds, so that two runs measure the same work.
 
-use second::golay::word24;
+use second::golay::{word23, word24};
 use second::group::write_group;
 use second::image::IMAGE;
 use second::samples;
@@ -18,13 +18,22 @@ const IMAGES: usize = 256;
 
 /// Words with so many flips, each of them in another bit.
 pub fn words(flips: usize) -> Vec<u32> {
-    let mut random = Xorshift::new(41);
-    let mut word = || {
-        let mut bytes = word24(random.number() >> 20).to_le_bytes();
-        samples::flip_some(&mut random, &mut bytes, 0..24, flips);
+    damaged(41, word24, 24, flips)
+}
+
+/// Headers, without a parity bit, with so many flips.
+pub fn headers(flips: usize) -> Vec<u32> {
+    damaged(47, word23, 23, flips)
+}
+
+fn damaged(seed: u64, word: fn(u32) -> u32, width: usize, flips: usize) -> Vec<u32> {
+    let mut random = Xorshift::new(seed);
+    let mut one = || {
+        let mut bytes = word(random.number() >> 20).to_le_bytes();
+        samples::flip_some(&mut random, &mut bytes, 0..width, flips);
         u32::from_le_bytes(bytes)
     };
-    (0..WORDS).map(|_| word()).collect()
+    (0..WORDS).map(|_| one()).collect()
 }
 
 pub fn plain() -> Vec<Image> {

@@ -1,6 +1,9 @@
-//! Measures the library against `second::fast`: the same inputs, in one run, in rounds that alternate. Run by hand.
+//! Measures the library against `second::fast`, and the record program against the second one's: the same inputs, in one run, in rounds
+//! that alternate. Run by hand.
 
+mod codec2;
 mod inputs;
+mod programs;
 mod rival;
 mod rounds;
 
@@ -26,6 +29,8 @@ fn main() {
     }
     groups("write group, plain", false);
     groups("write group, protected", true);
+    codec2::measure();
+    programs::measure();
 }
 
 fn words(name: &str, words: &[u32]) {
