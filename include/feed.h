@@ -15,7 +15,8 @@
  *   24  limit not 1 to 1,500              31  a protected word can't be read
  *   25  address already followed          32  out of step
  *   26  no free slot                      33  a bare number too large
- *                                         34  state not good
+ *   44  a pair of a field is wrong        34  state, or map, not good
+ *   45  more than 128 components          46  structure unfinished            (the map)
  *
  * A call is refused with the first number of its order that applies. A refused call changes nothing that was lent to it, but for one
  * case: a packet refused with 28, 29, 30, 31 or 32 drops the unfinished group of its address and marks a gap there.
@@ -45,6 +46,15 @@
 /* The longest limit, in subframes; the last address that can be followed. */
 #define FEED_LONGEST 1500
 #define FEED_LAST_ADDRESS 1022
+
+/* A map, in bytes; a field of TDM control; the marks of a list, one for each component. */
+#define FEED_MAP 34819
+#define FEED_MAP_FIELD 10
+#define FEED_MAP_LIST 256
+/* All ones: an undefined line, an undefined clock period. The component number that announces panning vectors. */
+#define FEED_MAP_NO_LINE 1023
+#define FEED_MAP_NO_CLOCK 2047
+#define FEED_MAP_PANNING 0x81
 
 /* What ask and board text answer of an address. */
 #define FEED_NOTHING_YET 4
@@ -137,6 +147,77 @@ uint8_t feed_write_word(uint32_t information, uint32_t *word);
 uint8_t feed_read_type(uint8_t byte, uint8_t *value, uint8_t *flips);
 /* Gives back one of the four; nothing is corrected. Refused: 28. */
 uint8_t feed_write_type(uint8_t byte, uint8_t *value);
+
+/*
+ * The multiplex's map: which components there are and where they stand in the television frame, from the fields of TDM control
+ * (ETS 300 352, 4.5.4), so that a move is seen when it is announced. These calls are in libfeedmap.a, beside libfeed.a.
+ *
+ * A field is the 80 bits of a repeated data frame, corrected, as 10 bytes, lowest bit first: frame count 8, update flag 1, component 8,
+ * structure (TDMS) 62, LINKS 1. A structure's fields are handed out as numbers of eight bytes, lowest byte first, TDMS as it was sent;
+ * feed_map_unpack takes one apart. Line 1 and clock period 1 are coded 0; all ones mean undefined.
+ *
+ * Announced structures come in force at line 1 of each frame with count 2 modulo 128, the second frame behind that with count 0.
+ */
+
+/*
+ * Starts a map: every byte becomes 0, and nothing is known. It works on any contents.
+ * Refused: 20.
+ */
+uint8_t feed_map_start(uint8_t *map, size_t map_len);
+
+/*
+ * Takes in the field of one frame. Whatever was announced comes in force first, if a change falls between the last field's frame and
+ * this one's, by their counts modulo 128: so no more than 127 frames may be missed in a row. A field with the last one's count is one
+ * of the same frame's five blocks: it changes nothing. Panning vectors only move the count.
+ * Refused, in this order, and then the map stays as it was: 20, 34, 44 (first after last, or last alone all ones; panning vectors
+ * never), 45 (a further component where its set, old or new, has 128).
+ */
+uint8_t feed_map_take(uint8_t *map, size_t map_len, const uint8_t *field, size_t field_len);
+
+/*
+ * What is known of a component in the frame with a count, which is taken as the next frame with it modulo 128, from the last field's
+ * frame on: the last count itself asks for the frame that has ended, the next one for the frame that runs, further ones for what is
+ * announced. With 0 the structure's fields are the part of the map from *at on, *len bytes long, eight bytes a field in rising order;
+ * where *len is 0 there is no such component. The part is good until the map is next changed.
+ * *announced is 1 where something new was said of the component since the last change, and then *frames is in how many frames behind
+ * the last field's the change comes, 1 to 128; both are given with 46, too.
+ * Refused, in this order: 20, 34, 46 (fields were heard, but it is not known that these are all: that is known when the first of them
+ * comes again, and of announced ones at the change, if every frame since the change before was heard).
+ */
+uint8_t feed_map_show(const uint8_t *map, size_t map_len, uint8_t id, uint8_t count, size_t *at, size_t *len, uint8_t *announced,
+                      uint8_t *frames);
+
+/*
+ * A mark for each component in the frame with a count, as feed_map_show has it: out[id] is 1 where its structure is whole, 2 where it
+ * is unfinished, 0 where there is none. out_len is 256.
+ * Refused, in this order, and then out stays as it was: 20, 34.
+ */
+uint8_t feed_map_list(const uint8_t *map, size_t map_len, uint8_t count, uint8_t *out, size_t out_len);
+
+/*
+ * A field, taken apart.
+ * Refused: 20, and then every value is 0.
+ */
+uint8_t feed_map_read(const uint8_t *field, size_t field_len, uint8_t *count, uint8_t *flag, uint8_t *id, uint64_t *tdms,
+                      uint8_t *links);
+
+/*
+ * A field, written; what was written is read as what went in. out_len is 10.
+ * Refused, in this order, and then out stays as it was: 20, 33 (flag or links above 1, tdms of more than 62 bits), 44 as above.
+ */
+uint8_t feed_map_write(uint8_t count, uint8_t flag, uint8_t id, uint64_t tdms, uint8_t links, uint8_t *out, size_t out_len);
+
+/*
+ * The six numbers of a structure's field as TDMS: first and last line of two subframes, first and last clock period.
+ * Refused: 33 (a line above 1,023, a clock period above 2,047), and then *tdms is 0.
+ */
+uint8_t feed_map_pack(uint32_t fln1, uint32_t lln1, uint32_t fln2, uint32_t lln2, uint32_t fcp, uint32_t lcp, uint64_t *tdms);
+
+/*
+ * TDMS as its six numbers.
+ * Refused: 33 (more than 62 bits), and then every number is 0.
+ */
+uint8_t feed_map_unpack(uint64_t tdms, uint32_t *fln1, uint32_t *lln1, uint32_t *fln2, uint32_t *lln2, uint32_t *fcp, uint32_t *lcp);
 
 #ifdef __cplusplus
 }

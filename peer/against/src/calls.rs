@@ -1,7 +1,7 @@
 //! The library's calls on a lent state, and its group writer, behind safe functions over slices of any length: what is
 //! right about a length is the library's to say.
 
-use crate::MARK;
+use crate::{MARK, MARK_SIZE};
 use second::table::Lent;
 
 extern "C" {
@@ -42,9 +42,6 @@ extern "C" {
         output_len: usize,
     ) -> u8;
 }
-
-/// The mark: no place in a lent buffer, and no length of one.
-const MARK_SIZE: usize = 0xA5A5_A5A5;
 
 pub fn start(state: &mut [u8]) -> u8 {
     // SAFETY: the call writes the state within its length, and it is borrowed alone.

@@ -3,12 +3,13 @@
 //! Every value that the library has to write is set to a mark before the call. A call that leaves one alone, even in a
 //! refusal, then differs from the other implementations.
 //!
-//! Here are the bare readings and writings. The calls on a state of any length are in `calls`; `feed` is what a program
-//! in Rust would use, and `both` is for the differential tests.
+//! Here are the bare readings and writings. The calls on a state of any length are in `calls`, those on the multiplex's
+//! map in `map`; `feed` is what a program in Rust would use, and `both` is for the differential tests.
 
 pub mod both;
 pub mod calls;
 pub mod feed;
+pub mod map;
 
 use second::image::{Received, USEFUL};
 
@@ -34,6 +35,9 @@ extern "C" {
 pub const MARK: u8 = 0xA5;
 const MARK16: u16 = 0xA5A5;
 const MARK32: u32 = 0xA5A5_A5A5;
+const MARK64: u64 = 0xA5A5_A5A5_A5A5_A5A5;
+/// The mark: no place in a lent buffer, and no length of one.
+const MARK_SIZE: usize = 0xA5A5_A5A5;
 
 /// (number, address, index, flips)
 pub fn read_header(n: u32) -> (u8, u16, u8, u8) {

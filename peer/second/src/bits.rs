@@ -12,6 +12,17 @@ pub fn to_number(row: &[bool]) -> u32 {
         .fold(0, |number, &bit| number * 2 + u32::from(bit))
 }
 
+/// The same two for numbers of up to 64 bits.
+pub fn of_wide(number: u64, count: usize) -> Vec<bool> {
+    (0..count).map(|k| number >> k & 1 == 1).collect()
+}
+
+pub fn to_wide(row: &[bool]) -> u64 {
+    row.iter()
+        .rev()
+        .fold(0, |number, &bit| number * 2 + u64::from(bit))
+}
+
 /// All bits of some bytes, in sending order.
 pub fn of_bytes(bytes: &[u8]) -> Vec<bool> {
     bytes
@@ -45,6 +56,14 @@ mod tests {
     fn lowest_bit_is_sent_first() {
         assert_eq!(of_number(0b0001, 4), [true, false, false, false]);
         assert_eq!(to_number(&[false, false, true]), 4);
+    }
+
+    #[test]
+    fn wide_numbers_come_back() {
+        for number in [0, 1, 0x8000_0001_0000_0002, u64::MAX] {
+            assert_eq!(to_wide(&of_wide(number, 64)), number);
+        }
+        assert_eq!(of_wide(1 << 62, 62), [false; 62]);
     }
 
     #[test]

@@ -2,8 +2,8 @@
 //!
 //! It goes another way than the library it is held against: words are made by long division of polynomials written
 //! out as coefficients and read by looking through all 4,096 words, an image is a row of 752 bits, and the state is
-//! taken out of its bytes, changed as a row of values and put back, in every call. It is slow and short, so that it can
-//! be checked by eye against the standard and the paper.
+//! taken out of its bytes, changed as a row of values and put back, in every call; so is the multiplex's map. It is slow
+//! and short, so that it can be checked by eye against the standard and the paper.
 //!
 //! Three modules are not part of that reading: `fast` is a rival for measuring, `samples` and `xorshift` make inputs
 //! for tests.
@@ -15,6 +15,7 @@ pub mod fast;
 pub mod golay;
 pub mod group;
 pub mod image;
+pub mod map;
 pub mod numbers;
 pub mod records;
 pub mod samples;

@@ -46,6 +46,12 @@ pub const TOO_LARGE: u8 = 33;
 pub const NOT_GOOD: u8 = 34;
 /// A record is bad, or the input ends inside it.
 pub const BAD_RECORD: u8 = 35;
+/// The first of a pair of lines or clock periods is behind its last, or the last alone is all ones.
+pub const BAD_PAIR: u8 = 44;
+/// The component is not in its set, and the set is full.
+pub const TOO_MANY: u8 = 45;
+/// Of the structure asked for, only a part is known.
+pub const UNFINISHED: u8 = 46;
 
 /// Refuses with a number unless something holds. A call is a row of these, in the order of its refusals.
 pub fn refuse_unless(holds: bool, number: u8) -> Result<(), u8> {

@@ -71,7 +71,11 @@ impl fmt::Display for Refusal {
             30 => "the data is scrambled",
             31 => "a protected word cannot be read",
             32 => "the packet is out of step",
+            33 => "a number has too many bits",
             34 => "the state is not good",
+            44 => "a pair of lines or clock periods is bad",
+            45 => "there are too many components",
+            46 => "the structure is not known to be whole",
             _ => "a number that no call gives",
         };
         write!(text, "{reason} ({})", self.0)

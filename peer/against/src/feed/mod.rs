@@ -1,11 +1,14 @@
 //! The library as a program in Rust would use it: a type that owns a state, answers as enums, refusals as errors.
 //!
 //! A `Feed` is good from its making on, and every call keeps it so. The refusals 20 and 34 for the state therefore
-//! cannot occur; those that remain stand at each call. For an example, see the first of the tests in tests/feed.rs.
+//! cannot occur; those that remain stand at each call. For an example, see the first of the tests in tests/feed.rs. So
+//! it is with a `Map`, the multiplex's map.
 
 mod answers;
+mod map;
 
 pub use answers::{Protection, Refusal, Taken, Worth};
+pub use map::{Map, Structure};
 
 use crate::calls;
 use answers::{accepted, worth};

@@ -1,8 +1,11 @@
 //! Inputs for differential tests, all made from a seed: images here, sound ones, damaged ones and noise; states made by
-//! hand and calls in the folder.
+//! hand and calls in the folder; and for the multiplex's map lawful broadcasts, and fields and maps of any sort.
 
+pub mod broadcast;
 pub mod calls;
+pub mod maps;
 pub mod states;
+pub mod structures;
 
 use crate::image::{self, HEADER_AT, IMAGE, PROTECTED, TYPE_AT, USEFUL, USEFUL_AT, WORD};
 use crate::types::{DATA, TYPES};

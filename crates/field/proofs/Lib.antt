@@ -1,0 +1,7 @@
+pub mod Bytes
+pub mod Determined
+pub mod Eight
+pub mod Laws
+pub mod RoundTrip
+pub mod Rows
+pub mod Steps

@@ -1,0 +1,252 @@
+-- What a change does: every announced structure is put in force, once.
+--
+--   changed-length        a component's block keeps its length
+--   from-*                the loop over all components: each block is changed, and nothing else
+--   stays .. settled      what is in force and announced behind a change, by what was announced
+--
+-- Assumes nothing.
+use mathlib.Core.Path.{_≡_, refl, sym, ap, ap₂, _∙_, subst}
+use mathlib.Core.Bool.{Bool, true, false, cond, _&&_, _||_}
+use mathlib.Core.List.{List, [], _∷_, _++_}
+use Prim.Native.Nat.{ℕ, zero, suc, _+_, _-_, _*_, _≤_, _<_}
+use native.Mathlib.Omega.{arith}
+use native.Mathlib.Decide.{ℕ-discrete}
+use borrow.Author.Tests.{ne-eqb, le-leb, lt-ltb, eqb-true}
+use lib.Dec.{leb, ltb, eqb, lit<, lit≤}
+use lib.ListN.{length, take, length-append}
+use lib.Seq.{drop-append-le, take-at, drop-at}
+use Rattle.bits.specs.Bits.{blank}
+use Rattle.bits.proofs.Storing.{blank-length, drop-blank}
+use Rattle.slot.specs.Part.{part, put}
+use Rattle.slot.proofs.Laws.{part-length, put-length, blank-at}
+use Rattle.structure.specs.Structure.{most, structureSize, headOf, withHead, settledHead}
+use Rattle.map.specs.Map.{ids, mapSize, blockSize, framesOf, blockAt, withBlock, structureAt, movedDown, changed, changedFrom}
+use Rattle.structure.specs.declared.Structure.{Structure}
+use Rattle.map.proofs.Places.{structure-length, block-length, block-structure, block-same, block-other, block-frames, with-block-length}
+use Rattle.structure.proofs.Gathering.{Holds, Empty, head-stored, nth-head, with-head-length}
+
+-- ---- blank structures
+
+pub blank-empty : (s : List ℕ) → s ≡ blank structureSize → Empty s
+unfolding headOf
+blank-empty s e =
+    subst Empty (sym e) (record {
+      size = blank-length structureSize;
+      fields = blank-at structureSize 0;
+      whole = blank-at structureSize 1;
+      deleted = blank-at structureSize 3;
+      links = omega (arith, blank-at structureSize 2);
+    })
+
+take-blank : (n m : ℕ) → n ≤ m → take n (blank m) ≡ blank n
+unfolding blank
+take-blank zero m h = refl
+take-blank (suc n) zero h = absurd (omega arith)
+take-blank (suc n) (suc m) h = ap (λ (x : List ℕ). 0 ∷ x) (take-blank n m (omega arith))
+
+pub part-blank : (at n k : ℕ) → at + n ≤ k → part at n (blank k) ≡ blank n
+unfolding part
+part-blank at n k h = ap (take n) (drop-blank at k) ∙ take-blank n (k - at) (omega arith)
+
+-- ---- one block
+
+abbrev pub comingIn : List ℕ → List ℕ
+comingIn b = part structureSize structureSize b
+
+module _ (sure : Bool) (b : List ℕ) (lb : length b ≡ blockSize) where
+  coming-length : length (comingIn b) ≡ structureSize
+  coming-length = part-length structureSize structureSize b (omega arith)
+
+  pub unsaid : headOf (comingIn b) .fields ≡ 0 → headOf (comingIn b) .deleted ≡ 0 → changed sure b ≡ b
+  unfolding changed
+  unsaid f d =
+      λ i. cond (eqb (d i) 1) (blank blockSize) (cond (eqb (f i) 0) b (withHead (settledHead sure (headOf (comingIn b))) (movedDown b)))
+
+  pub deletes : headOf (comingIn b) .deleted ≡ 1 → changed sure b ≡ blank blockSize
+  unfolding changed
+  deletes d =
+      λ i. cond (eqb (d i) 1) (blank blockSize)
+      (cond (eqb (headOf (comingIn b) .fields) 0) b (withHead (settledHead sure (headOf (comingIn b))) (movedDown b)))
+
+  -- the announced structure with its marks, and nothing announced
+  pub lists : 0 < headOf (comingIn b) .fields → headOf (comingIn b) .deleted ≡ 0
+      → changed sure b ≡ withHead (settledHead sure (headOf (comingIn b))) (comingIn b) ++ blank structureSize
+  unfolding changed movedDown withHead put
+  lists f d =
+      let h : Structure = settledHead sure (headOf (comingIn b)) in
+      let e : eqb (headOf (comingIn b) .fields) 0 ≡ false = ne-eqb (headOf (comingIn b) .fields) 0 (λ z. omega (arith, z)) in
+      (λ i. cond (eqb (d i) 1) (blank blockSize) (cond (e i) b (withHead h (movedDown b))))
+      ∙ ap (λ (x : List ℕ). (h .fields ∷ h .whole ∷ h .links ∷ h .deleted ∷ []) ++ x)
+      (drop-append-le 4 (comingIn b) (blank structureSize) (omega (arith, coming-length)))
+
+  pub changed-length : length (changed sure b) ≡ blockSize
+  unfolding changed movedDown withHead
+  changed-length = go (eqb (headOf (comingIn b) .deleted) 1) (eqb (headOf (comingIn b) .fields) 0)
+    where
+      moved : length (comingIn b ++ blank structureSize) ≡ blockSize
+      moved = length-append (comingIn b) (blank structureSize) ∙ ap₂ _+_ coming-length (blank-length structureSize)
+
+      h : Structure
+      h = settledHead sure (headOf (comingIn b))
+
+      go : (x y : Bool) → length (cond x (blank blockSize) (cond y b
+          (put 0 4 (h .fields ∷ h .whole ∷ h .links ∷ h .deleted ∷ []) (comingIn b ++ blank structureSize)))) ≡ blockSize
+      go true y = blank-length blockSize
+      go false true = lb
+      go false false =
+          put-length 0 4 (h .fields ∷ h .whole ∷ h .links ∷ h .deleted ∷ []) (comingIn b ++ blank structureSize) (omega (arith, moved)) refl
+          ∙ moved
+
+-- ---- all blocks
+
+module _ (sure : Bool) where
+  module _ (k : ℕ) (hk : k < ids) (m : List ℕ) (l : length m ≡ mapSize) where
+    lc : length (changed sure (blockAt k m)) ≡ blockSize
+    lc = changed-length sure (blockAt k m) (block-length m l k hk)
+
+    step-length : length (withBlock k (changed sure (blockAt k m)) m) ≡ mapSize
+    step-length = with-block-length m l k (changed sure (blockAt k m)) hk lc
+
+  pub from-length : (n k : ℕ) (m : List ℕ) → k + n ≤ ids → length m ≡ mapSize → length (changedFrom n k sure m) ≡ mapSize
+  unfolding changedFrom
+  from-length zero k m h l = l
+  from-length (suc n) k m h l = from-length n (suc k) _ (omega arith) (step-length k (omega arith) m l)
+
+  pub from-frames : (n k : ℕ) (m : List ℕ) → k + n ≤ ids → length m ≡ mapSize → framesOf (changedFrom n k sure m) ≡ framesOf m
+  unfolding changedFrom
+  from-frames zero k m h l = refl
+  from-frames (suc n) k m h l =
+      from-frames n (suc k) _ (omega arith) (step-length k (omega arith) m l)
+      ∙ block-frames m l k (changed sure (blockAt k m)) (omega arith) (lc k (omega arith) m l)
+
+  from-before : (n k : ℕ) (m : List ℕ) → k + n ≤ ids → length m ≡ mapSize → (j : ℕ) → j < k → blockAt j (changedFrom n k sure m) ≡ blockAt j m
+  unfolding changedFrom
+  from-before zero k m h l j hj = refl
+  from-before (suc n) k m h l j hj =
+      from-before n (suc k) _ (omega arith) (step-length k (omega arith) m l) j (omega arith)
+      ∙ block-other m l k (changed sure (blockAt k m)) (omega arith) (lc k (omega arith) m l) j (λ z. omega (arith, z))
+
+  pub from-at : (n k : ℕ) (m : List ℕ) → k + n ≤ ids → length m ≡ mapSize → (j : ℕ) → k ≤ j → j < k + n
+      → blockAt j (changedFrom n k sure m) ≡ changed sure (blockAt j m)
+  unfolding changedFrom
+  from-at zero k m h l j hk hj = absurd (omega arith)
+  from-at (suc n) k m h l j hk hj =
+      go (ℕ-discrete j k)
+      (λ lo. from-at n (suc k) (withBlock k (changed sure (blockAt k m)) m) (omega arith) (step-length k (omega arith) m l) j lo (omega arith))
+    where
+      lk : length (changed sure (blockAt k m)) ≡ blockSize
+      lk = lc k (omega arith) m l
+
+      next : List ℕ
+      next = withBlock k (changed sure (blockAt k m)) m
+
+      go : Dec (j ≡ k) → (suc k ≤ j → blockAt j (changedFrom n (suc k) sure next) ≡ changed sure (blockAt j next))
+          → blockAt j (changedFrom n (suc k) sure next) ≡ changed sure (blockAt j m)
+      go (yes e) rest =
+          from-before n (suc k) next (omega arith) (step-length k (omega arith) m l) j (omega arith)
+          ∙ subst (λ (x : ℕ). blockAt x next ≡ changed sure (blockAt x m)) (sym e)
+          (block-same m l k (changed sure (blockAt k m)) (omega arith) lk)
+      go (no e) rest =
+          rest (omega arith) ∙ ap (changed sure) (block-other m l k (changed sure (blockAt k m)) (omega arith) lk j e)
+
+-- ---- a component behind a change
+
+module _ (sure : Bool) (m : List ℕ) (l : length m ≡ mapSize) (k : ℕ) (hk : k < ids) where
+  lb : length (blockAt k m) ≡ blockSize
+  lb = block-length m l k hk
+
+  coming-is : comingIn (blockAt k m) ≡ structureAt k 1 m
+  coming-is = block-structure m l k hk 1 (lit< tt)
+
+  behind : (w : ℕ) → w < 2 → structureAt k w (changedFrom ids 0 sure m) ≡ part (w * structureSize) structureSize (changed sure (blockAt k m))
+  behind w hw =
+      sym (block-structure (changedFrom ids 0 sure m) (from-length sure ids 0 m (lit≤ tt) l) k hk w hw)
+      ∙ ap (part (w * structureSize) structureSize) (from-at sure ids 0 m (lit≤ tt) l k (omega arith) hk)
+
+  -- nothing was announced
+  pub stays : headOf (structureAt k 1 m) .fields ≡ 0 → headOf (structureAt k 1 m) .deleted ≡ 0 → (w : ℕ) → w < 2
+      → structureAt k w (changedFrom ids 0 sure m) ≡ structureAt k w m
+  stays f d w hw =
+      behind w hw
+      ∙ ap (part (w * structureSize) structureSize)
+      (unsaid sure (blockAt k m) lb (ap (λ (x : List ℕ). headOf x .fields) coming-is ∙ f) (ap (λ (x : List ℕ). headOf x .deleted) coming-is ∙ d))
+      ∙ block-structure m l k hk w hw
+
+  -- a deletion was announced
+  module _ (d : headOf (structureAt k 1 m) .deleted ≡ 1) (w : ℕ) (hw : w < 2) where
+    pub gone : structureAt k w (changedFrom ids 0 sure m) ≡ blank structureSize
+    gone =
+        behind w hw
+        ∙ ap (part (w * structureSize) structureSize) (deletes sure (blockAt k m) lb (ap (λ (x : List ℕ). headOf x .deleted) coming-is ∙ d))
+        ∙ part-blank (w * structureSize) structureSize blockSize (omega arith)
+
+    pub goes : Empty (structureAt k w (changedFrom ids 0 sure m))
+    goes = blank-empty _ gone
+
+  -- a structure was announced
+  module _ (pos : 0 < headOf (structureAt k 1 m) .fields) (d : headOf (structureAt k 1 m) .deleted ≡ 0) where
+    listed : changed sure (blockAt k m) ≡ withHead (settledHead sure (headOf (structureAt k 1 m))) (structureAt k 1 m) ++ blank structureSize
+    listed =
+        lists sure (blockAt k m) lb
+        (subst (λ (x : List ℕ). 0 < headOf x .fields) (sym coming-is) pos)
+        (ap (λ (x : List ℕ). headOf x .deleted) coming-is ∙ d)
+        ∙ ap (λ (x : List ℕ). withHead (settledHead sure (headOf x)) x ++ blank structureSize) coming-is
+
+    lh : length (withHead (settledHead sure (headOf (structureAt k 1 m))) (structureAt k 1 m)) ≡ structureSize
+    lh = with-head-length (structureAt k 1 m) (structure-length m l k 1 hk (lit< tt)) (settledHead sure (headOf (structureAt k 1 m)))
+
+    pub cleared : structureAt k 1 (changedFrom ids 0 sure m) ≡ blank structureSize
+    unfolding part
+    cleared =
+        behind 1 (lit< tt) ∙ ap (part structureSize structureSize) listed
+        ∙ ap (take structureSize)
+        (drop-at (withHead (settledHead sure (headOf (structureAt k 1 m))) (structureAt k 1 m)) (blank structureSize) structureSize lh)
+        ∙ take-blank structureSize structureSize (lit≤ tt)
+
+    pub in-force : structureAt k 0 (changedFrom ids 0 sure m) ≡ withHead (settledHead sure (headOf (structureAt k 1 m))) (structureAt k 1 m)
+    unfolding part
+    in-force =
+        behind 0 (lit< tt) ∙ ap (part 0 structureSize) listed
+        ∙ take-at (withHead (settledHead sure (headOf (structureAt k 1 m))) (structureAt k 1 m)) (blank structureSize) structureSize lh
+
+    pub in-force-fields : headOf (structureAt k 0 (changedFrom ids 0 sure m)) .fields ≡ headOf (structureAt k 1 m) .fields
+    unfolding settledHead
+    in-force-fields =
+        ap (λ (x : List ℕ). headOf x .fields) in-force
+        ∙ ap (λ (x : Structure). x .fields)
+        (head-stored (structureAt k 1 m) (structure-length m l k 1 hk (lit< tt)) (settledHead sure (headOf (structureAt k 1 m))))
+
+  module _ (n : ℕ) (xs : List ℕ) (v r : ℕ) (h : Holds (structureAt k 1 m) n xs v r) (pos : 0 < n) where
+    some : 0 < headOf (structureAt k 1 m) .fields
+    some = omega (arith, h .fields)
+
+    pub emptied : Empty (structureAt k 1 (changedFrom ids 0 sure m))
+    emptied = blank-empty _ (cleared some (h .deleted))
+
+    -- nothing of it is missing, or it was known to be whole
+    pub settled : (sure || eqb v 1) ≡ true → n ≤ most → Holds (structureAt k 0 (changedFrom ids 0 sure m)) n xs 1 r
+    unfolding settledHead
+    settled su few = subst (λ (x : List ℕ). Holds x n xs 1 r) (sym (in-force some (h .deleted))) made
+      where
+        a : List ℕ
+        a = structureAt k 1 m
+
+        head : headOf (withHead (settledHead sure (headOf a)) a) ≡ settledHead sure (headOf a)
+        head = head-stored a (h .size) (settledHead sure (headOf a))
+
+        fits : (ltb 0 (headOf a .fields) && leb (headOf a .fields) most) ≡ true
+        fits = λ i. lt-ltb 0 (headOf a .fields) (omega (arith, h .fields)) i && le-leb (headOf a .fields) most (omega (arith, h .fields)) i
+
+        marked : (q : Bool) → (q || eqb v 1) ≡ true → cond (q && (ltb 0 (headOf a .fields) && leb (headOf a .fields) most)) 1 (headOf a .whole) ≡ 1
+        marked true e = ap (λ (x : Bool). cond x 1 (headOf a .whole)) fits
+        marked false e = h .whole ∙ eqb-true v 1 e
+
+        made : Holds (withHead (settledHead sure (headOf a)) a) n xs 1 r
+        made = record {
+          size = with-head-length a (h .size) (settledHead sure (headOf a));
+          fields = ap (λ (x : Structure). x .fields) head ∙ h .fields;
+          whole = ap (λ (x : Structure). x .whole) head ∙ marked sure su;
+          links = ap (λ (x : Structure). x .links) head ∙ h .links;
+          deleted = ap (λ (x : Structure). x .deleted) head;
+          each = λ i hi. nth-head a (h .size) (settledHead sure (headOf a)) i ∙ h .each i hi;
+        }

@@ -1,0 +1,177 @@
+-- What the calls' code does, against their definitions.
+--
+--   refused, accepted            a call that answers first and changes the bytes after: its answer with the bytes after
+--   start-refused, start-passed  start's one row, by the test of the length
+--   show-refused, show-found     what is shown, by the answer of the rows
+--   list-20, list-rest           the rows of a list; out-size: the length where the first does not hold
+--   marks-turn, marks-end        a turn and the end of the loop that stores the marks
+--   Fits, fits                   the lengths where a field is not refused; flag-lt: its flag is one bit
+--   changed-to, kept-to          the changes up to a field's frame; up-to-length: they keep the map's length
+--   taken-none                   panning vectors change no structure
+--   frame-again, frame-taken     a field taken in
+--
+-- Assumes nothing.
+use mathlib.Core.Path.{_≡_, refl, sym, ap, ap₂, _∙_, subst}
+use mathlib.Core.Bool.{Bool, true, false, cond, not, _||_}
+use mathlib.Core.List.{List, [], _∷_}
+use Prim.Native.Nat.{ℕ, zero, suc, _+_, _≤_, _<_}
+use native.Mathlib.Omega.{arith}
+use native.Mathlib.Nat.{add-zero, zero-add}
+use native.Mathlib.Numerals.{add-one}
+use borrow.Author.Tests.{eq-eqb, ne-eqb, eqb-true, not-false}
+use lib.Dec.{eqb}
+use lib.ListN.{length, take, getD, set}
+use Rattle.bits.specs.Rows.{Row, row, refusal, done}
+use Rattle.bits.specs.Bits.{sent}
+use Rattle.bits.proofs.Runs.{digit-lt, sent-below}
+use Rattle.bits.proofs.Storing.{stored, agreed}
+use Rattle.bits.proofs.Rows.{refusal-hit, refusal-miss, done-refused, done-passed}
+use Rattle.field.specs.Field.{fieldSize, bitsAt, fieldOf, panning}
+use Rattle.field.specs.declared.Field.{Field}
+use Rattle.map.specs.Map.{ids, mapSize, framesOf, withFrames, structureAt, withStructure, good, changedFrom}
+use Rattle.map.specs.Calls.{startAnswer, changing, again, takeAnswer, sureAt, framesAfter, upTo, putIn, takenIn, frameTaken, showAnswer, shownAt, shownBy, shown, markOf, marks, listAnswer}
+use Rattle.map.specs.declared.Frames.{Frames}
+use Rattle.map.specs.declared.Shown.{Shown}
+use Rattle.map.proofs.Changing.{from-length}
+use Rattle.map.proofs.Looking.{neither, take-fit, map-size, field-size}
+
+-- ---- the answer first, then the change
+
+module _ (r n : ℕ) (after before : List ℕ) (e : r ≡ n) where
+  pub refused : (r ≡ 0 → ⊥) → (r ≡ n) × (before ≡ done n after before)
+  refused ne = (e, sym (done-refused n after before (λ z. ne (e ∙ z))))
+
+  pub accepted : (now : List ℕ) → r ≡ 0 → now ≡ after → (0 ≡ n) × (now ≡ done n after before)
+  accepted now z q = (sym z ∙ e, q ∙ sym (done-passed n after before (sym e ∙ z)))
+
+pub start-refused : (m : List ℕ) → (length m ≡ mapSize → ⊥) → 20 ≡ startAnswer m
+unfolding startAnswer
+start-refused m ne = sym (refusal-hit (not (eqb (length m) mapSize)) 20 [] (ap not (ne-eqb (length m) mapSize ne)))
+
+pub start-passed : (m : List ℕ) → length m ≡ mapSize → 0 ≡ startAnswer m
+unfolding startAnswer refusal
+start-passed m e = sym (refusal-miss (not (eqb (length m) mapSize)) 20 [] (ap not (eq-eqb (length m) mapSize e)))
+
+-- ---- what is shown
+
+abbrev pub bare : ℕ → Shown
+bare n = record { number = n; at = 0; len = 0; announced = 0; frames = 0 }
+
+module _ (m : List ℕ) (id count r : ℕ) (e : r ≡ showAnswer m) where
+  pub show-refused : (r ≡ 0 → ⊥) → bare r ≡ shown m id count
+  unfolding shown shownBy
+  show-refused ne = ap bare e ∙ go (showAnswer m) e
+    where
+      go : (n : ℕ) → r ≡ n → bare n ≡ shownBy n (shownAt m id count)
+      go zero q = absurd (ne q)
+      go (suc n) q = refl
+
+  pub show-found : r ≡ 0 → (x : Shown) → x ≡ shownAt m id count → x ≡ shown m id count
+  unfolding shown shownBy
+  show-found z x q = q ∙ ap (λ (n : ℕ). shownBy n (shownAt m id count)) (sym z ∙ e)
+
+-- ---- the list
+
+module _ (m out : List ℕ) where
+  abbrev misfit : Bool
+  misfit = not (eqb (length m) mapSize) || not (eqb (length out) ids)
+
+  abbrev after20 : List Row
+  after20 = row (not (good m)) 34 ∷ []
+
+  pub list-20 : misfit ≡ true → 20 ≡ listAnswer m out
+  unfolding listAnswer
+  list-20 t = sym (refusal-hit misfit 20 after20 t)
+
+  module _ (fit : misfit ≡ false) where
+    pub out-size : length out ≡ ids
+    out-size = eqb-true (length out) ids (not-false (eqb (length out) ids) (neither (not (eqb (length m) mapSize)) (not (eqb (length out) ids)) fit .1))
+
+    -- the row 34 is that of what is shown
+    pub list-rest : (r : ℕ) → r ≡ showAnswer m → r ≡ listAnswer m out
+    unfolding showAnswer listAnswer
+    list-rest r e =
+        e ∙ refusal-miss (not (eqb (length m) mapSize)) 20 after20 (neither (not (eqb (length m) mapSize)) (not (eqb (length out) ids)) fit .0)
+        ∙ sym (refusal-miss misfit 20 after20 fit)
+
+module _ (m : List ℕ) (count : ℕ) where
+  marks-length : (n k : ℕ) → length (marks n k m count) ≡ n
+  unfolding marks
+  marks-length zero k = refl
+  marks-length (suc n) k = ap suc (marks-length n (suc k))
+
+  mark-at : (n k j : ℕ) → j < n → getD (marks n k m count) j 0 ≡ markOf (shownAt m (k + j) count)
+  unfolding marks
+  mark-at zero k j h = absurd (omega arith)
+  mark-at (suc n) k zero h = ap (λ (x : ℕ). markOf (shownAt m x count)) (sym (add-zero k))
+  mark-at (suc n) k (suc j) h =
+      let e : suc k + j ≡ k + suc j = omega arith in
+      mark-at n (suc k) j (omega arith) ∙ ap (λ (x : ℕ). markOf (shownAt m x count)) e
+
+pub marks-turn : (m out : List ℕ) (count id v : ℕ) → length out ≡ ids → id < ids → take id out ≡ take id (marks ids 0 m count)
+    → v ≡ markOf (shownAt m id count) → take (id + 1) (set out id v) ≡ take (id + 1) (marks ids 0 m count)
+marks-turn m out count id v l h e q =
+    stored out (marks ids 0 m count) id (id + 1) v e (omega arith) (omega (arith, marks-length m count ids 0)) (add-one id)
+    (q ∙ sym (mark-at m count ids 0 id h ∙ ap (λ (x : ℕ). markOf (shownAt m x count)) (zero-add id)))
+
+pub marks-end : (m out : List ℕ) (count id : ℕ) → ids ≤ id → length out ≡ ids → take id out ≡ take id (marks ids 0 m count) → out ≡ marks ids 0 m count
+marks-end m out count id h l e = agreed out (marks ids 0 m count) ids id e l (marks-length m count ids 0) h
+
+-- ---- a field taken in
+
+pub record Fits (m f : List ℕ) : Type 0 where
+  pub size : length m ≡ mapSize
+  pub field-size : length f ≡ fieldSize
+
+pub fits : (m f : List ℕ) (r : ℕ) → r ≡ takeAnswer m f → r ≡ 0 → Fits m f
+fits m f r e z =
+    let fit = take-fit m f (sym e ∙ z) in
+    record { size = map-size m f fit; field-size = field-size m f fit }
+
+pub flag-lt : (f : List ℕ) (r : Field) → r ≡ fieldOf f → r .flag < 2
+unfolding fieldOf bitsAt
+flag-lt f r e = subst (λ (x : Field). x .flag < 2) (sym e) (digit-lt 1 8 (sent 8 f) (sent-below 8 f))
+
+module _ (m : List ℕ) (h : Frames) (eh : h ≡ framesOf m) (n : ℕ) (b : Bool) (eb : b ≡ changing h n) where
+  by-change : (t : Bool) → b ≡ t → cond t (changedFrom ids 0 (sureAt (framesOf m) n) m) m ≡ upTo m n
+  unfolding upTo
+  by-change t q =
+      ap (λ (x : Bool). cond x (changedFrom ids 0 (sureAt (framesOf m) n) m) m) (sym q ∙ eb ∙ ap (λ (g : Frames). changing g n) eh)
+
+  pub changed-to : b ≡ true → (s : Bool) → s ≡ sureAt h n → (x : List ℕ) → x ≡ changedFrom ids 0 s m → x ≡ upTo m n
+  changed-to q s es x e =
+      e ∙ ap (λ (v : Bool). changedFrom ids 0 v m) (es ∙ ap (λ (g : Frames). sureAt g n) eh) ∙ by-change true q
+
+  pub kept-to : b ≡ false → m ≡ upTo m n
+  kept-to q = by-change false q
+
+pub up-to-length : (m : List ℕ) (n : ℕ) → length m ≡ mapSize → length (upTo m n) ≡ mapSize
+unfolding upTo
+up-to-length m n l = go (changing (framesOf m) n)
+  where
+    go : (b : Bool) → length (cond b (changedFrom ids 0 (sureAt (framesOf m) n) m) m) ≡ mapSize
+    go true = from-length (sureAt (framesOf m) n) ids 0 m (omega arith) l
+    go false = l
+
+pub taken-none : (r : Field) (m : List ℕ) → r .id ≡ panning → m ≡ takenIn r m
+unfolding takenIn
+taken-none r m e =
+    sym (ap (λ (b : Bool). cond b m (withStructure (r .id) (r .flag) (putIn r (structureAt (r .id) (r .flag) m)) m)) (eq-eqb (r .id) panning e))
+
+module _ (m : List ℕ) (r : Field) (h : Frames) (eh : h ≡ framesOf m) (b : Bool) (eb : b ≡ again h (r .count)) where
+  by-again : (t : Bool) → b ≡ t
+      → cond t m (withFrames (framesAfter (framesOf m) (r .count)) (takenIn r (upTo m (r .count)))) ≡ frameTaken m r
+  unfolding frameTaken
+  by-again t q =
+      ap (λ (x : Bool). cond x m (withFrames (framesAfter (framesOf m) (r .count)) (takenIn r (upTo m (r .count)))))
+      (sym q ∙ eb ∙ ap (λ (g : Frames). again g (r .count)) eh)
+
+  pub frame-again : b ≡ true → m ≡ frameTaken m r
+  frame-again q = by-again true q
+
+  pub frame-taken : b ≡ false → (x y z : List ℕ) (g : Frames) → x ≡ upTo m (r .count) → y ≡ takenIn r x → g ≡ framesAfter h (r .count)
+      → z ≡ withFrames g y → z ≡ frameTaken m r
+  frame-taken q x y z g ex ey eg ez =
+      ez
+      ∙ ap₂ withFrames (eg ∙ ap (λ (k : Frames). framesAfter k (r .count)) eh) (ey ∙ ap (takenIn r) ex)
+      ∙ by-again false q

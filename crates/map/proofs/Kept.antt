@@ -1,0 +1,256 @@
+-- Every call keeps the map good and of its length, whatever it answers; and a refused field changes nothing.
+--
+--   Fine w s       a good structure; one in force (w = 0) is not to be deleted
+--   Good m         a good map: the frames, and every structure fine; good-each, each-good: what is tested is this
+--   take-length, take-good, start-good, refused-same
+--
+-- Assumes nothing.
+use mathlib.Core.Path.{_≡_, refl, sym, ap, _∙_, subst}
+use mathlib.Core.Bool.{Bool, true, false, cond, _&&_}
+use mathlib.Core.List.{List}
+use Prim.Native.Nat.{ℕ, zero, suc, _+_, _*_, _<_}
+use native.Mathlib.Omega.{arith}
+use native.Mathlib.Decide.{ℕ-discrete}
+use borrow.Author.Tests.{eq-eqb, eqb-true, eqb-false}
+use lib.Dec.{leb, eqb, lit<, lit≤}
+use lib.ListN.{length}
+use Rattle.bits.specs.Bits.{blank}
+use Rattle.bits.specs.Rows.{done}
+use Rattle.bits.proofs.Rows.{done-refused, done-passed}
+use Rattle.bits.proofs.Search.{and-left, and-right, all-at, all-each}
+use Rattle.bits.proofs.Storing.{blank-length}
+use Rattle.slot.proofs.Laws.{blank-at}
+use Rattle.field.specs.Field.{fieldOf, deletes, panning}
+use Rattle.field.specs.declared.Field.{Field}
+use Rattle.field.proofs.Bytes.{Within}
+use Rattle.field.proofs.RoundTrip.{field-bounds}
+use Rattle.structure.specs.Structure.{structureSize, headOf, gathered, deletion, goodHead, settledHead}
+use Rattle.structure.specs.declared.Structure.{Structure}
+use Rattle.structure.proofs.Gathering.{head-stored}
+use Rattle.structure.proofs.Kept.{gathered-length, gathered-good, gathered-deleted, deletion-length, deletion-good, blank-good, good-deleted, settled-good}
+use Rattle.map.specs.Map.{ids, mapSize, blockSize, framesOf, withFrames, structureAt, withStructure, inForce, announced, goodFrames, goodAt, good, changedFrom}
+use Rattle.map.specs.Calls.{startAfter, startAnswer, changing, again, takeAnswer, skips, sureAt, framesAfter, upTo, putIn, takenIn, frameTaken, takeAfter}
+use Rattle.map.specs.declared.Frames.{Frames}
+use Rattle.map.proofs.Places.{structure-length, with-structure-length, structure-same, structure-other, frames-kept, with-frames-length, structures-kept, frames-stored}
+use Rattle.map.proofs.Changing.{blank-empty, part-blank, from-frames, stays, gone, cleared, in-force}
+use Rattle.map.proofs.Doing.{start-passed, fits, up-to-length}
+
+-- the bytes after, by cases of the answer
+done-either : (P : List ℕ → Type 0) (n : ℕ) (after before : List ℕ) → (n ≡ 0 → P after) → P before → P (done n after before)
+unfolding done
+done-either P zero after before a b = a refl
+done-either P (suc n) after before a b = b
+
+pub refused-same : (m f : List ℕ) → (takeAnswer m f ≡ 0 → ⊥) → takeAfter m f ≡ m
+unfolding takeAfter
+refused-same m f = done-refused (takeAnswer m f) (frameTaken m (fieldOf f)) m
+
+-- ---- a good map
+
+pub record Fine (w : ℕ) (s : List ℕ) : Type 0 where
+  pub head : goodHead (headOf s) ≡ true
+  pub deleted : w ≡ 0 → headOf s .deleted ≡ 0
+
+pub record Good (m : List ℕ) : Type 0 where
+  pub frames : goodFrames (framesOf m) ≡ true
+  pub structures : (k w : ℕ) → k < ids → w < 2 → Fine w (structureAt k w m)
+
+pub good-each : (m : List ℕ) → good m ≡ true → Good m
+unfolding good goodAt inForce announced
+good-each m g = record {
+  frames = and-left (goodFrames (framesOf m)) _ g;
+  structures = λ k w hk. one k w (all-at (goodAt m) ids 0 (and-right (goodFrames (framesOf m)) _ g) k (omega arith) hk);
+}
+  where
+    one : (k w : ℕ) → goodAt m k ≡ true → w < 2 → Fine w (structureAt k w m)
+    one k zero e h =
+        let rest = and-right (goodHead (headOf (structureAt k 0 m))) _ e in
+        record { head = and-left _ _ e; deleted = λ z. eqb-true (headOf (structureAt k 0 m) .deleted) 0 (and-left _ _ rest) }
+    one k (suc zero) e h =
+        let rest = and-right (goodHead (headOf (structureAt k 0 m))) _ e in
+        record { head = and-right (eqb (headOf (structureAt k 0 m) .deleted) 0) _ rest; deleted = λ z. absurd (omega (arith, z)) }
+    one k (suc (suc w)) e h = absurd (omega arith)
+
+pub each-good : (m : List ℕ) → Good m → good m ≡ true
+unfolding good goodAt inForce announced
+each-good m g =
+    λ i. g .frames i && all-each (goodAt m) ids 0 (λ k l h. one k (g .structures k 0 h (lit< tt)) (g .structures k 1 h (lit< tt))) i
+  where
+    one : (k : ℕ) → Fine 0 (structureAt k 0 m) → Fine 1 (structureAt k 1 m) → goodAt m k ≡ true
+    one k a b =
+        let d : eqb (headOf (structureAt k 0 m) .deleted) 0 ≡ true = eq-eqb (headOf (structureAt k 0 m) .deleted) 0 (a .deleted refl) in
+        λ i. a .head i && (d i && b .head i)
+
+blank-fine : (w : ℕ) (s : List ℕ) → s ≡ blank structureSize → Fine w s
+blank-fine w s e = record { head = ap (λ (x : List ℕ). goodHead (headOf x)) e ∙ blank-good; deleted = λ z. blank-empty s e .deleted }
+
+-- ---- start
+
+pub start-good : (m : List ℕ) → length m ≡ mapSize → good (startAfter m) ≡ true
+unfolding startAfter goodFrames framesOf structureAt
+start-good m l =
+    ap good (done-passed (startAnswer m) (blank mapSize) m (sym (start-passed m l)))
+    ∙ each-good (blank mapSize) (record {
+      frames = λ i. leb (blank-at mapSize 34817 i) 1 && leb (blank-at mapSize 34818 i) 1;
+      structures = λ k w hk hw. blank-fine w _ (part-blank (k * blockSize + w * structureSize) structureSize mapSize (omega arith));
+    })
+
+-- ---- a change
+
+module _ (sure : Bool) (m : List ℕ) (l : length m ≡ mapSize) (g : Good m) where
+  changed-good : Good (changedFrom ids 0 sure m)
+  changed-good = record {
+    frames = ap goodFrames (from-frames sure ids 0 m (lit≤ tt) l) ∙ g .frames;
+    structures = λ k w hk hw. go k w hk hw (ℕ-discrete (coming k .deleted) 1) (ℕ-discrete (coming k .fields) 0);
+  }
+    where
+      coming : ℕ → Structure
+      coming k = headOf (structureAt k 1 m)
+
+      listed : (k w : ℕ) → k < ids → w < 2 → 0 < coming k .fields → coming k .deleted ≡ 0 → Fine w (structureAt k w (changedFrom ids 0 sure m))
+      listed k zero hk hw f d =
+          let h = settledHead sure (coming k) in
+          let e = ap headOf (in-force sure m l k hk f d) ∙ head-stored (structureAt k 1 m) (structure-length m l k 1 hk (lit< tt)) h in
+          let q = settled-good sure (coming k) (g .structures k 1 hk (lit< tt) .head) in
+          record { head = ap goodHead e ∙ q .0; deleted = λ z. ap (λ (x : Structure). x .deleted) e ∙ q .1 }
+      listed k (suc zero) hk hw f d = blank-fine 1 _ (cleared sure m l k hk f d)
+      listed k (suc (suc w)) hk hw f d = absurd (omega arith)
+
+      go : (k w : ℕ) → k < ids → w < 2 → Dec (coming k .deleted ≡ 1) → Dec (coming k .fields ≡ 0)
+          → Fine w (structureAt k w (changedFrom ids 0 sure m))
+      go k w hk hw (yes d) f = blank-fine w _ (gone sure m l k hk d w hw)
+      go k w hk hw (no d) (yes f) =
+          subst (Fine w) (sym (stays sure m l k hk f (good-deleted (coming k) (g .structures k 1 hk (lit< tt) .head) d) w hw)) (g .structures k w hk hw)
+      go k w hk hw (no d) (no f) =
+          listed k w hk hw (omega arith) (good-deleted (coming k) (g .structures k 1 hk (lit< tt) .head) d)
+
+up-to-good : (m : List ℕ) (n : ℕ) → length m ≡ mapSize → Good m → Good (upTo m n)
+unfolding upTo
+up-to-good m n l g = go (changing (framesOf m) n)
+  where
+    go : (b : Bool) → Good (cond b (changedFrom ids 0 (sureAt (framesOf m) n) m) m)
+    go true = changed-good (sureAt (framesOf m) n) m l g
+    go false = g
+
+after-good : (h : Frames) (n : ℕ) → goodFrames h ≡ true → goodFrames (framesAfter h n) ≡ true
+unfolding goodFrames framesAfter
+after-good h n g = go (skips h n) (changing h n)
+  where
+    go : (s c : Bool) → leb (cond s 0 (cond c 1 (h .unbroken))) 1 ≡ true
+    go true c = refl
+    go false true = refl
+    go false false = and-right (leb (h .heard) 1) (leb (h .unbroken) 1) g
+
+-- ---- a field taken in
+
+module _ (r : Field) (hr : Within r) where
+  module _ (s : List ℕ) (l : length s ≡ structureSize) where
+    put-length : length (putIn r s) ≡ structureSize
+    unfolding putIn
+    put-length = go (deletes (r .tdms)) (eqb (r .flag) 0)
+      where
+        go : (d f : Bool) → length (cond d (cond f (blank structureSize) deletion) (gathered s (r .tdms) (r .links))) ≡ structureSize
+        go true true = blank-length structureSize
+        go true false = deletion-length
+        go false f = gathered-length s (r .tdms) (r .links) l
+
+    put-fine : Fine (r .flag) s → Fine (r .flag) (putIn r s)
+    unfolding putIn
+    put-fine g = go (deletes (r .tdms)) (eqb (r .flag) 0) refl
+      where
+        go : (d f : Bool) → eqb (r .flag) 0 ≡ f → Fine (r .flag) (cond d (cond f (blank structureSize) deletion) (gathered s (r .tdms) (r .links)))
+        go true true e = blank-fine (r .flag) (blank structureSize) refl
+        go true false e = record { head = deletion-good; deleted = λ z. absurd (eqb-false (r .flag) 0 e z) }
+        go false f e = record {
+          head = gathered-good s (r .tdms) (r .links) l (g .head) (omega (arith, hr .links));
+          deleted = λ z. gathered-deleted s (r .tdms) (r .links) l (g .deleted z);
+        }
+
+  module _ (m : List ℕ) (l : length m ≡ mapSize) where
+    abbrev old : List ℕ
+    old = structureAt (r .id) (r .flag) m
+
+    lo : length old ≡ structureSize
+    lo = structure-length m l (r .id) (r .flag) (hr .id) (hr .flag)
+
+    taken-length : length (takenIn r m) ≡ mapSize
+    unfolding takenIn
+    taken-length = go (eqb (r .id) panning)
+      where
+        go : (b : Bool) → length (cond b m (withStructure (r .id) (r .flag) (putIn r old) m)) ≡ mapSize
+        go true = l
+        go false = with-structure-length m l (r .id) (r .flag) (putIn r old) (hr .id) (hr .flag) (put-length old lo)
+
+    taken-good : Good m → Good (takenIn r m)
+    unfolding takenIn
+    taken-good g = go (eqb (r .id) panning)
+      where
+        new : List ℕ
+        new = withStructure (r .id) (r .flag) (putIn r old) m
+
+        other : (k w : ℕ) → k < ids → w < 2 → (k ≡ r .id → w ≡ r .flag → ⊥) → Fine w (structureAt k w new)
+        other k w hk hw ne =
+            subst (Fine w) (sym (structure-other m l (r .id) (r .flag) (putIn r old) (hr .id) (hr .flag) (put-length old lo) k w hw ne))
+            (g .structures k w hk hw)
+
+        at : (k w : ℕ) → k < ids → w < 2 → Dec (k ≡ r .id) → Dec (w ≡ r .flag) → Fine w (structureAt k w new)
+        at k w hk hw (yes e) (yes q) =
+            let same = structure-same m l (r .id) (r .flag) (putIn r old) (hr .id) (hr .flag) (put-length old lo) in
+            subst (λ (x : ℕ). Fine x (structureAt k x new)) (sym q)
+            (subst (λ (x : ℕ). Fine (r .flag) (structureAt x (r .flag) new)) (sym e)
+            (subst (Fine (r .flag)) (sym same) (put-fine old lo (g .structures (r .id) (r .flag) (hr .id) (hr .flag)))))
+        at k w hk hw (yes e) (no q) = other k w hk hw (λ _. q)
+        at k w hk hw (no e) d = other k w hk hw (λ z _. e z)
+
+        go : (b : Bool) → Good (cond b m new)
+        go true = g
+        go false = record {
+          frames = ap goodFrames (frames-kept m l (r .id) (r .flag) (putIn r old) (hr .id) (hr .flag) (put-length old lo)) ∙ g .frames;
+          structures = λ k w hk hw. at k w hk hw (ℕ-discrete k (r .id)) (ℕ-discrete w (r .flag));
+        }
+
+  -- the frames behind it
+  module _ (m : List ℕ) (l : length m ≡ mapSize) where
+    abbrev through : List ℕ
+    through = takenIn r (upTo m (r .count))
+
+    lt : length through ≡ mapSize
+    lt = taken-length (upTo m (r .count)) (up-to-length m (r .count) l)
+
+    frame-length : length (frameTaken m r) ≡ mapSize
+    unfolding frameTaken
+    frame-length = go (again (framesOf m) (r .count))
+      where
+        go : (b : Bool) → length (cond b m (withFrames (framesAfter (framesOf m) (r .count)) through)) ≡ mapSize
+        go true = l
+        go false = with-frames-length through lt (framesAfter (framesOf m) (r .count))
+
+    frame-good : Good m → Good (frameTaken m r)
+    unfolding frameTaken
+    frame-good g = go (again (framesOf m) (r .count))
+      where
+        gt : Good through
+        gt = taken-good (upTo m (r .count)) (up-to-length m (r .count) l) (up-to-good m (r .count) l g)
+
+        go : (b : Bool) → Good (cond b m (withFrames (framesAfter (framesOf m) (r .count)) through))
+        go true = g
+        go false = record {
+          frames = ap goodFrames (frames-stored through lt (framesAfter (framesOf m) (r .count))) ∙ after-good (framesOf m) (r .count) (g .frames);
+          structures = λ k w hk hw. subst (Fine w) (sym (structures-kept through lt (framesAfter (framesOf m) (r .count)) k w hk hw)) (gt .structures k w hk hw);
+        }
+
+module _ (m f : List ℕ) where
+  size : takeAnswer m f ≡ 0 → length m ≡ mapSize
+  size e = fits m f (takeAnswer m f) refl e .size
+
+  pub take-length : length (takeAfter m f) ≡ length m
+  unfolding takeAfter
+  take-length =
+      done-either (λ (x : List ℕ). length x ≡ length m) (takeAnswer m f) (frameTaken m (fieldOf f)) m
+      (λ e. frame-length (fieldOf f) (field-bounds f) m (size e) ∙ sym (size e)) refl
+
+  pub take-good : good m ≡ true → good (takeAfter m f) ≡ true
+  unfolding takeAfter
+  take-good g =
+      done-either (λ (x : List ℕ). good x ≡ true) (takeAnswer m f) (frameTaken m (fieldOf f)) m
+      (λ e. each-good _ (frame-good (fieldOf f) (field-bounds f) m (size e) (good-each m g))) g

@@ -1,0 +1,335 @@
+-- What the map is asked: the code's tests against the definitions.
+--
+--   ahead-wraps, ahead-lt    the distance between frame counts, by a difference that wraps
+--   after-*                  the frames behind a field, by the tests on the way
+--   structure-lent           the part that is lent of a structure is the structure
+--   all-next, all-end        a turn and the end of the loop over all components
+--   shown-20 ..              the rows 20 and 34; Passed: a map that neither refuses
+--   comes-then, said-then, stands-then    a component of a set, by the tests on the way
+--   count-on, count-end                   a turn and the end of the loop that counts them
+--   many-*                   one component too many, by the tests on the way
+--   neither, take-20 ..      the rows of a field taken in; idle: panning vectors, or a frame that was heard, which row 45 passes over
+--   mark-*, found-*                       what is shown of a component, by the tests on the way
+--   behind-then, force-then, shown-then   and of which structure
+--
+-- Assumes nothing.
+use mathlib.Core.Path.{_≡_, refl, sym, ap, ap₂, _∙_}
+use mathlib.Core.Bool.{Bool, true, false, true≢false, cond, not, _&&_, _||_, and-true, and-false, and-assoc}
+use mathlib.Core.List.{List, [], _∷_}
+use Prim.Native.Nat.{ℕ, suc, _+_, _-_, _*_, _%_, _≤_, _<_}
+use native.Mathlib.Omega.{arith}
+use native.Mathlib.Nat.{add-assoc, add-zero}
+use borrow.Author.Tests.{eq-eqb, ne-eqb, eqb-true, not-false}
+use lib.Dec.{leb, ltb, eqb}
+use lib.ListN.{length, take, drop}
+use Rattle.bits.specs.Rows.{Row, row, refusal}
+use Rattle.bits.specs.Search.{all}
+use Rattle.bits.proofs.Rows.{refusal-hit, refusal-miss, refusal-passed, refusal-none}
+use Rattle.slot.specs.Part.{part}
+use Rattle.field.specs.Field.{fieldSize, fieldOf, badField, deletes, panning}
+use Rattle.field.specs.declared.Field.{Field}
+use Rattle.structure.specs.Structure.{structureSize, headOf, said, settledHead}
+use Rattle.map.specs.Map.{ids, mapSize, blockSize, ahead, until, framesOf, structureAt, inForce, announced, goodAt, good, stands, comes, present, counted, components}
+use Rattle.map.specs.Calls.{changing, again, skips, framesAfter, tooMany, takeRows, takeAnswer, allHeard, thenWhich, thenHead, thenNumber, foundOf, shownAt, showAnswer, markOf}
+use Rattle.structure.specs.declared.Structure.{Structure}
+use Rattle.map.specs.declared.Frames.{Frames}
+use Rattle.map.specs.declared.Shown.{Shown}
+
+-- ---- frames
+
+pub ahead-wraps : (r a b : ℕ) → r < 256 → a < 256 → (r + a) % 256 ≡ b → r % 128 ≡ ahead a b
+unfolding ahead
+ahead-wraps r a b hr ha e = omega arith
+
+pub ahead-lt : (a b : ℕ) → ahead a b < 128
+unfolding ahead
+ahead-lt a b = omega arith
+
+module _ (h : Frames) (n : ℕ) where
+  abbrev behind : ℕ → Frames
+  behind unbroken = record { last = n; heard = 1; unbroken = unbroken }
+
+  pub after-skipped : skips h n ≡ true → behind 0 ≡ framesAfter h n
+  unfolding framesAfter
+  after-skipped e = λ i. behind (cond (sym e i) 0 (cond (changing h n) 1 (h .unbroken)))
+
+  pub after-changed : skips h n ≡ false → changing h n ≡ true → behind 1 ≡ framesAfter h n
+  unfolding framesAfter
+  after-changed e q = λ i. behind (cond (sym e i) 0 (cond (sym q i) 1 (h .unbroken)))
+
+  pub after-next : skips h n ≡ false → changing h n ≡ false → behind (h .unbroken) ≡ framesAfter h n
+  unfolding framesAfter
+  after-next e q = λ i. behind (cond (sym e i) 0 (cond (sym q i) 1 (h .unbroken)))
+
+-- ---- structures
+
+pub structure-lent : (k w : ℕ) (m : List ℕ)
+    → take (k * blockSize + w * structureSize + structureSize - (k * blockSize + w * structureSize)) (drop (k * blockSize + w * structureSize) m)
+    ≡ structureAt k w m
+unfolding structureAt part
+structure-lent k w m =
+    let n : k * blockSize + w * structureSize + structureSize - (k * blockSize + w * structureSize) ≡ structureSize = omega arith in
+    ap (λ (x : ℕ). take x (drop (k * blockSize + w * structureSize) m)) n
+
+-- ---- good
+
+pub all-next : (m : List ℕ) (so : Bool) (k : ℕ) → k < ids → (so && all (goodAt m) (ids - k) k) ≡ good m
+    → ((so && goodAt m k) && all (goodAt m) (ids - (k + 1)) (k + 1)) ≡ good m
+unfolding all
+all-next m so k h e =
+    let more : ids - k ≡ suc (ids - (k + 1)) = omega arith in
+    let next : k + 1 ≡ suc k = omega arith in
+    and-assoc so (goodAt m k) (all (goodAt m) (ids - (k + 1)) (k + 1))
+    ∙ ap (λ (n : ℕ). so && (goodAt m k && all (goodAt m) (ids - (k + 1)) n)) next
+    ∙ sym (ap (λ (n : ℕ). so && all (goodAt m) n k) more) ∙ e
+
+pub all-end : (m : List ℕ) (so : Bool) (k : ℕ) → ids ≤ k → (so && all (goodAt m) (ids - k) k) ≡ good m → so ≡ good m
+unfolding all
+all-end m so k h e =
+    let none : ids - k ≡ 0 = omega arith in
+    sym (and-true so) ∙ sym (ap (λ (n : ℕ). so && all (goodAt m) n k) none) ∙ e
+
+-- ---- the rows 20 and 34
+
+pub record Passed (m : List ℕ) : Type 0 where
+  pub size : length m ≡ mapSize
+  pub all-good : good m ≡ true
+
+module _ (m : List ℕ) where
+  pub shown-20 : (length m ≡ mapSize → ⊥) → showAnswer m ≡ 20
+  unfolding showAnswer
+  shown-20 ne = refusal-hit (not (eqb (length m) mapSize)) 20 _ (ap not (ne-eqb (length m) mapSize ne))
+
+  sized : length m ≡ mapSize → showAnswer m ≡ refusal (row (not (good m)) 34 ∷ [])
+  unfolding showAnswer
+  sized l = refusal-miss (not (eqb (length m) mapSize)) 20 _ (ap not (eq-eqb (length m) mapSize l))
+
+  pub shown-34 : length m ≡ mapSize → good m ≡ false → showAnswer m ≡ 34
+  shown-34 l g = sized l ∙ refusal-hit (not (good m)) 34 [] (ap not g)
+
+  pub shown-0 : length m ≡ mapSize → good m ≡ true → showAnswer m ≡ 0
+  shown-0 l g = sized l ∙ refusal-miss (not (good m)) 34 [] (ap not g) ∙ refusal-none
+
+  pub passed : showAnswer m ≡ 0 → Passed m
+  unfolding showAnswer
+  passed e =
+      let one = refusal-passed (not (eqb (length m) mapSize)) 20 (row (not (good m)) 34 ∷ []) (omega arith) e in
+      let two = refusal-passed (not (good m)) 34 [] (omega arith) (one .1) in
+      record { size = eqb-true (length m) mapSize (not-false (eqb (length m) mapSize) (one .0)); all-good = not-false (good m) (two .0) }
+
+-- ---- the components of a set
+
+module _ (w : ℕ) (change : Bool) (m : List ℕ) (k : ℕ) (h : Structure) (e : h ≡ headOf (structureAt k 1 m)) where
+  by-set : (b : Bool) → eqb w 0 ≡ b → cond b (stands change m k) (comes change m k) ≡ present w change m k
+  unfolding present
+  by-set b q = ap (λ (x : Bool). cond x (stands change m k) (comes change m k)) (sym q)
+
+  pub comes-then : (w ≡ 0 → ⊥) → (not change && ltb 0 (h .fields)) ≡ present w change m k
+  unfolding comes announced
+  comes-then ne = ap (λ (x : Structure). not change && ltb 0 (x .fields)) e ∙ by-set false (ne-eqb w 0 ne)
+
+  module _ (z : w ≡ 0) (s : Bool) (es : s ≡ said h) where
+    by-change : (b : Bool) → (change && s) ≡ b
+        → cond b (ltb 0 (headOf (structureAt k 1 m) .fields)) (ltb 0 (headOf (structureAt k 0 m) .fields)) ≡ present w change m k
+    unfolding stands announced inForce
+    by-change b q =
+        ap (λ (x : Bool). cond x (ltb 0 (headOf (structureAt k 1 m) .fields)) (ltb 0 (headOf (structureAt k 0 m) .fields)))
+        (sym q ∙ ap (λ (x : Bool). change && x) (es ∙ ap said e))
+        ∙ by-set true (eq-eqb w 0 z)
+
+    pub said-then : (change && s) ≡ true → ltb 0 (h .fields) ≡ present w change m k
+    said-then q = ap (λ (x : Structure). ltb 0 (x .fields)) e ∙ by-change true q
+
+    pub stands-then : (change && s) ≡ false → (g : Structure) → g ≡ headOf (structureAt k 0 m) → ltb 0 (g .fields) ≡ present w change m k
+    stands-then q g eg = ap (λ (x : Structure). ltb 0 (x .fields)) eg ∙ by-change false q
+
+-- ---- the loop that counts them
+
+-- n counted so far, and those from k on
+abbrev pub counts : (ℕ → Bool) → ℕ → ℕ → ℕ
+counts p n k = n + counted p (ids - k) k
+
+module _ (p : ℕ → Bool) (k n total : ℕ) where
+  pub count-on : k < ids → counts p n k ≡ total → (b : Bool) → b ≡ p k → (next : ℕ) → next ≡ n + cond b 1 0 → counts p next (k + 1) ≡ total
+  unfolding counted
+  count-on h e b eb next en =
+      let more : ids - k ≡ suc (ids - (k + 1)) = omega arith in
+      let on : k + 1 ≡ suc k = omega arith in
+      ap₂ (λ (x y : ℕ). x + counted p (ids - (k + 1)) y) (en ∙ ap (λ (x : Bool). n + cond x 1 0) eb) on
+      ∙ add-assoc n (cond (p k) 1 0) (counted p (ids - (k + 1)) (suc k))
+      ∙ sym (ap (λ (x : ℕ). n + counted p x k) more) ∙ e
+
+  pub count-end : ids ≤ k → counts p n k ≡ total → n ≡ total
+  unfolding counted
+  count-end h e =
+      let none : ids - k ≡ 0 = omega arith in
+      sym (add-zero n) ∙ sym (ap (λ (x : ℕ). n + counted p x k) none) ∙ e
+
+-- ---- one too many
+
+module _ (m : List ℕ) (r : Field) (change : Bool) (e : change ≡ changing (framesOf m) (r .count)) where
+  by-tests : (d p : Bool) → deletes (r .tdms) ≡ d → present (r .flag) change m (r .id) ≡ p
+      → (not d && (not p && leb 128 (components (r .flag) change m))) ≡ tooMany m r
+  unfolding tooMany
+  by-tests d p ed ep =
+      ap₂ (λ (x y : Bool). not x && (not y && leb 128 (components (r .flag) change m))) (sym ed) (sym ep)
+      ∙ ap (λ (x : Bool). not (deletes (r .tdms)) && (not (present (r .flag) x m (r .id)) && leb 128 (components (r .flag) x m))) e
+
+  pub many-deletes : deletes (r .tdms) ≡ true → false ≡ tooMany m r
+  many-deletes d = by-tests true (present (r .flag) change m (r .id)) d refl
+
+  module _ (d : deletes (r .tdms) ≡ false) where
+    pub many-present : present (r .flag) change m (r .id) ≡ true → false ≡ tooMany m r
+    many-present p = by-tests false true d p
+
+    pub many-counted : present (r .flag) change m (r .id) ≡ false → (n : ℕ) → n ≡ components (r .flag) change m → leb 128 n ≡ tooMany m r
+    many-counted p n en = ap (leb 128) en ∙ by-tests false false d p
+
+-- ---- a field taken in, row by row
+
+pub neither : (a b : Bool) → (a || b) ≡ false → (a ≡ false) × (b ≡ false)
+neither true b e = absurd (true≢false e)
+neither false b e = (refl, e)
+
+idle-over : (p a t : Bool) → (p || a) ≡ true → (not p && (not a && t)) ≡ false
+idle-over true a t e = refl
+idle-over false true t e = refl
+idle-over false false t e = absurd (true≢false (sym e))
+
+busy-over : (p a t : Bool) → (p || a) ≡ false → (not p && (not a && t)) ≡ t
+busy-over true a t e = absurd (true≢false e)
+busy-over false true t e = absurd (true≢false e)
+busy-over false false t e = refl
+
+module _ (m f : List ℕ) where
+  abbrev wrong : Bool
+  wrong = not (eqb (length m) mapSize) || not (eqb (length f) fieldSize)
+
+  abbrev pub idle : Bool
+  idle = eqb (fieldOf f .id) panning || again (framesOf m) (fieldOf f .count)
+
+  abbrev over : Bool
+  over = not (eqb (fieldOf f .id) panning) && (not (again (framesOf m) (fieldOf f .count)) && tooMany m (fieldOf f))
+
+  abbrev from45 : List Row
+  from45 = row over 45 ∷ []
+
+  abbrev from44 : List Row
+  from44 = row (badField (fieldOf f)) 44 ∷ from45
+
+  abbrev from34 : List Row
+  from34 = row (not (good m)) 34 ∷ from44
+
+  pub take-20 : wrong ≡ true → takeAnswer m f ≡ 20
+  unfolding takeAnswer takeRows
+  take-20 t = refusal-hit wrong 20 from34 t
+
+  pub take-fit : takeAnswer m f ≡ 0 → wrong ≡ false
+  unfolding takeAnswer takeRows
+  take-fit e = refusal-passed wrong 20 from34 (omega arith) e .0
+
+  module _ (fit : wrong ≡ false) where
+    pub map-size : length m ≡ mapSize
+    map-size = eqb-true (length m) mapSize (not-false (eqb (length m) mapSize) (neither (not (eqb (length m) mapSize)) (not (eqb (length f) fieldSize)) fit .0))
+
+    pub field-size : length f ≡ fieldSize
+    field-size = eqb-true (length f) fieldSize (not-false (eqb (length f) fieldSize) (neither (not (eqb (length m) mapSize)) (not (eqb (length f) fieldSize)) fit .1))
+
+    past20 : takeAnswer m f ≡ refusal from34
+    unfolding takeAnswer takeRows
+    past20 = refusal-miss wrong 20 from34 fit
+
+    pub take-34 : good m ≡ false → takeAnswer m f ≡ 34
+    take-34 g = past20 ∙ refusal-hit (not (good m)) 34 from44 (ap not g)
+
+    module _ (g : good m ≡ true) where
+      past34 : takeAnswer m f ≡ refusal from44
+      past34 = past20 ∙ refusal-miss (not (good m)) 34 from44 (ap not g)
+
+      pub take-44 : badField (fieldOf f) ≡ true → takeAnswer m f ≡ 44
+      take-44 b = past34 ∙ refusal-hit (badField (fieldOf f)) 44 from45 b
+
+      module _ (b : badField (fieldOf f) ≡ false) where
+        past44 : takeAnswer m f ≡ refusal from45
+        past44 = past34 ∙ refusal-miss (badField (fieldOf f)) 44 from45 b
+
+        spared : over ≡ false → takeAnswer m f ≡ 0
+        spared t = past44 ∙ refusal-miss over 45 [] t ∙ refusal-none
+
+        pub take-idle : idle ≡ true → takeAnswer m f ≡ 0
+        take-idle t = spared (idle-over (eqb (fieldOf f .id) panning) (again (framesOf m) (fieldOf f .count)) (tooMany m (fieldOf f)) t)
+
+        module _ (t : idle ≡ false) where
+          pub take-45 : tooMany m (fieldOf f) ≡ true → takeAnswer m f ≡ 45
+          take-45 q = past44 ∙ refusal-hit over 45 [] (busy-over (eqb (fieldOf f .id) panning) (again (framesOf m) (fieldOf f .count)) (tooMany m (fieldOf f)) t ∙ q)
+
+          pub take-0 : tooMany m (fieldOf f) ≡ false → takeAnswer m f ≡ 0
+          take-0 q = spared (busy-over (eqb (fieldOf f .id) panning) (again (framesOf m) (fieldOf f .count)) (tooMany m (fieldOf f)) t ∙ q)
+
+-- ---- what is shown of a component
+
+module _ (a : Shown) where
+  by-len : (b : Bool) → eqb (a .number) 46 ≡ b → cond b 2 (cond (eqb (a .len) 0) 0 1) ≡ markOf a
+  unfolding markOf
+  by-len b e = ap (λ (x : Bool). cond x 2 (cond (eqb (a .len) 0) 0 1)) (sym e)
+
+  pub mark-unfinished : a .number ≡ 46 → 2 ≡ markOf a
+  mark-unfinished e = by-len true (eq-eqb (a .number) 46 e)
+
+  module _ (ne : a .number ≡ 46 → ⊥) where
+    pub mark-none : a .len ≡ 0 → 0 ≡ markOf a
+    mark-none e = sym (ap (λ (x : Bool). cond x 0 1) (eq-eqb (a .len) 0 e)) ∙ by-len false (ne-eqb (a .number) 46 ne)
+
+    pub mark-whole : (a .len ≡ 0 → ⊥) → 1 ≡ markOf a
+    mark-whole e = sym (ap (λ (x : Bool). cond x 0 1) (ne-eqb (a .len) 0 e)) ∙ by-len false (ne-eqb (a .number) 46 ne)
+
+module _ (f : Frames) (id w : ℕ) (h : Structure) (s : Bool) (a n : ℕ) (ea : a ≡ cond s 1 0) (en : n ≡ cond s (until (f .last)) 0) where
+  abbrev answer : ℕ → ℕ → ℕ → Shown
+  answer number at len = record { number = number; at = at; len = len; announced = a; frames = n }
+
+  by-whole : (b : Bool) → eqb (h .whole) 1 ≡ b
+      → answer (thenNumber h) (cond b (id * blockSize + w * structureSize + 4) 0) (cond b (8 * h .fields) 0) ≡ foundOf f id w h s
+  unfolding foundOf
+  by-whole b e =
+      λ i. record {
+        number = thenNumber h;
+        at = cond (sym e i) (id * blockSize + w * structureSize + 4) 0;
+        len = cond (sym e i) (8 * h .fields) 0;
+        announced = ea i;
+        frames = en i;
+      }
+
+  pub found-whole : h .whole ≡ 1 → answer 0 (id * blockSize + w * structureSize + 4) (8 * h .fields) ≡ foundOf f id w h s
+  unfolding thenNumber
+  found-whole e =
+      let none : (ltb 0 (h .fields) && eqb (h .whole) 0) ≡ false =
+      ap (λ (x : ℕ). ltb 0 (h .fields) && eqb x 0) e ∙ and-false (ltb 0 (h .fields)) in
+      ap (λ (x : Bool). answer (cond x 46 0) (id * blockSize + w * structureSize + 4) (8 * h .fields)) (sym none)
+      ∙ by-whole true (eq-eqb (h .whole) 1 e)
+
+  pub found-part : (h .whole ≡ 1 → ⊥) → (b : Bool) → (ltb 0 (h .fields) && eqb (h .whole) 0) ≡ b → answer (cond b 46 0) 0 0 ≡ foundOf f id w h s
+  unfolding thenNumber
+  found-part ne b e = ap (λ (x : Bool). answer (cond x 46 0) 0 0) (sym e) ∙ by-whole false (ne-eqb (h .whole) 1 ne)
+
+module _ (m : List ℕ) (id count : ℕ) (b : Bool) (e : b ≡ (changing (framesOf m) count && said (announced id m))) where
+  which-then : (w : ℕ) → w ≡ cond b 1 0 → w ≡ thenWhich m id count
+  unfolding thenWhich
+  which-then w q = q ∙ ap (λ (x : Bool). cond x 1 0) e
+
+  by-which : (t : Bool) → b ≡ t
+      → cond (eqb (cond t 1 0) 1) (settledHead (allHeard (framesOf m)) (announced id m)) (inForce id m) ≡ thenHead m id count
+  unfolding thenHead thenWhich
+  by-which t q =
+      ap (λ (x : Bool). cond (eqb (cond x 1 0) 1) (settledHead (allHeard (framesOf m)) (announced id m)) (inForce id m)) (sym q ∙ e)
+
+  pub behind-then : b ≡ true → settledHead (allHeard (framesOf m)) (announced id m) ≡ thenHead m id count
+  behind-then q = by-which true q
+
+  pub force-then : b ≡ false → inForce id m ≡ thenHead m id count
+  force-then q = by-which false q
+
+  -- what is found there is what is shown
+  pub shown-then : (x : Shown) (f : Frames) (w : ℕ) (h : Structure) (s : Bool) → f ≡ framesOf m → w ≡ cond b 1 0
+      → h ≡ thenHead m id count → s ≡ said (announced id m) → x ≡ foundOf f id w h s → x ≡ shownAt m id count
+  unfolding shownAt
+  shown-then x f w h s ef ew eh es q = q ∙ (λ i. foundOf (ef i) id (which-then w ew i) (eh i) (es i))

@@ -1,0 +1,151 @@
+-- The calls on the map, each as functions of what was lent (document 02, Ask 4). A refused call changes nothing.
+--
+--   startAnswer, startAfter    20
+--   takeAnswer, takeAfter      20, 34, 44, 45: one field
+--   shown m id count           what is known of a component in the frame with that count: 20, 34, 46
+--   listAnswer, listAfter      20, 34: a mark for each component in force: 1 whole, 2 unfinished
+use mathlib.Core.Bool.{Bool, cond, not, _&&_, _||_}
+use mathlib.Core.List.{List, [], _∷_}
+use Prim.Native.Nat.{ℕ, zero, suc, _+_, _*_}
+use lib.Dec.{leb, ltb, eqb}
+use lib.ListN.{length}
+use Rattle.bits.specs.Bits.{blank}
+use Rattle.bits.specs.Rows.{Row, row, refusal, done}
+use Rattle.field.specs.Field.{fieldSize, fieldOf, badField, deletes, panning}
+use Rattle.field.specs.declared.Field.{Field}
+use Rattle.structure.specs.Structure.{gathered, deletion, said, structureSize, settledHead}
+use Rattle.map.specs.Map.{ids, mapSize, blockSize, ahead, changes, until, framesOf, withFrames, structureAt, withStructure, inForce, announced, good, changedFrom, present, components}
+use Rattle.structure.specs.declared.Structure.{Structure}
+use Rattle.map.specs.declared.Frames.{Frames}
+use Rattle.map.specs.declared.Shown.{Shown}
+
+-- ---- start
+
+unfoldable pub startAnswer : List ℕ → ℕ
+startAnswer m = refusal (row (not (eqb (length m) mapSize)) 20 ∷ [])
+
+unfoldable pub startAfter : List ℕ → List ℕ
+startAfter m = done (startAnswer m) (blank mapSize) m
+
+-- ---- taking in one field
+
+-- a change falls between the last field's frame and this one's
+unfoldable pub changing : Frames → ℕ → Bool
+changing h n = eqb (h .heard) 1 && changes (h .last) n
+
+-- one of the same frame's five identical blocks
+unfoldable pub again : Frames → ℕ → Bool
+again h n = eqb (h .heard) 1 && eqb (ahead (h .last) n) 0
+
+-- "45 more than 128 components": a field of a component that its set has not, where the set has 128; old and new are counted by themselves
+unfoldable pub tooMany : List ℕ → Field → Bool
+tooMany m r =
+    let change = changing (framesOf m) (r .count) in
+    not (deletes (r .tdms)) && (not (present (r .flag) change m (r .id)) && leb 128 (components (r .flag) change m))
+
+unfoldable pub takeRows : List ℕ → List ℕ → List Row
+takeRows m f =
+    row (not (eqb (length m) mapSize) || not (eqb (length f) fieldSize)) 20
+    ∷ row (not (good m)) 34
+    ∷ row (badField (fieldOf f)) 44
+    ∷ row (not (eqb (fieldOf f .id) panning) && (not (again (framesOf m) (fieldOf f .count)) && tooMany m (fieldOf f))) 45
+    ∷ []
+
+unfoldable pub takeAnswer : List ℕ → List ℕ → ℕ
+takeAnswer m f = refusal (takeRows m f)
+
+-- a frame was missed on the way
+unfoldable pub skips : Frames → ℕ → Bool
+skips h n = eqb (h .heard) 1 && ltb 1 (ahead (h .last) n)
+
+unfoldable pub sureAt : Frames → ℕ → Bool
+sureAt h n = eqb (h .unbroken) 1 && not (skips h n)
+
+unfoldable pub framesAfter : Frames → ℕ → Frames
+framesAfter h n = record {
+  last = n;
+  heard = 1;
+  unbroken = cond (skips h n) 0 (cond (changing h n) 1 (h .unbroken));
+}
+
+-- the changes up to the field's frame
+unfoldable pub upTo : List ℕ → ℕ → List ℕ
+upTo m n = cond (changing (framesOf m) n) (changedFrom ids 0 (sureAt (framesOf m) n) m) m
+
+-- a structure with the field taken in: an old one is gone at once, a new one is to be deleted
+unfoldable pub putIn : Field → List ℕ → List ℕ
+putIn r s =
+    cond (deletes (r .tdms)) (cond (eqb (r .flag) 0) (blank structureSize) deletion) (gathered s (r .tdms) (r .links))
+
+unfoldable pub takenIn : Field → List ℕ → List ℕ
+takenIn r m =
+    cond (eqb (r .id) panning) m
+    (withStructure (r .id) (r .flag) (putIn r (structureAt (r .id) (r .flag) m)) m)
+
+unfoldable pub frameTaken : List ℕ → Field → List ℕ
+frameTaken m r =
+    cond (again (framesOf m) (r .count)) m
+    (withFrames (framesAfter (framesOf m) (r .count)) (takenIn r (upTo m (r .count))))
+
+unfoldable pub takeAfter : List ℕ → List ℕ → List ℕ
+takeAfter m f = done (takeAnswer m f) (frameTaken m (fieldOf f)) m
+
+-- ---- a component, in the frame with a count
+
+-- nothing more of what is announced can come: every frame since the change before is heard, to the last before the next
+unfoldable pub allHeard : Frames → Bool
+allHeard h = eqb (h .unbroken) 1 && eqb (until (h .last)) 1
+
+-- what is in force then: the announced structure behind the change
+unfoldable pub thenWhich : List ℕ → ℕ → ℕ → ℕ
+thenWhich m id count = cond (changing (framesOf m) count && said (announced id m)) 1 0
+
+unfoldable pub thenHead : List ℕ → ℕ → ℕ → Structure
+thenHead m id count =
+    cond (eqb (thenWhich m id count) 1) (settledHead (allHeard (framesOf m)) (announced id m)) (inForce id m)
+
+unfoldable pub thenNumber : Structure → ℕ
+thenNumber h = cond (ltb 0 (h .fields) && eqb (h .whole) 0) 46 0
+
+-- where the fields stand, eight bytes each; and whether a change is announced, and when it comes
+unfoldable pub foundOf : Frames → ℕ → ℕ → Structure → Bool → Shown
+foundOf f id which h coming =
+    let whole = eqb (h .whole) 1 in
+    record {
+      number = thenNumber h;
+      at = cond whole (id * blockSize + which * structureSize + 4) 0;
+      len = cond whole (8 * h .fields) 0;
+      announced = cond coming 1 0;
+      frames = cond coming (until (f .last)) 0;
+    }
+
+unfoldable pub shownAt : List ℕ → ℕ → ℕ → Shown
+shownAt m id count =
+    foundOf (framesOf m) id (thenWhich m id count) (thenHead m id count) (said (announced id m))
+
+unfoldable pub showAnswer : List ℕ → ℕ
+showAnswer m = refusal (row (not (eqb (length m) mapSize)) 20 ∷ row (not (good m)) 34 ∷ [])
+
+unfoldable pub shownBy : ℕ → Shown → Shown
+shownBy zero found = found
+shownBy (suc number) found = record { number = suc number; at = 0; len = 0; announced = 0; frames = 0 }
+
+unfoldable pub shown : List ℕ → ℕ → ℕ → Shown
+shown m id count = shownBy (showAnswer m) (shownAt m id count)
+
+-- ---- the components in force in the frame with a count
+
+unfoldable pub markOf : Shown → ℕ
+markOf a = cond (eqb (a .number) 46) 2 (cond (eqb (a .len) 0) 0 1)
+
+unfoldable pub marks : ℕ → ℕ → List ℕ → ℕ → List ℕ
+marks zero k m count = []
+marks (suc n) k m count = markOf (shownAt m k count) ∷ marks n (suc k) m count
+
+unfoldable pub listAnswer : List ℕ → List ℕ → ℕ
+listAnswer m out =
+    refusal
+    (row (not (eqb (length m) mapSize) || not (eqb (length out) ids)) 20 ∷ row (not (good m)) 34 ∷ [])
+
+unfoldable pub listAfter : List ℕ → ℕ → List ℕ → List ℕ
+listAfter m count out = done (listAnswer m out) (marks ids 0 m count) out

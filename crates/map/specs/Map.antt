@@ -1,0 +1,127 @@
+-- The map: for each of 256 components the structure in force and the one announced, and the frames that were heard; 34,819 bytes.
+--
+--   136 k           component k: in force
+--   136 k + 68      component k: announced
+--   34,816          the frame count of the last field taken in
+--   34,817          1 where a field was taken in
+--   34,818          1 where every frame since the last change was heard
+--
+--   ahead a b       the distance from frame count a to frame count b, "across the wrap from 127 to 0"
+--   changes a b     a change falls behind the frame with count a, up to that with count b: "from the beginning of line 1 of the second
+--                   frame following the frame in which FCNT code 0 (modulo 128) is sent", the frame with count 2
+--   until a         in how many frames after that with count a the next change comes
+--   inForce, announced      a component's structures
+--   changed m b     a component at a change
+--   good m          the condition of a good map
+--   present, components     which components a set has, and how many
+use mathlib.Core.Bool.{Bool, cond, not, _&&_}
+use mathlib.Core.List.{List, [], _∷_, _++_}
+use Prim.Native.Nat.{ℕ, zero, suc, _+_, _-_, _*_, _%_}
+use lib.Dec.{leb, ltb, eqb}
+use lib.ListN.{getD}
+use Rattle.bits.specs.Bits.{blank}
+use Rattle.bits.specs.Search.{all}
+use Rattle.slot.specs.Part.{part, put}
+use Rattle.structure.specs.Structure.{structureSize, headOf, withHead, goodHead, said, settledHead}
+use Rattle.structure.specs.declared.Structure.{Structure}
+use Rattle.map.specs.declared.Frames.{Frames}
+
+abbrev pub ids : ℕ
+ids = 256
+
+abbrev pub blockSize : ℕ
+blockSize = 136
+
+abbrev pub framesAt : ℕ
+framesAt = 34816
+
+abbrev pub mapSize : ℕ
+mapSize = 34819
+
+-- ---- frame counts
+
+unfoldable pub ahead : ℕ → ℕ → ℕ
+ahead a b = (b + 256 - a) % 128
+
+unfoldable pub changes : ℕ → ℕ → Bool
+changes a b = ltb (ahead 2 b) (ahead a b)
+
+unfoldable pub until : ℕ → ℕ
+until a = ahead a 1 + 1
+
+-- ---- places
+
+unfoldable pub framesOf : List ℕ → Frames
+framesOf m =
+    record { last = getD m framesAt 0; heard = getD m (framesAt + 1) 0; unbroken = getD m (framesAt + 2) 0 }
+
+unfoldable pub withFrames : Frames → List ℕ → List ℕ
+withFrames h m = put framesAt 3 (h .last ∷ h .heard ∷ h .unbroken ∷ []) m
+
+unfoldable pub blockAt : ℕ → List ℕ → List ℕ
+blockAt k m = part (k * blockSize) blockSize m
+
+unfoldable pub withBlock : ℕ → List ℕ → List ℕ → List ℕ
+withBlock k b m = put (k * blockSize) blockSize b m
+
+-- which: 0 in force, 1 announced
+unfoldable pub structureAt : ℕ → ℕ → List ℕ → List ℕ
+structureAt k which m = part (k * blockSize + which * structureSize) structureSize m
+
+unfoldable pub withStructure : ℕ → ℕ → List ℕ → List ℕ → List ℕ
+withStructure k which s m = put (k * blockSize + which * structureSize) structureSize s m
+
+unfoldable pub inForce : ℕ → List ℕ → Structure
+inForce k m = headOf (structureAt k 0 m)
+
+unfoldable pub announced : ℕ → List ℕ → Structure
+announced k m = headOf (structureAt k 1 m)
+
+-- ---- good
+
+unfoldable pub goodFrames : Frames → Bool
+goodFrames h = leb (h .heard) 1 && leb (h .unbroken) 1
+
+unfoldable pub goodAt : List ℕ → ℕ → Bool
+goodAt m k = goodHead (inForce k m) && (eqb (inForce k m .deleted) 0 && goodHead (announced k m))
+
+unfoldable pub good : List ℕ → Bool
+good m = goodFrames (framesOf m) && all (goodAt m) ids 0
+
+-- ---- a change
+
+-- the announced structure's bytes in the place of those in force, and 0 in their own
+unfoldable pub movedDown : List ℕ → List ℕ
+movedDown b = part structureSize structureSize b ++ blank structureSize
+
+unfoldable pub changed : Bool → List ℕ → List ℕ
+changed sure b =
+    let h = headOf (part structureSize structureSize b) in
+    cond (eqb (h .deleted) 1) (blank blockSize)
+    (cond (eqb (h .fields) 0) b (withHead (settledHead sure h) (movedDown b)))
+
+-- n components from k on
+unfoldable pub changedFrom : ℕ → ℕ → Bool → List ℕ → List ℕ
+changedFrom zero k sure m = m
+changedFrom (suc n) k sure m = changedFrom n (suc k) sure (withBlock k (changed sure (blockAt k m)) m)
+
+-- ---- the components of a set, before or behind a change
+
+-- in force
+unfoldable pub stands : Bool → List ℕ → ℕ → Bool
+stands change m k =
+    cond (change && said (announced k m)) (ltb 0 (announced k m .fields)) (ltb 0 (inForce k m .fields))
+
+-- announced, and not to be deleted; a change leaves nothing announced
+unfoldable pub comes : Bool → List ℕ → ℕ → Bool
+comes change m k = not change && ltb 0 (announced k m .fields)
+
+unfoldable pub present : ℕ → Bool → List ℕ → ℕ → Bool
+present which change m k = cond (eqb which 0) (stands change m k) (comes change m k)
+
+unfoldable pub counted : (ℕ → Bool) → ℕ → ℕ → ℕ
+counted p zero k = 0
+counted p (suc n) k = cond (p k) 1 0 + counted p n (suc k)
+
+unfoldable pub components : ℕ → Bool → List ℕ → ℕ
+components which change m = counted (present which change m) ids 0

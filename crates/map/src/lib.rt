@@ -1,0 +1,280 @@
+// The multiplex's map (document 02, Ask 4): which components there are and where, from the fields of TDM control, so that a move is
+// seen when it is announced. No call has a `requires`: every slice and every number is answered.
+//
+// look          what the map is asked before a change
+ghost use mathlib.Core.Path.{_≡_};
+ghost use Prim.Native.Nat.{_<_};
+ghost use lib.ListN.{length};
+ghost use Rattle.map.specs.Map.{ahead, until, framesOf, withFrames, goodFrames, movedDown, changed, changedFrom};
+ghost use Rattle.map.specs.Calls.{startAnswer, startAfter, changing, again, skips, sureAt, framesAfter, allHeard, putIn, takenIn, takeAnswer, takeAfter, shown, listAnswer, listAfter};
+use field::Field;
+use field::Tdms;
+use slot::room;
+use structure::Structure;
+
+pub mod look;
+
+pub struct Map {}
+
+impl Map {
+    pub const IDS: usize = 256;
+
+    // "The number of different TDM components ... shall never exceed 128."
+    pub const COMPONENTS: usize = 128;
+
+    pub const BLOCK: usize = 2 * Structure::SIZE;
+
+    pub const FRAMES: usize = Self::IDS * Self::BLOCK;
+
+    pub const SIZE: usize = Self::FRAMES + 3;
+}
+
+// The last frame count, whether there is one, and whether every frame since the last change was heard.
+pub struct Frames {
+    pub last: u8,
+    pub heard: u8,
+    pub unbroken: u8,
+}
+
+// What is known of a component: 0 with its fields' place and length in the map, or a refusal; and whether a change is announced, and
+// in how many frames behind the last one it comes.
+pub struct Shown {
+    pub number: u8,
+    pub at: usize,
+    pub len: usize,
+    pub announced: u8,
+    pub frames: u8,
+}
+
+// The distance between two frame counts, across the wrap from 127 to 0.
+fn ahead(from: u8, to: u8) -> u8
+    ensures { λ r. ⌜ r ≡ ahead from to ⌝ }
+{
+    std::num::wrapping_sub_u8(to, from) % 128
+}
+
+impl Frames {
+    pub fn load(map: &[u8]) -> Self
+        requires { ⌜ length (now map) ≡ 34819 ⌝ }
+        ensures { λ r. ⌜ r ≡ framesOf (now (map .entry)) ⌝ }
+    {
+        Self {
+            last: map[Map::FRAMES],
+            heard: map[Map::FRAMES + 1],
+            unbroken: map[Map::FRAMES + 2],
+        }
+    }
+
+    pub fn store(self, map: &mut [u8])
+        requires { ⌜ length (now map) ≡ 34819 ⌝ }
+        ensures { λ _. ⌜ now (map .exit) ≡ withFrames self (now (map .entry)) ⌝ }
+    {
+        map[Map::FRAMES] = self.last;
+        map[Map::FRAMES + 1] = self.heard;
+        map[Map::FRAMES + 2] = self.unbroken;
+    }
+
+    pub fn good(self) -> bool
+        ensures { λ r. ⌜ r ≡ goodFrames self ⌝ }
+    {
+        (self.heard <= 1) & (self.unbroken <= 1)
+    }
+
+    // In how many frames behind the last one the next change comes: at the frame with count 2.
+    pub fn until(self) -> u8
+        ensures { λ r. ⌜ r ≡ until (self .last) ⌝ }
+    {
+        ahead(self.last, 1) + 1
+    }
+
+    // A change falls behind the last frame, up to that with a count.
+    pub fn changing(self, count: u8) -> bool
+        ensures { λ r. ⌜ r ≡ changing self count ⌝ }
+    {
+        (self.heard == 1) & (ahead(2, count) < ahead(self.last, count))
+    }
+
+    // One of the same frame's five identical blocks.
+    pub fn again(self, count: u8) -> bool
+        ensures { λ r. ⌜ r ≡ again self count ⌝ }
+    {
+        (self.heard == 1) & (ahead(self.last, count) == 0)
+    }
+
+    // A frame is missed on the way to that with a count.
+    pub fn skips(self, count: u8) -> bool
+        ensures { λ r. ⌜ r ≡ skips self count ⌝ }
+    {
+        (self.heard == 1) & (1 < ahead(self.last, count))
+    }
+
+    pub fn sure_at(self, count: u8) -> bool
+        ensures { λ r. ⌜ r ≡ sureAt self count ⌝ }
+    {
+        (self.unbroken == 1) & !self.skips(count)
+    }
+
+    // Nothing more of what is announced can come.
+    pub fn all_heard(self) -> bool
+        ensures { λ r. ⌜ r ≡ allHeard self ⌝ }
+    {
+        (self.unbroken == 1) & (self.until() == 1)
+    }
+
+    pub fn after(self, count: u8) -> Self
+        ensures { λ r. ⌜ r ≡ framesAfter self count ⌝ }
+    {
+        let unbroken = if self.skips(count) {
+            0
+        } else if self.changing(count) {
+            1
+        } else {
+            self.unbroken
+        };
+        Self {
+            last: count,
+            heard: 1,
+            unbroken,
+        }
+    }
+}
+
+// 20. Every byte becomes 0.
+pub fn start(map: &mut [u8]) -> u8
+    ensures { λ r. ⌜ r ≡ startAnswer (now (map .entry)) ⌝ }
+    ensures { λ _. ⌜ now (map .exit) ≡ startAfter (now (map .entry)) ⌝ }
+{
+    if map.len() != Map::SIZE {
+        return 20;
+    }
+    room::clear(map);
+    0
+}
+
+// 20, 34, 44, 45. Takes in the field of one frame; changes that fall before that frame come first.
+pub fn take(map: &mut [u8], field: &[u8]) -> u8
+    ensures { λ r. ⌜ r ≡ takeAnswer (now (map .entry)) (now (field .entry)) ⌝ }
+    ensures { λ _. ⌜ now (map .exit) ≡ takeAfter (now (map .entry)) (now (field .entry)) ⌝ }
+{
+    let answer = look::take_answer(map, field);
+    if answer != 0 {
+        return answer;
+    }
+    let field = Field::load(field);
+    let frames = Frames::load(map);
+    if frames.again(field.count) {
+        return 0;
+    }
+    if frames.changing(field.count) {
+        change(map, frames.sure_at(field.count));
+    }
+    if field.id != Field::PANNING {
+        put_in(map, field);
+    }
+    frames.after(field.count).store(map);
+    0
+}
+
+// Every announced structure is put in force.
+fn change(map: &mut [u8], sure: bool)
+    requires { ⌜ length (now map) ≡ 34819 ⌝ }
+    ensures { λ _. ⌜ now (map .exit) ≡ changedFrom 256 0 sure (now (map .entry)) ⌝ }
+{
+    let mut id: usize = 0;
+    while id < Map::IDS {
+        let at = id * Map::BLOCK;
+        change_one(&mut map[at..at + Map::BLOCK], sure);
+        id += 1;
+    }
+}
+
+// One component at a change.
+fn change_one(block: &mut [u8], sure: bool)
+    requires { ⌜ length (now block) ≡ 136 ⌝ }
+    ensures { λ _. ⌜ now (block .exit) ≡ changed sure (now (block .entry)) ⌝ }
+{
+    let coming = Structure::load(&block[Structure::SIZE..Map::BLOCK]);
+    if coming.deleted == 1 {
+        room::clear(block);
+        return;
+    }
+    if coming.fields == 0 {
+        return;
+    }
+    move_down(block);
+    coming.settled(sure).store(&mut block[0..Structure::SIZE]);
+}
+
+// The announced structure's bytes take the place of those in force, and leave 0.
+fn move_down(block: &mut [u8])
+    requires { ⌜ length (now block) ≡ 136 ⌝ }
+    ensures { λ _. ⌜ now (block .exit) ≡ movedDown (now (block .entry)) ⌝ }
+{
+    let mut k: usize = 0;
+    while k < Structure::SIZE {
+        block[k] = block[Structure::SIZE + k];
+        k += 1;
+    }
+    room::clear(&mut block[Structure::SIZE..Map::BLOCK]);
+}
+
+// A field into its structure.
+fn put_in(map: &mut [u8], field: Field)
+    requires { ⌜ length (now map) ≡ 34819 ⌝ }
+    requires { ⌜ field .flag < 2 ⌝ }
+    requires { ⌜ (field .id ≡ 129 → ⊥) ⌝ }
+    ensures { λ _. ⌜ now (map .exit) ≡ takenIn field (now (map .entry)) ⌝ }
+{
+    let at = field.id as usize * Map::BLOCK + field.flag as usize * Structure::SIZE;
+    put_structure(&mut map[at..at + Structure::SIZE], field);
+}
+
+fn put_structure(s: &mut [u8], field: Field)
+    requires { ⌜ length (now s) ≡ 68 ⌝ }
+    ensures { λ _. ⌜ now (s .exit) ≡ putIn field (now (s .entry)) ⌝ }
+{
+    if !Tdms::deletes(field.tdms) {
+        structure::gather(s, field.tdms, field.links);
+    } else if field.flag == 0 {
+        room::clear(s);
+    } else {
+        structure::delete(s);
+    }
+}
+
+// 20, 34, 46. What is known of a component in the frame with a count.
+pub fn show(map: &[u8], id: u8, count: u8) -> Shown
+    ensures { λ r. ⌜ r ≡ shown (now (map .entry)) id count ⌝ }
+{
+    let refused = look::checked(map);
+    if refused != 0 {
+        return Shown {
+            number: refused,
+            at: 0,
+            len: 0,
+            announced: 0,
+            frames: 0,
+        };
+    }
+    look::shown_at(map, id as usize, count)
+}
+
+// 20, 34. A mark for each component in force in the frame with a count: 1 whole, 2 unfinished.
+pub fn list(map: &[u8], count: u8, out: &mut [u8]) -> u8
+    ensures { λ r. ⌜ r ≡ listAnswer (now (map .entry)) (now (out .entry)) ⌝ }
+    ensures { λ _. ⌜ now (out .exit) ≡ listAfter (now (map .entry)) count (now (out .entry)) ⌝ }
+{
+    if (map.len() != Map::SIZE) | (out.len() != Map::IDS) {
+        return 20;
+    }
+    let refused = look::checked(map);
+    if refused != 0 {
+        return refused;
+    }
+    let mut id: usize = 0;
+    while id < Map::IDS {
+        out[id] = look::mark(look::shown_at(map, id, count));
+        id += 1;
+    }
+    0
+}

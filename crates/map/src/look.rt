@@ -1,0 +1,186 @@
+// What the map is asked before a change: frames, structures, whether it is good, and what is known of a component.
+ghost use mathlib.Core.Path.{_≡_};
+ghost use Prim.Native.Nat.{_<_};
+ghost use lib.ListN.{length};
+ghost use Rattle.map.specs.Map.{structureAt, goodAt, good, present, components};
+ghost use Rattle.structure.specs.Structure.{headOf};
+ghost use Rattle.map.specs.Calls.{tooMany, takeAnswer, foundOf, shownAt, showAnswer, markOf};
+use crate::Frames;
+use crate::Map;
+use crate::Shown;
+use field::Field;
+use field::Tdms;
+use structure::Structure;
+
+// The head of the structure in force (which 0) or of the announced one (which 1).
+pub fn head(map: &[u8], id: usize, which: usize) -> Structure
+    requires { ⌜ length (now map) ≡ 34819 ⌝ }
+    requires { ⌜ id < 256 ⌝ }
+    requires { ⌜ which < 2 ⌝ }
+    ensures { λ r. ⌜ r ≡ headOf (structureAt id which (now (map .entry))) ⌝ }
+{
+    let at = id * Map::BLOCK + which * Structure::SIZE;
+    Structure::load(&map[at..at + Structure::SIZE])
+}
+
+fn good_at(map: &[u8], id: usize) -> bool
+    requires { ⌜ length (now map) ≡ 34819 ⌝ }
+    requires { ⌜ id < 256 ⌝ }
+    ensures { λ r. ⌜ r ≡ goodAt (now (map .entry)) id ⌝ }
+{
+    let force = head(map, id, 0);
+    let coming = head(map, id, 1);
+    force.good() & ((force.deleted == 0) & coming.good())
+}
+
+fn is_good(map: &[u8]) -> bool
+    requires { ⌜ length (now map) ≡ 34819 ⌝ }
+    ensures { λ r. ⌜ r ≡ good (now (map .entry)) ⌝ }
+{
+    let mut all = Frames::load(map).good();
+    let mut id: usize = 0;
+    while id < Map::IDS {
+        all = all & good_at(map, id);
+        id += 1;
+    }
+    all
+}
+
+// 20, 34.
+pub fn checked(map: &[u8]) -> u8
+    ensures { λ r. ⌜ r ≡ showAnswer (now (map .entry)) ⌝ }
+{
+    if map.len() != Map::SIZE {
+        return 20;
+    }
+    if is_good(map) { 0 } else { 34 }
+}
+
+// A component is in its set, before or behind a change.
+fn present(map: &[u8], id: usize, which: usize, change: bool) -> bool
+    requires { ⌜ length (now map) ≡ 34819 ⌝ }
+    requires { ⌜ id < 256 ⌝ }
+    ensures { λ r. ⌜ r ≡ present which change (now (map .entry)) id ⌝ }
+{
+    let coming = head(map, id, 1);
+    if which != 0 {
+        return !change & (0 < coming.fields);
+    }
+    if change & coming.said() {
+        0 < coming.fields
+    } else {
+        0 < head(map, id, 0).fields
+    }
+}
+
+fn components(map: &[u8], which: usize, change: bool) -> usize
+    requires { ⌜ length (now map) ≡ 34819 ⌝ }
+    ensures { λ r. ⌜ r ≡ components which change (now (map .entry)) ⌝ }
+{
+    let mut count: usize = 0;
+    let mut id: usize = 0;
+    while id < Map::IDS {
+        if present(map, id, which, change) {
+            count += 1;
+        }
+        id += 1;
+    }
+    count
+}
+
+fn too_many(map: &[u8], field: Field) -> bool
+    requires { ⌜ length (now map) ≡ 34819 ⌝ }
+    ensures { λ r. ⌜ r ≡ tooMany (now (map .entry)) field ⌝ }
+{
+    let change = Frames::load(map).changing(field.count);
+    if Tdms::deletes(field.tdms) {
+        return false;
+    }
+    if present(map, field.id as usize, field.flag as usize, change) {
+        return false;
+    }
+    Map::COMPONENTS <= components(map, field.flag as usize, change)
+}
+
+// 20, 34, 44, 45.
+pub fn take_answer(map: &[u8], field: &[u8]) -> u8
+    ensures { λ r. ⌜ r ≡ takeAnswer (now (map .entry)) (now (field .entry)) ⌝ }
+{
+    if (map.len() != Map::SIZE) | (field.len() != Field::SIZE) {
+        return 20;
+    }
+    if !is_good(map) {
+        return 34;
+    }
+    let field = Field::load(field);
+    if field.bad() {
+        return 44;
+    }
+    if (field.id == Field::PANNING) | Frames::load(map).again(field.count) {
+        return 0;
+    }
+    if too_many(map, field) { 45 } else { 0 }
+}
+
+// What is known of a component in the frame with a count.
+pub fn shown_at(map: &[u8], id: usize, count: u8) -> Shown
+    requires { ⌜ length (now map) ≡ 34819 ⌝ }
+    requires { ⌜ id < 256 ⌝ }
+    ensures { λ r. ⌜ r ≡ shownAt (now (map .entry)) id count ⌝ }
+{
+    let frames = Frames::load(map);
+    let coming = head(map, id, 1);
+    let said = coming.said();
+    let behind = frames.changing(count) & said;
+    let head = if behind {
+        coming.settled(frames.all_heard())
+    } else {
+        head(map, id, 0)
+    };
+    let which = if behind { 1 } else { 0 };
+    found(frames, id, which, head, said)
+}
+
+// The answer of a structure: its fields where it is whole, 46 where it is not.
+fn found(frames: Frames, id: usize, which: usize, head: Structure, said: bool) -> Shown
+    requires { ⌜ id < 256 ⌝ }
+    requires { ⌜ which < 2 ⌝ }
+    ensures { λ r. ⌜ r ≡ foundOf frames id which head said ⌝ }
+{
+    let announced = if said { 1 } else { 0 };
+    let frames = if said { frames.until() } else { 0 };
+    if head.whole == 1 {
+        return Shown {
+            number: 0,
+            at: id * Map::BLOCK + which * Structure::SIZE + Structure::FIELDS,
+            len: Structure::FIELD * head.fields as usize,
+            announced,
+            frames,
+        };
+    }
+    let number = if (0 < head.fields) & (head.whole == 0) {
+        46
+    } else {
+        0
+    };
+    Shown {
+        number,
+        at: 0,
+        len: 0,
+        announced,
+        frames,
+    }
+}
+
+// A mark for a list: 0 no component, 1 whole, 2 unfinished.
+pub fn mark(shown: Shown) -> u8
+    ensures { λ r. ⌜ r ≡ markOf shown ⌝ }
+{
+    if shown.number == 46 {
+        2
+    } else if shown.len == 0 {
+        0
+    } else {
+        1
+    }
+}

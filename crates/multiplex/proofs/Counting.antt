@@ -1,0 +1,190 @@
+-- Frame counts, and counts of components.
+--
+--   next-*          the frame after the one with a count: neither again nor missed, and a change exactly at count 2
+--   same-*          the frame itself
+--   until-change    the change is the next frame exactly behind count 1
+--   counted-agree, counted-less     two sets that agree; a set within another that has one more
+--
+-- Assumes nothing.
+use mathlib.Core.Path.{_≡_, refl, sym, ap, ap₂, _∙_, subst}
+use mathlib.Core.Bool.{Bool, true, false, cond, not, _&&_, _||_}
+use Prim.Native.Nat.{ℕ, zero, suc, _+_, _-_, _%_, _≤_, _<_}
+use native.Mathlib.Omega.{arith}
+use native.Mathlib.Decide.{ℕ-discrete}
+use borrow.Author.Tests.{eq-eqb, ne-eqb, eqb-true, le-ltb}
+use lib.Dec.{T, ltb, leb, eqb}
+use Rattle.map.specs.Map.{ahead, changes, until, counted, goodFrames}
+use Rattle.map.specs.Calls.{changing, again, skips, sureAt, framesAfter, allHeard}
+use Rattle.multiplex.specs.Broadcast.{Broadcast, countAt, change, epoch}
+use Rattle.map.specs.declared.Frames.{Frames}
+
+-- ---- one frame further
+
+module _ (x y : ℕ) (hx : x < 256) (e : y ≡ (x + 1) % 256) where
+  one-ahead : ahead x y ≡ 1
+  unfolding ahead
+  one-ahead = go (ℕ-discrete x 255)
+    where
+      go : Dec (x ≡ 255) → (y + 256 - x) % 128 ≡ 1
+      go (yes q) =
+          let z : y ≡ 0 = omega arith in
+          let d : y + 256 - x ≡ 1 = omega arith in
+          ap (λ (u : ℕ). u % 128) d
+      go (no q) =
+          let z : y ≡ x + 1 = omega arith in
+          let d : y + 256 - x ≡ 257 = omega arith in
+          ap (λ (u : ℕ). u % 128) d
+
+  pub changes-next : changes x y ≡ eqb (y % 128) 2
+  unfolding changes ahead
+  changes-next = ap (ltb ((y + 256 - 2) % 128)) one-ahead ∙ go (ℕ-discrete (y % 128) 2)
+    where
+      go : Dec (y % 128 ≡ 2) → ltb ((y + 256 - 2) % 128) 1 ≡ eqb (y % 128) 2
+      go (yes q) =
+          let z : (y + 256 - 2) % 128 ≡ 0 = omega arith in
+          ap (λ (u : ℕ). ltb u 1) z ∙ sym (eq-eqb (y % 128) 2 q)
+      go (no q) =
+          let z : 1 ≤ (y + 256 - 2) % 128 = omega arith in
+          le-ltb ((y + 256 - 2) % 128) 1 z ∙ sym (ne-eqb (y % 128) 2 q)
+
+  -- behind count 1 the change is the next frame
+  pub until-change : y % 128 ≡ 2 → until x ≡ 1
+  unfolding until ahead
+  until-change q =
+      let z : (1 + 256 - x) % 128 ≡ 0 = omega arith in
+      ap (λ (u : ℕ). u + 1) z
+
+pub same-ahead : (x : ℕ) → ahead x x ≡ 0
+unfolding ahead
+same-ahead x =
+    let d : x + 256 - x ≡ 256 = omega arith in
+    ap (λ (u : ℕ). u % 128) d
+
+pub same-changes : (x : ℕ) → changes x x ≡ false
+unfolding changes
+same-changes x = ap (ltb (ahead 2 x)) (same-ahead x) ∙ le-ltb (ahead 2 x) 0 (omega arith)
+
+-- ---- the frames of a map that missed none
+
+and-true : (x : Bool) → (x && true) ≡ x
+and-true true = refl
+and-true false = refl
+
+pub or-yes : (x : Bool) → (x || true) ≡ true
+or-yes true = refl
+or-yes false = refl
+
+-- from the first change on every frame since the last one was heard
+unfoldable pub sure : Broadcast → ℕ → Bool
+sure b t = not (eqb (epoch b t) 0)
+
+pub sure-later : (b : Broadcast) (t : ℕ) → (epoch b t ≡ 0 → ⊥) → sure b t ≡ true
+unfolding sure
+sure-later b t ne = ap not (ne-eqb (epoch b t) 0 ne)
+
+unfoldable pub frames : Broadcast → ℕ → Frames
+frames b t = record { last = countAt b t; heard = 1; unbroken = cond (sure b t) 1 0 }
+
+module _ (b : Broadcast) (t : ℕ) where
+  pub count-lt : countAt b t < 256
+  unfolding countAt
+  count-lt = omega arith
+
+  count-next : countAt b (suc t) ≡ (countAt b t + 1) % 256
+  unfolding countAt
+  count-next = omega arith
+
+  pub next-changing : changing (frames b t) (countAt b (suc t)) ≡ change b (suc t)
+  unfolding frames changing change
+  next-changing = changes-next (countAt b t) (countAt b (suc t)) count-lt count-next
+
+  pub next-again : again (frames b t) (countAt b (suc t)) ≡ false
+  unfolding frames again
+  next-again = ap (λ (u : ℕ). eqb u 0) (one-ahead (countAt b t) (countAt b (suc t)) count-lt count-next)
+
+  next-skips : skips (frames b t) (countAt b (suc t)) ≡ false
+  unfolding frames skips
+  next-skips = ap (ltb 1) (one-ahead (countAt b t) (countAt b (suc t)) count-lt count-next)
+
+  mark-is : (x : Bool) → eqb (cond x 1 0) 1 ≡ x
+  mark-is true = refl
+  mark-is false = refl
+
+  pub next-sure : sureAt (frames b t) (countAt b (suc t)) ≡ sure b t
+  unfolding sureAt frames
+  next-sure = ap (λ (x : Bool). eqb (cond (sure b t) 1 0) 1 && not x) next-skips ∙ and-true (eqb (cond (sure b t) 1 0) 1) ∙ mark-is (sure b t)
+
+  pub frames-good : goodFrames (frames b t) ≡ true
+  unfolding goodFrames frames
+  frames-good = go (sure b t)
+    where
+      go : (x : Bool) → leb (cond x 1 0) 1 ≡ true
+      go true = refl
+      go false = refl
+
+  -- a change makes it sure, and otherwise nothing moves
+  marked : (c : Bool) → change b (suc t) ≡ c → _≡_ {A = ℕ} (cond c 1 (cond (sure b t) 1 0)) (cond (sure b (suc t)) 1 0)
+  unfolding sure epoch
+  marked true e =
+      sym (ap (λ (c : Bool). cond {A = ℕ} (not (eqb (cond c (suc (epoch b t)) (epoch b t)) 0)) 1 0) e
+      ∙ ap (λ (x : Bool). cond {A = ℕ} (not x) 1 0) (ne-eqb (suc (epoch b t)) 0 (λ z. omega (arith, z))))
+  marked false e = sym (ap (λ (c : Bool). cond {A = ℕ} (not (eqb (cond c (suc (epoch b t)) (epoch b t)) 0)) 1 0) e)
+
+  pub next-frames : framesAfter (frames b t) (countAt b (suc t)) ≡ frames b (suc t)
+  unfolding framesAfter frames
+  next-frames =
+      (λ i. record { last = countAt b (suc t); heard = 1; unbroken = cond (next-skips i) 0 (cond (next-changing i) 1 (cond (sure b t) 1 0)) })
+      ∙ ap (λ (n : ℕ). record { last = countAt b (suc t); heard = 1; unbroken = n }) (marked (change b (suc t)) refl)
+
+  pub same-changing : changing (frames b t) (countAt b t) ≡ false
+  unfolding frames changing
+  same-changing = same-changes (countAt b t)
+
+  pub heard-all : change b (suc t) ≡ true → allHeard (frames b t) ≡ sure b t
+  unfolding frames allHeard change
+  heard-all q =
+      ap (λ (x : Bool). eqb (cond (sure b t) 1 0) 1 && x)
+      (eq-eqb (until (countAt b t)) 1
+      (until-change (countAt b t) (countAt b (suc t)) count-lt count-next (eqb-true (countAt b (suc t) % 128) 2 q)))
+      ∙ and-true (eqb (cond (sure b t) 1 0) 1) ∙ mark-is (sure b t)
+
+-- ---- counts of components
+
+pub counted-agree : (p q : ℕ → Bool) (n k : ℕ) → ((j : ℕ) → k ≤ j → j < k + n → p j ≡ q j) → counted p n k ≡ counted q n k
+unfolding counted
+counted-agree p q zero k h = refl
+counted-agree p q (suc n) k h =
+    ap₂ (λ (x : Bool) (y : ℕ). cond x 1 0 + y) (h k (omega arith) (omega arith))
+    (counted-agree p q n (suc k) (λ j lo hi. h j (omega arith) (omega arith)))
+
+counted-most : (p q : ℕ → Bool) (n k : ℕ) → ((j : ℕ) → k ≤ j → j < k + n → p j ≡ true → q j ≡ true) → counted p n k ≤ counted q n k
+unfolding counted
+counted-most p q zero k h = omega arith
+counted-most p q (suc n) k h =
+    let rest = counted-most p q n (suc k) (λ j lo hi. h j (omega arith) (omega arith)) in
+    go (p k) (q k) (h k (omega arith) (omega arith)) rest
+  where
+    go : (x y : Bool) → (x ≡ true → y ≡ true) → counted p n (suc k) ≤ counted q n (suc k) → cond x 1 0 + counted p n (suc k) ≤ cond y 1 0 + counted q n (suc k)
+    go true true e r = omega arith
+    go true false e r = absurd (subst T (sym (e refl)) tt)
+    go false true e r = omega arith
+    go false false e r = omega arith
+
+-- one that only the greater set has
+pub counted-less : (p q : ℕ → Bool) (n k : ℕ) → ((j : ℕ) → k ≤ j → j < k + n → p j ≡ true → q j ≡ true)
+    → (i : ℕ) → k ≤ i → i < k + n → p i ≡ false → q i ≡ true → counted p n k < counted q n k
+unfolding counted
+counted-less p q zero k h i lo hi e f = absurd (omega arith)
+counted-less p q (suc n) k h i lo hi e f =
+    go (ℕ-discrete i k) (p k) (q k) refl refl
+    (λ l. counted-less p q n (suc k) (λ j a c. h j (omega arith) (omega arith)) i l (omega arith) e f)
+  where
+    go : Dec (i ≡ k) → (x y : Bool) → p k ≡ x → q k ≡ y → (suc k ≤ i → counted p n (suc k) < counted q n (suc k))
+        → cond x 1 0 + counted p n (suc k) < cond y 1 0 + counted q n (suc k)
+    go (yes z) true y a c r = absurd (subst T (sym a ∙ ap p (sym z) ∙ e) tt)
+    go (yes z) false true a c r = omega (arith, counted-most p q n (suc k) (λ j u v. h j (omega arith) (omega arith)))
+    go (yes z) false false a c r = absurd (subst T (sym f ∙ ap q z ∙ c) tt)
+    go (no z) true true a c r = omega (arith, r (omega arith))
+    go (no z) true false a c r = absurd (subst T (sym (h k (omega arith) (omega arith) a) ∙ c) tt)
+    go (no z) false true a c r = omega (arith, r (omega arith))
+    go (no z) false false a c r = omega (arith, r (omega arith))

@@ -1,0 +1,11 @@
+pub mod Counting
+pub mod Standing
+pub mod Steps
+pub mod Taking
+pub mod Accepting
+pub mod InForce
+pub mod Seeing
+pub mod Telling
+pub mod Keeping
+pub mod Examples
+pub mod Refuting

@@ -1,0 +1,4 @@
+pub mod Broadcast
+pub mod Heard
+pub mod Example
+pub mod Empty

@@ -1,0 +1,145 @@
+-- Every change of a structure keeps it good: its head within its bounds, its length, and not to be deleted where it was not.
+--
+--   Kept                    what one more field keeps
+--   gathered-length, gathered-good, gathered-deleted
+--   deletion-length, deletion-good, blank-good    a structure that is to be deleted, and one of 0 alone
+--   settled-good            a head as a change puts it in force
+--   good-deleted            a good head that is not to be deleted says so
+--
+-- Assumes nothing.
+use mathlib.Core.Path.{_≡_, refl, ap, _∙_}
+use mathlib.Core.Bool.{Bool, true, false, cond, _&&_, _||_}
+use mathlib.Core.List.{List}
+use Prim.Native.Nat.{ℕ, _+_, _≤_, _<_}
+use native.Mathlib.Omega.{arith}
+use borrow.Author.Tests.{leb-true, ltb-true, le-leb}
+use lib.Dec.{leb, ltb, eqb, lit<, lit≤}
+use lib.ListN.{length}
+use Rattle.bits.specs.Bits.{blank}
+use Rattle.bits.proofs.Search.{and-left, and-right}
+use Rattle.bits.proofs.Storing.{blank-length}
+use Rattle.structure.specs.Structure.{most, structureSize, headOf, withHead, nth, withNth, member, goesOn, turnOf, turned, gathered, deletion, goodHead, settledHead}
+use Rattle.structure.specs.declared.Structure.{Structure}
+use Rattle.structure.specs.declared.Turn.the-variants.{Begins, Joins, Overflows, Completes, Known}
+use Rattle.structure.proofs.Gathering.{head-stored, head-nth, with-head-length, with-nth-length}
+
+-- ---- heads that are not to be deleted
+
+abbrev made : ℕ → ℕ → ℕ → Structure
+made n w l = record { fields = n; whole = w; links = l; deleted = 0 }
+
+-- a whole structure has fields, and room for each
+abbrev fits : ℕ → ℕ → Bool
+fits n w = eqb w 0 || (ltb 0 n && leb n most)
+
+made-good : (n w l : ℕ) → n ≤ most + 1 → w ≤ 1 → l ≤ 1 → fits n w ≡ true → goodHead (made n w l) ≡ true
+unfolding goodHead
+made-good n w l hn hw hl e = λ i. le-leb n (most + 1) hn i && (le-leb w 1 hw i && (le-leb l 1 hl i && (true && (e i && true))))
+
+record Bounds (h : Structure) : Type 0 where
+  pub fields : h .fields ≤ most + 1
+  pub whole : h .whole ≤ 1
+  pub links : h .links ≤ 1
+  pub deleted : h .deleted ≤ 1
+  pub room : fits (h .fields) (h .whole) ≡ true
+
+good-bounds : (h : Structure) → goodHead h ≡ true → Bounds h
+unfolding goodHead
+good-bounds h g =
+    let w = and-right (leb (h .fields) (most + 1)) _ g in
+    let l = and-right (leb (h .whole) 1) _ w in
+    let d = and-right (leb (h .links) 1) _ l in
+    record {
+      fields = leb-true (h .fields) (most + 1) (and-left _ _ g);
+      whole = leb-true (h .whole) 1 (and-left _ _ w);
+      links = leb-true (h .links) 1 (and-left _ _ l);
+      deleted = leb-true (h .deleted) 1 (and-left _ _ d);
+      room = and-left _ _ (and-right (leb (h .deleted) 1) _ d);
+    }
+
+pub good-deleted : (h : Structure) → goodHead h ≡ true → (h .deleted ≡ 1 → ⊥) → h .deleted ≡ 0
+good-deleted h g ne = omega (arith, good-bounds h g .deleted, ne)
+
+pub settled-good : (sure : Bool) (h : Structure) → goodHead h ≡ true → (goodHead (settledHead sure h) ≡ true) × (settledHead sure h .deleted ≡ 0)
+unfolding settledHead
+settled-good sure h g = (go (good-bounds h g) (sure && (ltb 0 (h .fields) && leb (h .fields) most)) refl, refl)
+  where
+    go : Bounds h → (b : Bool) → (sure && (ltb 0 (h .fields) && leb (h .fields) most)) ≡ b
+        → goodHead (made (h .fields) (cond b 1 (h .whole)) (h .links)) ≡ true
+    go k true q = made-good (h .fields) 1 (h .links) (k .fields) (lit≤ tt) (k .links) (and-right sure _ q)
+    go k false q = made-good (h .fields) (h .whole) (h .links) (k .fields) (k .whole) (k .links) (k .room)
+
+-- ---- one more field
+
+record Kept (s : List ℕ) (l : ℕ) (x : List ℕ) : Type 0 where
+  pub size : length x ≡ structureSize
+  pub good : goodHead (headOf s) ≡ true → l ≤ 1 → goodHead (headOf x) ≡ true
+  pub deleted : headOf s .deleted ≡ 0 → headOf x .deleted ≡ 0
+
+module _ (s : List ℕ) (t l : ℕ) (ls : length s ≡ structureSize) where
+  by-head : (x : List ℕ) (n w : ℕ) → length x ≡ structureSize → headOf x ≡ made n w l → n ≤ most + 1 → w ≤ 1 → fits n w ≡ true → Kept s l x
+  by-head x n w lx e hn hw f = record {
+    size = lx;
+    good = λ g hl. ap goodHead e ∙ made-good n w l hn hw hl f;
+    deleted = λ d. ap (λ (h : Structure). h .deleted) e;
+  }
+
+  -- a head and a field stored
+  both : (b : List ℕ) → length b ≡ structureSize → (k n w : ℕ) → k < most → n ≤ most + 1 → w ≤ 1 → fits n w ≡ true
+      → Kept s l (withNth k t (withHead (made n w l) b))
+  both b lb k n w hk hn hw f =
+      let l1 : length (withHead (made n w l) b) ≡ structureSize = with-head-length b lb (made n w l) in
+      by-head _ n w (with-nth-length (withHead (made n w l) b) l1 k t hk)
+      (head-nth (withHead (made n w l) b) l1 k t hk ∙ head-stored b lb (made n w l)) hn hw f
+
+  -- a head alone
+  alone : (n w : ℕ) → n ≤ most + 1 → w ≤ 1 → fits n w ≡ true → Kept s l (withHead (made n w l) s)
+  alone n w hn hw f = by-head _ n w (with-head-length s ls (made n w l)) (head-stored s ls (made n w l)) hn hw f
+
+  kept : Kept s l (gathered s t l)
+  unfolding gathered turned turnOf
+  kept =
+      go (eqb (headOf s .whole) 1) (member s t) (goesOn s t l) (ltb (headOf s .fields) most)
+      (ltb 0 (headOf s .fields) && (leb (headOf s .fields) most && eqb (nth 0 s) t)) refl refl
+    where
+      begun : Kept s l (turned Begins s t l)
+      begun = both (blank structureSize) (blank-length structureSize) 0 1 0 (lit< tt) (lit≤ tt) (lit≤ tt) refl
+
+      go : (w m g r f : Bool) → ltb (headOf s .fields) most ≡ r
+          → (ltb 0 (headOf s .fields) && (leb (headOf s .fields) most && eqb (nth 0 s) t)) ≡ f
+          → Kept s l (turned (cond w (cond m Known Begins) (cond g (cond r Joins Overflows) (cond f Completes Begins))) s t l)
+      go true true g r f er ef = record { size = ls; good = λ h _. h; deleted = λ d. d }
+      go true false g r f er ef = begun
+      go false m true true f er ef =
+          let n : headOf s .fields < most = ltb-true (headOf s .fields) most er in
+          both s ls (headOf s .fields) (headOf s .fields + 1) 0 n (omega arith) (lit≤ tt) refl
+      go false m true false f er ef = alone (most + 1) 0 (lit≤ tt) (lit≤ tt) refl
+      go false m false r true er ef =
+          let some = and-left (ltb 0 (headOf s .fields)) _ ef in
+          let room = and-left (leb (headOf s .fields) most) _ (and-right (ltb 0 (headOf s .fields)) _ ef) in
+          let n : headOf s .fields ≤ most = leb-true (headOf s .fields) most room in
+          alone (headOf s .fields) 1 (omega arith) (lit≤ tt) (λ i. some i && room i)
+      go false m false r false er ef = begun
+
+  pub gathered-length : length (gathered s t l) ≡ structureSize
+  gathered-length = kept .size
+
+  pub gathered-good : goodHead (headOf s) ≡ true → l ≤ 1 → goodHead (headOf (gathered s t l)) ≡ true
+  gathered-good = kept .good
+
+  pub gathered-deleted : headOf s .deleted ≡ 0 → headOf (gathered s t l) .deleted ≡ 0
+  gathered-deleted = kept .deleted
+
+-- ---- to be deleted, and 0 alone
+
+pub deletion-length : length deletion ≡ structureSize
+unfolding deletion
+deletion-length = with-head-length (blank structureSize) (blank-length structureSize) _
+
+pub deletion-good : goodHead (headOf deletion) ≡ true
+unfolding deletion goodHead
+deletion-good = ap goodHead (head-stored (blank structureSize) (blank-length structureSize) _)
+
+pub blank-good : goodHead (headOf (blank structureSize)) ≡ true
+unfolding headOf blank goodHead
+blank-good = refl

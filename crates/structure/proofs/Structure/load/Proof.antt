@@ -1,0 +1,31 @@
+-- `structure::Structure::load` meets its contract: each byte is read where the definition has it. Assumes nothing.
+use Rattle.structure.specs.Structure.{headOf}
+use borrow.Author.Needs.{needs}
+use Rattle.structure.proofs.Structure.load.Statement.{statement}
+use Rattle.structure.proofs.Structure.load.Tie as tie
+
+shared-slice-read-t3 : tie.Need-shared-slice-read-t3
+shared-slice-read-t3 c = search needs
+
+shared-slice-read-t5 : tie.Need-shared-slice-read-t5
+shared-slice-read-t5 c = search needs
+
+shared-slice-read-t7 : tie.Need-shared-slice-read-t7
+shared-slice-read-t7 c = search needs
+
+shared-slice-read-t9 : tie.Need-shared-slice-read-t9
+shared-slice-read-t9 c = search needs
+
+returns : tie.Need-returns
+unfolding headOf
+returns c = cc
+
+pub load-spec : {M : Type 1} → statement M
+load-spec =
+    tie.close
+    (tie.spec
+    shared-slice-read-t3
+    shared-slice-read-t5
+    shared-slice-read-t7
+    shared-slice-read-t9
+    returns)

@@ -1,0 +1,191 @@
+//! The multiplex's map: the library against the second implementation, every lent buffer compared byte for byte after
+//! every call, refused ones too.
+
+mod both;
+mod numbers;
+mod program;
+
+use both::Both;
+use second::map::{Field, IDS, MAP};
+use second::samples::broadcast::Broadcast;
+use second::samples::{maps, rounds};
+use second::xorshift::Xorshift;
+
+/// Counts about the changes and the wraps.
+const COUNTS: [u8; 10] = [0, 1, 2, 3, 127, 128, 129, 130, 131, 255];
+
+fn started() -> Both {
+    let mut both = Both::new(&[0xA5; MAP]);
+    assert_eq!(both.start(), 0);
+    both
+}
+
+#[test]
+fn lawful_broadcasts() {
+    let mut random = Xorshift::new(401);
+    for seed in 0..rounds(8) as u64 {
+        let mut broadcast = Broadcast::new(500 + seed, random.below(256) as u8);
+        let mut both = started();
+        for _ in 0..3 * 256 {
+            let frame = broadcast.frame();
+            for _ in 0..[1, 5][random.below(2)] {
+                assert_eq!(both.take(&frame.field), 0);
+            }
+            let behind = frame.count.wrapping_add(1);
+            let ids = frame.present.keys().chain(frame.next.keys());
+            for &id in ids.take(4).chain([&maps::id(&mut random)]) {
+                assert_eq!(both.show(id, frame.count), 0);
+                assert_eq!(both.show(id, behind), 0);
+            }
+            assert_eq!(both.list(behind, IDS), 0);
+        }
+    }
+}
+
+/// The same with frames lost, so that lists stay open.
+#[test]
+fn broadcasts_with_frames_lost() {
+    let mut random = Xorshift::new(402);
+    let mut unfinished = 0;
+    for seed in 0..rounds(8) as u64 {
+        let mut broadcast = Broadcast::new(600 + seed, random.below(256) as u8);
+        let mut both = started();
+        let lost = 2 + random.below(30);
+        for _ in 0..3 * 256 {
+            let frame = broadcast.frame();
+            if random.below(lost) == 0 {
+                continue;
+            }
+            assert_eq!(both.take(&frame.field), 0);
+            for &id in frame.present.keys() {
+                unfinished += usize::from(both.show(id, frame.count) == 46);
+            }
+            both.list(COUNTS[random.below(10)], IDS);
+        }
+    }
+    assert!(unfinished > 100, "{unfinished}");
+}
+
+/// How often each number came of fields of any sort, in a row.
+fn history(random: &mut Xorshift, map: &[u8], length: usize, counts: &mut [usize; 256]) {
+    let mut both = Both::new(map);
+    for _ in 0..length {
+        let field = maps::field(random, both.last());
+        counts[usize::from(both.take(&field))] += 1;
+        let (id, count) = (maps::id(random), random.below(256) as u8);
+        counts[usize::from(both.show(id, count))] += 1;
+        counts[usize::from(both.show(id, both.last().wrapping_add(1)))] += 1;
+        if random.below(4) == 0 {
+            both.list(COUNTS[random.below(10)], IDS);
+        }
+    }
+}
+
+#[test]
+fn fields_of_any_sort() {
+    let mut random = Xorshift::new(403);
+    let mut counts = [0; 256];
+    history(&mut random, &[0; MAP], rounds(10_000), &mut counts);
+    for number in [0, 44, 46] {
+        assert!(counts[number] > 100, "{number}: {:?}", &counts[..50]);
+    }
+}
+
+/// Good ones with any contents, and what comes of them.
+#[test]
+fn maps_made_by_hand() {
+    let mut random = Xorshift::new(404);
+    let mut counts = [0; 256];
+    for _ in 0..rounds(500) {
+        let map = maps::good(&mut random);
+        let mut both = Both::new(&map);
+        for count in [
+            both.last(),
+            random.below(256) as u8,
+            COUNTS[random.below(10)],
+        ] {
+            both.list(count, IDS);
+            both.show(random.below(256) as u8, count);
+        }
+        history(&mut random, &map, 12, &mut counts);
+    }
+    for number in [0, 44, 45, 46] {
+        assert!(counts[number] > 100, "{number}: {:?}", &counts[..50]);
+    }
+}
+
+/// Every component's place, in force and announced.
+#[test]
+fn every_component() {
+    let mut random = Xorshift::new(405);
+    for id in 0..=255 {
+        let map = maps::good(&mut random);
+        let mut both = Both::new(&map);
+        let last = both.last();
+        for count in [last, last.wrapping_add(1), 2] {
+            both.show(id, count);
+        }
+        for flag in [false, true] {
+            let field = Field {
+                count: both.last().wrapping_add(1),
+                flag,
+                id,
+                tdms: maps::tdms(&mut random),
+                links: random.chance(),
+            };
+            both.take(&field.encode());
+        }
+    }
+}
+
+#[test]
+fn bad_maps() {
+    let mut random = Xorshift::new(406);
+    for _ in 0..rounds(2_000) {
+        let mut both = Both::new(&maps::bad(&mut random));
+        // A bad pair too, often: the map is looked at before.
+        let field = maps::field(&mut random, both.last());
+        assert_eq!(both.take(&field), 34);
+        assert_eq!(both.show(maps::id(&mut random), field[0]), 34);
+        assert_eq!(both.list(field[0], IDS), 34);
+    }
+}
+
+/// Every value of every byte that is tested, in some structures, and of the map's last three.
+#[test]
+fn every_byte_of_a_head() {
+    let mut random = Xorshift::new(407);
+    let mut map = maps::good(&mut random);
+    let places = [0, 68, 136 * 0x81, 136 * 255, 136 * 255 + 68];
+    let heads = places.iter().flat_map(|&at| at..at + 5);
+    for at in heads.chain(MAP - 3..MAP) {
+        let kept = map[at];
+        for byte in 0..=255 {
+            map[at] = byte;
+            let mut both = Both::new(&map);
+            both.show((at / 136) as u8, 2);
+            both.take(&maps::field(&mut random, map[MAP - 3]));
+        }
+        map[at] = kept;
+    }
+}
+
+/// One less, one more, none, and much more, of every lent buffer; the map is good, bad, or anything.
+#[test]
+fn wrong_lengths() {
+    let mut random = Xorshift::new(408);
+    let contents = [maps::good(&mut random), maps::bad(&mut random)];
+    for length in [0, 1, 3, 68, 136, MAP - 136, MAP - 1, MAP, MAP + 1, 2 * MAP] {
+        for map in &contents {
+            let map: Vec<u8> = map.iter().copied().cycle().take(length).collect();
+            for room in [0, 1, 9, 10, 11, 20, 255, 256, 257, 512] {
+                let mut both = Both::new(&map);
+                both.take(&vec![7; room]);
+                both.list(9, room);
+            }
+            let mut both = Both::new(&map);
+            both.show(3, 9);
+            both.start();
+        }
+    }
+}

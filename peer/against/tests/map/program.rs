@@ -1,0 +1,76 @@
+//! The map's type for programs in Rust.
+
+use against::feed::{Map, Refusal, Structure};
+use against::map::{pack, write};
+use second::map::{FIELD, MAP};
+use second::samples::broadcast::Broadcast;
+use second::samples::difference;
+
+/// From annex C: a structure that comes, and a component that goes.
+#[test]
+fn annex_c() {
+    let deletion = [0x75, 0x43, 0xFE, 0xFF, 0xFF, 0xFF, 0xFF, 0xFF, 0xFF, 0x7F];
+    let structure = [0x76, 0x41, 0x16, 0xA8, 0xA0, 0xA8, 0xA6, 0xCA, 0xB1, 0x50];
+    let expected = Structure {
+        first_lines: (11, 21),
+        second_lines: (325, 333),
+        clock_periods: (229, 1291),
+    };
+    let mut map = Map::new();
+    assert_eq!(map.take(&deletion), Ok(()));
+    assert_eq!(map.take(&structure), Ok(()));
+    assert_eq!(map.take(&structure[1..]), Err(Refusal(20)));
+    assert_eq!(map.change_in(0x20), Some(12));
+    assert_eq!(map.change_in(0x22), None);
+    assert_eq!(map.component(0x20, 118), Ok(vec![]));
+    assert_eq!(map.component(0x20, 130), Err(Refusal(46)));
+    // In count 126 it comes again, and is known to be whole; the other frames are of no matter here.
+    let (_, tdms) = pack([11, 21, 325, 333, 229, 1291]);
+    for count in 119..131 {
+        let mut field = [0; FIELD];
+        let written = match count {
+            126 => write(count, 1, 0x20, tdms, 1, &mut field),
+            _ => write(count, 0, 0x81, 5, 0, &mut field),
+        };
+        assert_eq!(written, 0);
+        assert_eq!(map.take(&field), Ok(()));
+    }
+    assert_eq!(map.component(0x20, 130), Ok(vec![expected]));
+    assert_eq!(map.components(130), [0x20]);
+    let mut kept = *map.bytes();
+    assert!(Map::from_bytes(&kept).is_ok());
+    kept[MAP - 1] = 2;
+    assert_eq!(Map::from_bytes(&kept).err(), Some(Refusal(34)));
+    assert_eq!(
+        Refusal(46).to_string(),
+        "the structure is not known to be whole (46)"
+    );
+}
+
+/// It says what the calls under it say.
+#[test]
+fn a_broadcast() {
+    let mut broadcast = Broadcast::new(411, 77);
+    let mut map = Map::default();
+    let mut bytes = vec![0; MAP];
+    for _ in 0..300 {
+        let frame = broadcast.frame();
+        assert_eq!(map.take(&frame.field), Ok(()));
+        assert_eq!(second::map::take(&mut bytes, &frame.field), 0);
+        assert_eq!(difference(map.bytes(), &bytes), None);
+        let ids: Vec<u8> = frame.present.keys().copied().collect();
+        assert_eq!(map.components(frame.count), ids);
+        for (&id, list) in &frame.present {
+            let numbers = |it: Structure| {
+                let [(a, b), (c, d)] = [it.first_lines, it.second_lines];
+                let (e, f) = it.clock_periods;
+                second::map::pack([a, b, c, d, e, f]).1
+            };
+            let shown = map.component(id, frame.count).expect("a whole list");
+            let shown: Vec<u64> = shown.into_iter().map(numbers).collect();
+            assert_eq!(&shown, list);
+            let announced = frame.announced.contains(&id);
+            assert_eq!(map.change_in(id), announced.then_some(frame.to_change));
+        }
+    }
+}

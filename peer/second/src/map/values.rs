@@ -1,0 +1,176 @@
+//! The whole map as values: 256 components, and what is known of the frames.
+
+use super::field::Field;
+use super::structure::{mark, Component, Structure, COMPONENT, HEAD, STRUCTURE};
+use crate::numbers::{refuse_unless, DONE, LENGTH, NOT_GOOD, TOO_MANY, UNFINISHED};
+
+/// Components that a map has room for, one for each TDMCID, and its bytes.
+pub const IDS: usize = 256;
+pub const MAP: usize = IDS * COMPONENT + 3;
+
+/// What is announced comes into force with the frame that has this count, modulo so many.
+const CHANGE: u8 = 2;
+const CYCLE: i32 = 128;
+/// So many components a multiplex has at most.
+const MOST: usize = 128;
+
+#[derive(Clone, Debug, PartialEq, Eq)]
+pub struct Map {
+    pub components: Vec<Component>,
+    /// The count of the frame whose field was taken in last; `heard` says whether there was one.
+    pub last: u8,
+    pub heard: bool,
+    /// Whether every frame since the last change was heard.
+    pub unbroken: bool,
+}
+
+/// What a map shows of a component: a number, a part of the map, and what is to come.
+#[derive(Clone, Copy, Debug, PartialEq, Eq)]
+pub struct Shown {
+    pub number: u8,
+    pub at: usize,
+    pub length: usize,
+    pub announced: bool,
+    /// In how many frames behind the last one the change comes, if something is announced.
+    pub frames: u8,
+}
+
+impl Map {
+    /// The map that some bytes stand for; 20 and 34 are refused here, for every call.
+    pub fn decode(bytes: &[u8]) -> Result<Map, u8> {
+        refuse_unless(bytes.len() == MAP, LENGTH)?;
+        let (components, &[last, heard, unbroken]) = bytes.split_last_chunk().ok_or(LENGTH)?;
+        let components: Option<_> = components
+            .chunks(COMPONENT)
+            .map(Component::decode)
+            .collect();
+        Ok(Map {
+            components: components.ok_or(NOT_GOOD)?,
+            last,
+            heard: mark(heard).ok_or(NOT_GOOD)?,
+            unbroken: mark(unbroken).ok_or(NOT_GOOD)?,
+        })
+    }
+
+    pub fn encode(&self) -> Vec<u8> {
+        let mut bytes = Vec::with_capacity(MAP);
+        for component in &self.components {
+            component.encode(&mut bytes);
+        }
+        bytes.extend([self.last, self.heard.into(), self.unbroken.into()]);
+        bytes
+    }
+
+    /// Takes a field in. Refused: 44 and 45.
+    pub fn take(&mut self, field: &Field) -> Result<(), u8> {
+        field.refuse_bad_pairs()?;
+        if self.again(field.count) {
+            return Ok(());
+        }
+        let mut next = self.up_to(field.count);
+        next.refuse_one_too_many(field)?;
+        next.learn(field);
+        *self = next;
+        Ok(())
+    }
+
+    /// The map in the frame of a count, before its field is taken in.
+    fn up_to(&self, count: u8) -> Map {
+        let skips = self.skips(count);
+        let all_heard = self.unbroken && !skips;
+        let mut next = Map {
+            last: count,
+            heard: true,
+            unbroken: !skips && (self.unbroken || self.changing(count)),
+            ..self.clone()
+        };
+        if self.changing(count) {
+            for component in &mut next.components {
+                *component = component.behind_change(all_heard);
+            }
+        }
+        next
+    }
+
+    /// The set that a field is about is looked at alone: components that go and others that come may be announced in
+    /// any order.
+    fn refuse_one_too_many(&self, field: &Field) -> Result<(), u8> {
+        let set: Vec<u8> = (0..=u8::MAX)
+            .zip(&self.components)
+            .filter(|(_, component)| structure(component, field.flag).has_list())
+            .map(|(id, _)| id)
+            .collect();
+        let joins = !field.is_panning() && !field.is_deletion() && !set.contains(&field.id);
+        refuse_unless(!joins || set.len() < MOST, TOO_MANY)
+    }
+
+    /// Works a field into the structure that it is about.
+    fn learn(&mut self, field: &Field) {
+        if field.is_panning() {
+            return;
+        }
+        let component = &mut self.components[usize::from(field.id)];
+        match (field.is_deletion(), field.flag) {
+            (true, false) => component.in_force = Structure::default(),
+            (true, true) => component.announced = Structure::deletion(),
+            (false, false) => component.in_force.take(field.tdms, field.links),
+            (false, true) => component.announced.take(field.tdms, field.links),
+        }
+    }
+
+    /// What is in force in the frame of a count, as far as is known.
+    pub fn show(&self, id: u8, count: u8) -> Shown {
+        let place = COMPONENT * usize::from(id) + HEAD;
+        let component = &self.components[usize::from(id)];
+        let announced = component.is_announced();
+        let frames = ahead(self.last, CHANGE - 1) + 1;
+        let (structure, room) = if announced && self.changing(count) {
+            // Something more could be announced in the frames between, but for the last.
+            let all_heard = self.unbroken && frames == 1;
+            let behind = component.behind_change(all_heard);
+            (behind.in_force, place + STRUCTURE)
+        } else {
+            (component.in_force.clone(), place)
+        };
+        let (number, at, length) = match structure.fields {
+            0 => (DONE, 0, 0),
+            fields if structure.whole => (DONE, room, 8 * usize::from(fields)),
+            _ => (UNFINISHED, 0, 0),
+        };
+        Shown {
+            number,
+            at,
+            length,
+            announced,
+            frames: if announced { frames as u8 } else { 0 },
+        }
+    }
+
+    /// Whether a change falls behind the last frame, up to the frame of a count.
+    fn changing(&self, count: u8) -> bool {
+        self.heard && ahead(CHANGE, count) < ahead(self.last, count)
+    }
+
+    /// Whether a count is that of the last frame: a field is sent five times.
+    fn again(&self, count: u8) -> bool {
+        self.heard && ahead(self.last, count) == 0
+    }
+
+    fn skips(&self, count: u8) -> bool {
+        self.heard && ahead(self.last, count) > 1
+    }
+}
+
+/// Which of a component's structures a field with this flag is about.
+fn structure(component: &Component, flag: bool) -> &Structure {
+    if flag {
+        &component.announced
+    } else {
+        &component.in_force
+    }
+}
+
+/// How many frames from one count to another. Half of the eight bits is told apart.
+fn ahead(from: u8, to: u8) -> i32 {
+    (i32::from(to) - i32::from(from)).rem_euclid(CYCLE)
+}

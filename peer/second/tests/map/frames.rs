@@ -1,0 +1,206 @@
+//! Frames: when a change comes, how far apart two counts are, and what is missed between them.
+
+use crate::listener::{said, Listener, GONE};
+
+/// At 2 modulo 128 and at no other count. What show says of the next frame is what comes.
+#[test]
+fn a_change_comes_at_two() {
+    for origin in [0, 128] {
+        let mut listener = Listener::new(origin + 126);
+        listener.hears(1, 7, "a", 0);
+        for (frames, count) in [(3, 127), (2, 0), (1, 1)] {
+            listener.idle_to(listener.count.wrapping_add(1));
+            assert_eq!(listener.count.wrapping_sub(1) % 128, count);
+            assert_eq!(listener.announced(7), (1, frames));
+            assert_eq!(listener.now(7), said(0, ""));
+            let next = if frames == 1 { "a" } else { "" };
+            assert_eq!(listener.next(7), said(0, next));
+        }
+        listener.hears(1, 8, "b", 0);
+        assert_eq!(listener.now(7), said(0, "a"));
+        assert_eq!(listener.announced(7), (0, 0));
+        // What is announced in the frame of a change waits for the next.
+        for frames in (1..=128).rev() {
+            assert_eq!(listener.announced(8), (1, frames));
+            assert_eq!(listener.now(8), said(0, ""));
+            listener.idle_to(listener.count.wrapping_add(1));
+        }
+        assert_eq!(listener.now(8), said(0, "b"));
+    }
+}
+
+/// What is announced comes into force with the first frame at or behind a change. Unless that is the very next frame, a
+/// field may have been missed.
+#[test]
+fn a_change_comes_behind_a_gap_too() {
+    for (last, count, changes) in [
+        (1, 2, true),
+        (1, 3, true),
+        (1, 0, true),
+        (1, 127, true),
+        (1, 129, false),
+        (2, 3, false),
+        (2, 1, false),
+        (2, 130, false),
+        (3, 2, true),
+        (3, 1, false),
+        (3, 130, true),
+        (127, 1, false),
+        (127, 2, true),
+        (255, 1, false),
+        (255, 130, true),
+        (77, 76, true),
+        (77, 1, false),
+    ] {
+        let mut listener = Listener::new(last);
+        listener.hears(1, 7, "a", 0);
+        let before = listener.at(7, count);
+        listener.count = count;
+        listener.hears(0, 0x81, "z", 0);
+        let now = match (changes, last, count) {
+            (false, _, _) => said(0, ""),
+            (true, 1, 2) => said(0, "a"),
+            (true, _, _) => said(46, ""),
+        };
+        assert_eq!(listener.now(7), now, "{last} {count}");
+        // Before the gap, nothing is missed yet: behind frame 1, no more could be announced.
+        let all = changes && last == 1;
+        assert_eq!(before, if all { said(0, "a") } else { now });
+    }
+}
+
+/// Counts are told apart modulo 128, so 127 and 255 are both followed by 0 and by 128.
+#[test]
+fn the_distance_across_the_wrap() {
+    for (last, count, unbroken) in [
+        (127, 0, 1),
+        (127, 128, 1),
+        (255, 0, 1),
+        (255, 128, 1),
+        (126, 0, 0),
+        (254, 0, 0),
+        (127, 1, 0),
+        (255, 1, 0),
+        (0, 127, 0),
+        (0, 255, 0),
+        (0, 128, 1),
+    ] {
+        let mut listener = Listener::new(last);
+        listener.hears(0, 7, "a", 0);
+        assert_eq!(listener.marks(), [1, 1]);
+        listener.count = count;
+        listener.hears(0, 7, "b", 0);
+        assert_eq!(listener.marks(), [1, unbroken], "{last} {count}");
+    }
+}
+
+/// The first frame changes nothing, whatever its count is, and what came before it is not known.
+#[test]
+fn the_first_frame() {
+    for count in 0..=255 {
+        let mut listener = Listener::late(count);
+        assert_eq!(listener.marks(), [0, 0]);
+        assert_eq!(listener.at(7, count), said(0, ""));
+        listener.hears(1, 7, "a", 0);
+        assert_eq!(listener.marks(), [1, 0]);
+        assert_eq!(listener.map[34_816], count);
+        assert_eq!(listener.now(7), said(0, ""));
+        assert_eq!(listener.announced(7).0, 1);
+    }
+}
+
+/// A field is sent five times in its frame. The second is not a repetition of the list.
+#[test]
+fn five_identical_blocks_count_once() {
+    for flag in 0..2 {
+        let mut listener = Listener::new(20);
+        listener.hears(flag, 7, "a", 0);
+        let once = listener.map.clone();
+        for _ in 0..4 {
+            listener.count = 20;
+            listener.hears(flag, 7, "a", 0);
+            assert!(listener.map == once);
+        }
+        // Nor does another field of this frame count, or of one half the counts away.
+        for count in [20, 148] {
+            listener.count = count;
+            listener.hears(flag, 7, "b", 0);
+            assert_eq!(listener.hear(flag, 7, GONE, 0), 0);
+            listener.map.copy_from_slice(&once);
+        }
+    }
+}
+
+/// The mark is set by a change, unless the frame before the change was missed, and cleared by a missed frame.
+#[test]
+fn the_mark_of_frames_without_a_gap() {
+    let mut listener = Listener::new(100);
+    listener.idle_to(102);
+    listener.count = 103;
+    listener.idle_to(130);
+    assert_eq!(listener.marks(), [1, 0]);
+    listener.idle_to(131);
+    assert_eq!(listener.marks(), [1, 1]);
+    listener.idle_to(1);
+    listener.count = 2;
+    listener.idle_to(3);
+    assert_eq!(listener.marks(), [1, 0]);
+}
+
+/// A frame missed anywhere up to the change leaves a list open of which not all is known, and no other.
+#[test]
+fn missed_frames_leave_it_unfinished() {
+    for missed in [None, Some(117), Some(120), Some(129), Some(130)] {
+        let mut listener = Listener::new(110);
+        listener.hears(1, 7, "ab", 0);
+        listener.hears(1, 8, "aba", 0);
+        listener.hears(1, 9, "a", 0);
+        assert_eq!(listener.hear(1, 9, GONE, 0), 0);
+        if let Some(count) = missed {
+            listener.idle_to(count);
+            listener.count = count + 1;
+        }
+        listener.idle_to(132);
+        let open = match missed {
+            Some(_) => said(46, ""),
+            None => said(0, "ab"),
+        };
+        assert_eq!(listener.now(7), open, "{missed:?}");
+        assert_eq!(listener.now(8), said(0, "ab"), "{missed:?}");
+        assert_eq!(listener.now(9), said(0, ""), "{missed:?}");
+    }
+}
+
+/// A list that a change left open is closed by the fields that come without a flag.
+#[test]
+fn it_is_finished_later() {
+    let mut listener = Listener::new(0);
+    listener.hears(1, 7, "a", 0);
+    listener.count = 2;
+    listener.idle_to(3);
+    assert_eq!(listener.now(7), said(46, ""));
+    for (letter, expected) in [("b", said(46, "")), ("a", said(0, "ab"))] {
+        listener.hears(0, 7, letter, 0);
+        assert_eq!(listener.now(7), expected);
+    }
+}
+
+/// One who begins to listen while a list is announced does not know what came before: the part that was heard is not shown as the
+/// whole, until a repetition shows it.
+#[test]
+fn a_late_listener_takes_no_part_for_the_whole() {
+    // Announced is "abc". It was begun before the first frame that is heard.
+    let mut listener = Listener::late(0);
+    listener.hears(1, 7, "bc", 0);
+    assert_eq!(listener.marks(), [1, 0]);
+    assert_eq!(listener.next(7), said(46, ""));
+    listener.idle_to(3);
+    assert_eq!(listener.now(7), said(46, ""));
+    listener.hears(0, 7, "abca", 0);
+    assert_eq!(listener.now(7), said(0, "abc"));
+    // One who heard its first field again knows it.
+    let mut listener = Listener::late(120);
+    listener.hears(1, 7, "bcabca", 0);
+    listener.idle_to(131);
+    assert_eq!(listener.now(7), said(0, "abc"));
+}

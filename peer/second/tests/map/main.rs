@@ -1,0 +1,10 @@
+//! The multiplex's map: annex C's rows, a test for each rule, and broadcasts of which it is known what is in force.
+
+mod broadcasts;
+mod fields;
+mod frames;
+mod limits;
+mod listener;
+mod lists;
+mod maps;
+mod sets;
