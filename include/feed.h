@@ -182,7 +182,8 @@ uint8_t feed_map_take(uint8_t *map, size_t map_len, const uint8_t *field, size_t
  * *announced is 1 where something new was said of the component since the last change, and then *frames is in how many frames behind
  * the last field's the change comes, 1 to 128; both are given with 46, too.
  * Refused, in this order: 20, 34, 46 (fields were heard, but it is not known that these are all: that is known when the first of them
- * comes again, and of announced ones at the change, if every frame since the change before was heard).
+ * comes again, and of announced ones at the change, if every frame of the configuration before it was heard; a frame missed on the
+ * way has the gathering begin anew).
  */
 uint8_t feed_map_show(const uint8_t *map, size_t map_len, uint8_t id, uint8_t count, size_t *at, size_t *len, uint8_t *announced,
                       uint8_t *frames);

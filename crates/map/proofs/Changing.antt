@@ -1,7 +1,8 @@
 -- What a change does: every announced structure is put in force, once.
 --
 --   changed-length        a component's block keeps its length
---   from-*                the loop over all components: each block is changed, and nothing else
+--   each-*, from-*        the loop over all components, by any rule and by a change's: each block is changed, and nothing else
+--   both-*                a missed frame: each structure is spoiled, and nothing else
 --   stays .. settled      what is in force and announced behind a change, by what was announced
 --
 -- Assumes nothing.
@@ -14,16 +15,17 @@ use native.Mathlib.Decide.{ℕ-discrete}
 use borrow.Author.Tests.{ne-eqb, le-leb, lt-ltb, eqb-true}
 use lib.Dec.{leb, ltb, eqb, lit<, lit≤}
 use lib.ListN.{length, take, length-append}
-use lib.Seq.{drop-append-le, take-at, drop-at}
+use lib.Seq.{drop-append-le, take-all, take-at, drop-at}
 use Rattle.bits.specs.Bits.{blank}
 use Rattle.bits.proofs.Storing.{blank-length, drop-blank}
 use Rattle.slot.specs.Part.{part, put}
 use Rattle.slot.proofs.Laws.{part-length, put-length, blank-at}
-use Rattle.structure.specs.Structure.{most, structureSize, headOf, withHead, settledHead}
-use Rattle.map.specs.Map.{ids, mapSize, blockSize, framesOf, blockAt, withBlock, structureAt, movedDown, changed, changedFrom}
+use Rattle.structure.specs.Structure.{most, structureSize, headOf, withHead, spoiled, settledHead}
+use Rattle.map.specs.Map.{ids, mapSize, blockSize, framesOf, blockAt, withBlock, structureAt, movedDown, changed, eachFrom, changedFrom, spoiledBoth}
 use Rattle.structure.specs.declared.Structure.{Structure}
 use Rattle.map.proofs.Places.{structure-length, block-length, block-structure, block-same, block-other, block-frames, with-block-length}
 use Rattle.structure.proofs.Gathering.{Holds, Empty, head-stored, nth-head, with-head-length}
+use Rattle.structure.proofs.Kept.{spoiled-length}
 
 -- ---- blank structures
 
@@ -99,55 +101,101 @@ module _ (sure : Bool) (b : List ℕ) (lb : length b ≡ blockSize) where
 
 -- ---- all blocks
 
-module _ (sure : Bool) where
+-- a rule for one block that keeps its length
+module _ (f : List ℕ → List ℕ) (keeps : (b : List ℕ) → length b ≡ blockSize → length (f b) ≡ blockSize) where
   module _ (k : ℕ) (hk : k < ids) (m : List ℕ) (l : length m ≡ mapSize) where
-    lc : length (changed sure (blockAt k m)) ≡ blockSize
-    lc = changed-length sure (blockAt k m) (block-length m l k hk)
+    lc : length (f (blockAt k m)) ≡ blockSize
+    lc = keeps (blockAt k m) (block-length m l k hk)
 
-    step-length : length (withBlock k (changed sure (blockAt k m)) m) ≡ mapSize
-    step-length = with-block-length m l k (changed sure (blockAt k m)) hk lc
+    step-length : length (withBlock k (f (blockAt k m)) m) ≡ mapSize
+    step-length = with-block-length m l k (f (blockAt k m)) hk lc
 
-  pub from-length : (n k : ℕ) (m : List ℕ) → k + n ≤ ids → length m ≡ mapSize → length (changedFrom n k sure m) ≡ mapSize
-  unfolding changedFrom
-  from-length zero k m h l = l
-  from-length (suc n) k m h l = from-length n (suc k) _ (omega arith) (step-length k (omega arith) m l)
+  pub each-length : (n k : ℕ) (m : List ℕ) → k + n ≤ ids → length m ≡ mapSize → length (eachFrom n k f m) ≡ mapSize
+  unfolding eachFrom
+  each-length zero k m h l = l
+  each-length (suc n) k m h l = each-length n (suc k) _ (omega arith) (step-length k (omega arith) m l)
 
-  pub from-frames : (n k : ℕ) (m : List ℕ) → k + n ≤ ids → length m ≡ mapSize → framesOf (changedFrom n k sure m) ≡ framesOf m
-  unfolding changedFrom
-  from-frames zero k m h l = refl
-  from-frames (suc n) k m h l =
-      from-frames n (suc k) _ (omega arith) (step-length k (omega arith) m l)
-      ∙ block-frames m l k (changed sure (blockAt k m)) (omega arith) (lc k (omega arith) m l)
+  pub each-frames : (n k : ℕ) (m : List ℕ) → k + n ≤ ids → length m ≡ mapSize → framesOf (eachFrom n k f m) ≡ framesOf m
+  unfolding eachFrom
+  each-frames zero k m h l = refl
+  each-frames (suc n) k m h l =
+      each-frames n (suc k) _ (omega arith) (step-length k (omega arith) m l)
+      ∙ block-frames m l k (f (blockAt k m)) (omega arith) (lc k (omega arith) m l)
 
-  from-before : (n k : ℕ) (m : List ℕ) → k + n ≤ ids → length m ≡ mapSize → (j : ℕ) → j < k → blockAt j (changedFrom n k sure m) ≡ blockAt j m
-  unfolding changedFrom
-  from-before zero k m h l j hj = refl
-  from-before (suc n) k m h l j hj =
-      from-before n (suc k) _ (omega arith) (step-length k (omega arith) m l) j (omega arith)
-      ∙ block-other m l k (changed sure (blockAt k m)) (omega arith) (lc k (omega arith) m l) j (λ z. omega (arith, z))
+  each-before : (n k : ℕ) (m : List ℕ) → k + n ≤ ids → length m ≡ mapSize → (j : ℕ) → j < k → blockAt j (eachFrom n k f m) ≡ blockAt j m
+  unfolding eachFrom
+  each-before zero k m h l j hj = refl
+  each-before (suc n) k m h l j hj =
+      each-before n (suc k) _ (omega arith) (step-length k (omega arith) m l) j (omega arith)
+      ∙ block-other m l k (f (blockAt k m)) (omega arith) (lc k (omega arith) m l) j (λ z. omega (arith, z))
 
-  pub from-at : (n k : ℕ) (m : List ℕ) → k + n ≤ ids → length m ≡ mapSize → (j : ℕ) → k ≤ j → j < k + n
-      → blockAt j (changedFrom n k sure m) ≡ changed sure (blockAt j m)
-  unfolding changedFrom
-  from-at zero k m h l j hk hj = absurd (omega arith)
-  from-at (suc n) k m h l j hk hj =
+  pub each-at : (n k : ℕ) (m : List ℕ) → k + n ≤ ids → length m ≡ mapSize → (j : ℕ) → k ≤ j → j < k + n
+      → blockAt j (eachFrom n k f m) ≡ f (blockAt j m)
+  unfolding eachFrom
+  each-at zero k m h l j hk hj = absurd (omega arith)
+  each-at (suc n) k m h l j hk hj =
       go (ℕ-discrete j k)
-      (λ lo. from-at n (suc k) (withBlock k (changed sure (blockAt k m)) m) (omega arith) (step-length k (omega arith) m l) j lo (omega arith))
+      (λ lo. each-at n (suc k) (withBlock k (f (blockAt k m)) m) (omega arith) (step-length k (omega arith) m l) j lo (omega arith))
     where
-      lk : length (changed sure (blockAt k m)) ≡ blockSize
+      lk : length (f (blockAt k m)) ≡ blockSize
       lk = lc k (omega arith) m l
 
       next : List ℕ
-      next = withBlock k (changed sure (blockAt k m)) m
+      next = withBlock k (f (blockAt k m)) m
 
-      go : Dec (j ≡ k) → (suc k ≤ j → blockAt j (changedFrom n (suc k) sure next) ≡ changed sure (blockAt j next))
-          → blockAt j (changedFrom n (suc k) sure next) ≡ changed sure (blockAt j m)
+      go : Dec (j ≡ k) → (suc k ≤ j → blockAt j (eachFrom n (suc k) f next) ≡ f (blockAt j next))
+          → blockAt j (eachFrom n (suc k) f next) ≡ f (blockAt j m)
       go (yes e) rest =
-          from-before n (suc k) next (omega arith) (step-length k (omega arith) m l) j (omega arith)
-          ∙ subst (λ (x : ℕ). blockAt x next ≡ changed sure (blockAt x m)) (sym e)
-          (block-same m l k (changed sure (blockAt k m)) (omega arith) lk)
+          each-before n (suc k) next (omega arith) (step-length k (omega arith) m l) j (omega arith)
+          ∙ subst (λ (x : ℕ). blockAt x next ≡ f (blockAt x m)) (sym e)
+          (block-same m l k (f (blockAt k m)) (omega arith) lk)
       go (no e) rest =
-          rest (omega arith) ∙ ap (changed sure) (block-other m l k (changed sure (blockAt k m)) (omega arith) lk j e)
+          rest (omega arith) ∙ ap f (block-other m l k (f (blockAt k m)) (omega arith) lk j e)
+
+module _ (sure : Bool) where
+  pub from-length : (n k : ℕ) (m : List ℕ) → k + n ≤ ids → length m ≡ mapSize → length (changedFrom n k sure m) ≡ mapSize
+  from-length = each-length (changed sure) (changed-length sure)
+
+  pub from-frames : (n k : ℕ) (m : List ℕ) → k + n ≤ ids → length m ≡ mapSize → framesOf (changedFrom n k sure m) ≡ framesOf m
+  from-frames = each-frames (changed sure) (changed-length sure)
+
+-- ---- a missed frame
+
+module _ (b : List ℕ) (lb : length b ≡ blockSize) where
+  abbrev one : List ℕ
+  one = spoiled (part 0 structureSize b)
+
+  abbrev two : List ℕ
+  two = spoiled (part structureSize structureSize b)
+
+  one-length : length one ≡ structureSize
+  one-length = spoiled-length (part 0 structureSize b) (part-length 0 structureSize b (omega arith))
+
+  two-length : length two ≡ structureSize
+  two-length = spoiled-length (part structureSize structureSize b) (part-length structureSize structureSize b (omega arith))
+
+  pub both-length : length (spoiledBoth b) ≡ blockSize
+  unfolding spoiledBoth
+  both-length = length-append one two ∙ ap₂ (λ (x y : ℕ). x + y) one-length two-length
+
+  both-part : (w : ℕ) → w < 2 → part (w * structureSize) structureSize (spoiledBoth b) ≡ spoiled (part (w * structureSize) structureSize b)
+  unfolding spoiledBoth part
+  both-part zero hw = take-at one two structureSize one-length
+  both-part (suc zero) hw = ap (take structureSize) (drop-at one two structureSize one-length) ∙ take-all structureSize two (omega (arith, two-length))
+  both-part (suc (suc w)) hw = absurd (omega arith)
+
+module _ (m : List ℕ) (l : length m ≡ mapSize) where
+  pub gap-length : length (eachFrom ids 0 spoiledBoth m) ≡ mapSize
+  gap-length = each-length spoiledBoth both-length ids 0 m (lit≤ tt) l
+
+  pub gap-frames : framesOf (eachFrom ids 0 spoiledBoth m) ≡ framesOf m
+  gap-frames = each-frames spoiledBoth both-length ids 0 m (lit≤ tt) l
+
+  pub gap-structure : (k w : ℕ) → k < ids → w < 2 → structureAt k w (eachFrom ids 0 spoiledBoth m) ≡ spoiled (structureAt k w m)
+  gap-structure k w hk hw =
+      sym (block-structure (eachFrom ids 0 spoiledBoth m) gap-length k hk w hw)
+      ∙ ap (part (w * structureSize) structureSize) (each-at spoiledBoth both-length ids 0 m (lit≤ tt) l k (omega arith) hk)
+      ∙ both-part (blockAt k m) (block-length m l k hk) w hw ∙ ap spoiled (block-structure m l k hk w hw)
 
 -- ---- a component behind a change
 
@@ -161,7 +209,7 @@ module _ (sure : Bool) (m : List ℕ) (l : length m ≡ mapSize) (k : ℕ) (hk :
   behind : (w : ℕ) → w < 2 → structureAt k w (changedFrom ids 0 sure m) ≡ part (w * structureSize) structureSize (changed sure (blockAt k m))
   behind w hw =
       sym (block-structure (changedFrom ids 0 sure m) (from-length sure ids 0 m (lit≤ tt) l) k hk w hw)
-      ∙ ap (part (w * structureSize) structureSize) (from-at sure ids 0 m (lit≤ tt) l k (omega arith) hk)
+      ∙ ap (part (w * structureSize) structureSize) (each-at (changed sure) (changed-length sure) ids 0 m (lit≤ tt) l k (omega arith) hk)
 
   -- nothing was announced
   pub stays : headOf (structureAt k 1 m) .fields ≡ 0 → headOf (structureAt k 1 m) .deleted ≡ 0 → (w : ℕ) → w < 2

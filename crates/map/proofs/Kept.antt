@@ -24,16 +24,17 @@ use Rattle.field.specs.Field.{fieldOf, deletes, panning}
 use Rattle.field.specs.declared.Field.{Field}
 use Rattle.field.proofs.Bytes.{Within}
 use Rattle.field.proofs.RoundTrip.{field-bounds}
-use Rattle.structure.specs.Structure.{structureSize, headOf, gathered, deletion, goodHead, settledHead}
+use Rattle.structure.specs.Structure.{structureSize, headOf, gathered, spoiled, deletion, goodHead, settledHead}
 use Rattle.structure.specs.declared.Structure.{Structure}
 use Rattle.structure.proofs.Gathering.{head-stored}
-use Rattle.structure.proofs.Kept.{gathered-length, gathered-good, gathered-deleted, deletion-length, deletion-good, blank-good, good-deleted, settled-good}
-use Rattle.map.specs.Map.{ids, mapSize, blockSize, framesOf, withFrames, structureAt, withStructure, inForce, announced, goodFrames, goodAt, good, changedFrom}
-use Rattle.map.specs.Calls.{startAfter, startAnswer, changing, again, takeAnswer, skips, sureAt, framesAfter, upTo, putIn, takenIn, frameTaken, takeAfter}
-use Rattle.map.specs.declared.Frames.{Frames}
+use Rattle.structure.proofs.Kept.{gathered-length, gathered-good, gathered-deleted, deletion-length, deletion-good, blank-good, good-deleted, settled-good, spoiled-head}
+use Rattle.frames.specs.Counts.{goodFrames, changing, again, skips, sureAt, framesAfter}
+use Rattle.map.specs.Map.{ids, mapSize, blockSize, framesOf, withFrames, structureAt, withStructure, inForce, announced, goodAt, good, eachFrom, changedFrom, spoiledBoth}
+use Rattle.map.specs.Calls.{startAfter, startAnswer, takeAnswer, overGap, upTo, putIn, takenIn, frameTaken, takeAfter}
+use Rattle.frames.proofs.Distances.{after-good}
 use Rattle.map.proofs.Places.{structure-length, with-structure-length, structure-same, structure-other, frames-kept, with-frames-length, structures-kept, frames-stored}
-use Rattle.map.proofs.Changing.{blank-empty, part-blank, from-frames, stays, gone, cleared, in-force}
-use Rattle.map.proofs.Doing.{start-passed, fits, up-to-length}
+use Rattle.map.proofs.Changing.{blank-empty, part-blank, from-frames, gap-frames, gap-structure, stays, gone, cleared, in-force}
+use Rattle.map.proofs.Doing.{start-passed, fits, over-gap-length, up-to-length}
 
 -- the bytes after, by cases of the answer
 done-either : (P : List ℕ → Type 0) (n : ℕ) (after before : List ℕ) → (n ≡ 0 → P after) → P before → P (done n after before)
@@ -124,22 +125,32 @@ module _ (sure : Bool) (m : List ℕ) (l : length m ≡ mapSize) (g : Good m) wh
       go k w hk hw (no d) (no f) =
           listed k w hk hw (omega arith) (good-deleted (coming k) (g .structures k 1 hk (lit< tt) .head) d)
 
+-- a missed frame leaves every head as it is
+over-gap-good : (m : List ℕ) (n : ℕ) → length m ≡ mapSize → Good m → Good (overGap m n)
+unfolding overGap
+over-gap-good m n l g = go (skips (framesOf m) n)
+  where
+    spoiled-fine : (w : ℕ) (s : List ℕ) → length s ≡ structureSize → Fine w s → Fine w (spoiled s)
+    spoiled-fine w s ls f = record {
+      head = ap goodHead (spoiled-head s ls) ∙ f .head;
+      deleted = λ z. ap (λ (h : Structure). h .deleted) (spoiled-head s ls) ∙ f .deleted z;
+    }
+
+    go : (b : Bool) → Good (cond b (eachFrom ids 0 spoiledBoth m) m)
+    go true = record {
+      frames = ap goodFrames (gap-frames m l) ∙ g .frames;
+      structures = λ k w hk hw. subst (Fine w) (sym (gap-structure m l k w hk hw))
+          (spoiled-fine w (structureAt k w m) (structure-length m l k w hk hw) (g .structures k w hk hw));
+    }
+    go false = g
+
 up-to-good : (m : List ℕ) (n : ℕ) → length m ≡ mapSize → Good m → Good (upTo m n)
 unfolding upTo
 up-to-good m n l g = go (changing (framesOf m) n)
   where
-    go : (b : Bool) → Good (cond b (changedFrom ids 0 (sureAt (framesOf m) n) m) m)
-    go true = changed-good (sureAt (framesOf m) n) m l g
-    go false = g
-
-after-good : (h : Frames) (n : ℕ) → goodFrames h ≡ true → goodFrames (framesAfter h n) ≡ true
-unfolding goodFrames framesAfter
-after-good h n g = go (skips h n) (changing h n)
-  where
-    go : (s c : Bool) → leb (cond s 0 (cond c 1 (h .unbroken))) 1 ≡ true
-    go true c = refl
-    go false true = refl
-    go false false = and-right (leb (h .heard) 1) (leb (h .unbroken) 1) g
+    go : (b : Bool) → Good (cond b (changedFrom ids 0 (sureAt (framesOf m) n) (overGap m n)) (overGap m n))
+    go true = changed-good (sureAt (framesOf m) n) (overGap m n) (over-gap-length m n l) (over-gap-good m n l g)
+    go false = over-gap-good m n l g
 
 -- ---- a field taken in
 

@@ -1,7 +1,5 @@
 -- What the map is asked: the code's tests against the definitions.
 --
---   ahead-wraps, ahead-lt    the distance between frame counts, by a difference that wraps
---   after-*                  the frames behind a field, by the tests on the way
 --   structure-lent           the part that is lent of a structure is the structure
 --   all-next, all-end        a turn and the end of the loop over all components
 --   shown-20 ..              the rows 20 and 34; Passed: a map that neither refuses
@@ -16,7 +14,7 @@
 use mathlib.Core.Path.{_≡_, refl, sym, ap, ap₂, _∙_}
 use mathlib.Core.Bool.{Bool, true, false, true≢false, cond, not, _&&_, _||_, and-true, and-false, and-assoc}
 use mathlib.Core.List.{List, [], _∷_}
-use Prim.Native.Nat.{ℕ, suc, _+_, _-_, _*_, _%_, _≤_, _<_}
+use Prim.Native.Nat.{ℕ, suc, _+_, _-_, _*_, _≤_, _<_}
 use native.Mathlib.Omega.{arith}
 use native.Mathlib.Nat.{add-assoc, add-zero}
 use borrow.Author.Tests.{eq-eqb, ne-eqb, eqb-true, not-false}
@@ -29,37 +27,12 @@ use Rattle.slot.specs.Part.{part}
 use Rattle.field.specs.Field.{fieldSize, fieldOf, badField, deletes, panning}
 use Rattle.field.specs.declared.Field.{Field}
 use Rattle.structure.specs.Structure.{structureSize, headOf, said, settledHead}
-use Rattle.map.specs.Map.{ids, mapSize, blockSize, ahead, until, framesOf, structureAt, inForce, announced, goodAt, good, stands, comes, present, counted, components}
-use Rattle.map.specs.Calls.{changing, again, skips, framesAfter, tooMany, takeRows, takeAnswer, allHeard, thenWhich, thenHead, thenNumber, foundOf, shownAt, showAnswer, markOf}
+use Rattle.frames.specs.Counts.{until, changing, again, allHeard}
+use Rattle.map.specs.Map.{ids, mapSize, blockSize, framesOf, structureAt, inForce, announced, goodAt, good, stands, comes, present, counted, components}
+use Rattle.map.specs.Calls.{tooMany, takeRows, takeAnswer, thenWhich, thenHead, thenNumber, foundOf, shownAt, showAnswer, markOf}
 use Rattle.structure.specs.declared.Structure.{Structure}
-use Rattle.map.specs.declared.Frames.{Frames}
+use Rattle.frames.specs.declared.Frames.{Frames}
 use Rattle.map.specs.declared.Shown.{Shown}
-
--- ---- frames
-
-pub ahead-wraps : (r a b : ℕ) → r < 256 → a < 256 → (r + a) % 256 ≡ b → r % 128 ≡ ahead a b
-unfolding ahead
-ahead-wraps r a b hr ha e = omega arith
-
-pub ahead-lt : (a b : ℕ) → ahead a b < 128
-unfolding ahead
-ahead-lt a b = omega arith
-
-module _ (h : Frames) (n : ℕ) where
-  abbrev behind : ℕ → Frames
-  behind unbroken = record { last = n; heard = 1; unbroken = unbroken }
-
-  pub after-skipped : skips h n ≡ true → behind 0 ≡ framesAfter h n
-  unfolding framesAfter
-  after-skipped e = λ i. behind (cond (sym e i) 0 (cond (changing h n) 1 (h .unbroken)))
-
-  pub after-changed : skips h n ≡ false → changing h n ≡ true → behind 1 ≡ framesAfter h n
-  unfolding framesAfter
-  after-changed e q = λ i. behind (cond (sym e i) 0 (cond (sym q i) 1 (h .unbroken)))
-
-  pub after-next : skips h n ≡ false → changing h n ≡ false → behind (h .unbroken) ≡ framesAfter h n
-  unfolding framesAfter
-  after-next e q = λ i. behind (cond (sym e i) 0 (cond (sym q i) 1 (h .unbroken)))
 
 -- ---- structures
 

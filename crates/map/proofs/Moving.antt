@@ -16,19 +16,19 @@ use native.Mathlib.Nat.{zero-add}
 use native.Mathlib.Numerals.{add-one}
 use borrow.Author.Tests.{eq-eqb, ne-eqb}
 use lib.Dec.{eqb}
-use lib.ListN.{length, take, drop, getD, set, take-append-drop}
-use lib.Seq.{drop-append-le, drop-drop, drop-length, length-take-le}
+use lib.ListN.{length, take, drop, getD, set, take-append-drop, length-drop}
+use lib.Seq.{drop-append-le, drop-drop, drop-length, length-take-le, take-at, drop-at}
 use Rattle.bits.specs.Bits.{blank}
 use Rattle.slot.specs.Part.{part, put}
 use Rattle.slot.proofs.Laws.{part-length, part-cons, part-cat, put-length, part-put, getD-put-after, put-next, sets-put}
 use Rattle.field.specs.Field.{deletes, panning}
 use Rattle.field.specs.declared.Field.{Field}
-use Rattle.structure.specs.Structure.{structureSize, headOf, withHead, gathered, deletion, settledHead}
-use Rattle.map.specs.Map.{ids, mapSize, blockSize, blockAt, withBlock, structureAt, withStructure, movedDown, changed, changedFrom}
+use Rattle.structure.specs.Structure.{structureSize, headOf, withHead, gathered, spoiled, deletion, settledHead}
+use Rattle.structure.proofs.Kept.{spoiled-length}
+use Rattle.map.specs.Map.{ids, mapSize, blockSize, blockAt, withBlock, structureAt, withStructure, movedDown, changed, eachFrom, spoiledBoth}
 use Rattle.map.specs.Calls.{putIn, takenIn}
 use Rattle.structure.specs.declared.Structure.{Structure}
 use Rattle.map.proofs.Places.{block-length, with-block-length}
-use Rattle.map.proofs.Changing.{changed-length}
 use Rattle.map.proofs.Looking.{structure-lent}
 
 -- ---- a structure moved down: the first k bytes are those of the announced one
@@ -115,28 +115,44 @@ block-is k m =
 pub block-span : (k : ℕ) (m : List ℕ) → length m ≡ mapSize → k < ids → length (take (span (k * blockSize) blockSize) (drop (k * blockSize) m)) ≡ blockSize
 block-span k m l h = ap length (block-is k m) ∙ block-length m l k h
 
-module _ (sure : Bool) (k : ℕ) (m : List ℕ) (l : length m ≡ mapSize) (h : k < ids) (b : List ℕ)
-    (e : b ≡ changed sure (take (span (k * blockSize) blockSize) (drop (k * blockSize) m))) where
-  pub change-turn : (length (take (k * blockSize) m ++ (b ++ drop (span (k * blockSize) blockSize) (drop (k * blockSize) m))) ≡ mapSize)
-      × (changedFrom (ids - (k + 1)) (k + 1) sure (take (k * blockSize) m ++ (b ++ drop (span (k * blockSize) blockSize) (drop (k * blockSize) m)))
-      ≡ changedFrom (ids - k) k sure m)
-  unfolding changedFrom withBlock put
-  change-turn =
-      let n : ids - k ≡ suc (ids - (k + 1)) = omega arith in
-      let w : span (k * blockSize) blockSize ≡ blockSize = omega arith in
-      let c : List ℕ = changed sure (blockAt k m) in
-      let lc : length c ≡ blockSize = changed-length sure (blockAt k m) (block-length m l k h) in
-      let given : (take (k * blockSize) m ++ (b ++ drop (span (k * blockSize) blockSize) (drop (k * blockSize) m))) ≡ withBlock k c m =
-      ap₂ (λ (x : List ℕ) (j : ℕ). take (k * blockSize) m ++ (x ++ drop j (drop (k * blockSize) m))) (e ∙ ap (changed sure) (block-is k m)) w in (
-        ap length given ∙ with-block-length m l k c h lc,
-        ap₂ (λ (x : ℕ) (y : List ℕ). changedFrom (ids - (k + 1)) x sure y) (add-one k) given ∙ ap (λ (j : ℕ). changedFrom j k sure m) (sym n),
-      )
+-- a rule for one block that keeps its length
+module _ (f : List ℕ → List ℕ) (keeps : (b : List ℕ) → length b ≡ blockSize → length (f b) ≡ blockSize) where
+  module _ (k : ℕ) (m : List ℕ) (l : length m ≡ mapSize) (h : k < ids) (b : List ℕ)
+      (e : b ≡ f (take (span (k * blockSize) blockSize) (drop (k * blockSize) m))) where
+    pub each-turn : (length (take (k * blockSize) m ++ (b ++ drop (span (k * blockSize) blockSize) (drop (k * blockSize) m))) ≡ mapSize)
+        × (eachFrom (ids - (k + 1)) (k + 1) f (take (k * blockSize) m ++ (b ++ drop (span (k * blockSize) blockSize) (drop (k * blockSize) m)))
+        ≡ eachFrom (ids - k) k f m)
+    unfolding eachFrom withBlock put
+    each-turn =
+        let n : ids - k ≡ suc (ids - (k + 1)) = omega arith in
+        let w : span (k * blockSize) blockSize ≡ blockSize = omega arith in
+        let c : List ℕ = f (blockAt k m) in
+        let lc : length c ≡ blockSize = keeps (blockAt k m) (block-length m l k h) in
+        let given : (take (k * blockSize) m ++ (b ++ drop (span (k * blockSize) blockSize) (drop (k * blockSize) m))) ≡ withBlock k c m =
+        ap₂ (λ (x : List ℕ) (j : ℕ). take (k * blockSize) m ++ (x ++ drop j (drop (k * blockSize) m))) (e ∙ ap f (block-is k m)) w in (
+          ap length given ∙ with-block-length m l k c h lc,
+          ap₂ (λ (x : ℕ) (y : List ℕ). eachFrom (ids - (k + 1)) x f y) (add-one k) given ∙ ap (λ (j : ℕ). eachFrom j k f m) (sym n),
+        )
 
-pub change-end : (sure : Bool) (k : ℕ) (m t : List ℕ) → ids ≤ k → changedFrom (ids - k) k sure m ≡ t → m ≡ t
-unfolding changedFrom
-change-end sure k m t h e =
+pub each-end : (f : List ℕ → List ℕ) (k : ℕ) (m t : List ℕ) → ids ≤ k → eachFrom (ids - k) k f m ≡ t → m ≡ t
+unfolding eachFrom
+each-end f k m t h e =
     let n : 0 ≡ ids - k = omega arith in
-    ap (λ (j : ℕ). changedFrom j k sure m) n ∙ e
+    ap (λ (j : ℕ). eachFrom j k f m) n ∙ e
+
+-- ---- a missed frame
+
+-- the two structures of a block, spoiled one after the other
+pub both-spoiled : (b x y : List ℕ) → length b ≡ blockSize → x ≡ spoiled (take 68 b)
+    → y ≡ spoiled (take 68 (drop 68 (x ++ drop 68 b))) → (take 68 (x ++ drop 68 b) ++ (y ++ drop 68 (drop 68 (x ++ drop 68 b)))) ≡ spoiledBoth b
+unfolding spoiledBoth part
+both-spoiled b x y l ex ey =
+    let lx : length x ≡ structureSize = ap length ex ∙ spoiled-length (take 68 b) (part-length 0 68 b (omega arith)) in
+    let back : drop 68 (x ++ drop 68 b) ≡ drop 68 b = drop-at x (drop 68 b) 68 lx in
+    let far : length (drop 68 b) ≡ 68 = omega (arith, length-drop 68 b) in
+    let rest : drop 68 (drop 68 b) ≡ [] = ap (λ (n : ℕ). drop n (drop 68 b)) (sym far) ∙ drop-length (drop 68 b) in
+    ap₂ (λ (u v : List ℕ). u ++ v) (take-at x (drop 68 b) 68 lx ∙ ex)
+    (ap₂ (λ (u v : List ℕ). u ++ v) (ey ∙ ap (λ (z : List ℕ). spoiled (take 68 z)) back) (ap (drop 68) back ∙ rest) ∙ append-nil _)
 
 -- ---- a field into its structure
 

@@ -17,7 +17,7 @@ use Rattle.slot.specs.Part.{part, put}
 use Rattle.slot.proofs.Laws.{part-length, part-part, put-length, part-put, part-put-before, part-put-after, getD-put-in, getD-put-after}
 use Rattle.structure.specs.Structure.{structureSize}
 use Rattle.map.specs.Map.{ids, mapSize, blockSize, framesAt, framesOf, withFrames, blockAt, withBlock, structureAt, withStructure}
-use Rattle.map.specs.declared.Frames.{Frames}
+use Rattle.frames.specs.declared.Frames.{Frames}
 
 module _ (m : List ℕ) (l : length m ≡ mapSize) where
   pub structure-length : (k w : ℕ) → k < ids → w < 2 → length (structureAt k w m) ≡ structureSize

@@ -14,9 +14,10 @@ use Rattle.bits.specs.Rows.{Row, row, refusal, done}
 use Rattle.field.specs.Field.{fieldSize, fieldOf, badField, deletes, panning}
 use Rattle.field.specs.declared.Field.{Field}
 use Rattle.structure.specs.Structure.{gathered, deletion, said, structureSize, settledHead}
-use Rattle.map.specs.Map.{ids, mapSize, blockSize, ahead, changes, until, framesOf, withFrames, structureAt, withStructure, inForce, announced, good, changedFrom, present, components}
+use Rattle.frames.specs.Counts.{until, changing, again, skips, sureAt, framesAfter, allHeard}
+use Rattle.map.specs.Map.{ids, mapSize, blockSize, framesOf, withFrames, structureAt, withStructure, inForce, announced, good, eachFrom, changedFrom, spoiledBoth, present, components}
 use Rattle.structure.specs.declared.Structure.{Structure}
-use Rattle.map.specs.declared.Frames.{Frames}
+use Rattle.frames.specs.declared.Frames.{Frames}
 use Rattle.map.specs.declared.Shown.{Shown}
 
 -- ---- start
@@ -28,14 +29,6 @@ unfoldable pub startAfter : List ℕ → List ℕ
 startAfter m = done (startAnswer m) (blank mapSize) m
 
 -- ---- taking in one field
-
--- a change falls between the last field's frame and this one's
-unfoldable pub changing : Frames → ℕ → Bool
-changing h n = eqb (h .heard) 1 && changes (h .last) n
-
--- one of the same frame's five identical blocks
-unfoldable pub again : Frames → ℕ → Bool
-again h n = eqb (h .heard) 1 && eqb (ahead (h .last) n) 0
 
 -- "45 more than 128 components": a field of a component that its set has not, where the set has 128; old and new are counted by themselves
 unfoldable pub tooMany : List ℕ → Field → Bool
@@ -54,23 +47,14 @@ takeRows m f =
 unfoldable pub takeAnswer : List ℕ → List ℕ → ℕ
 takeAnswer m f = refusal (takeRows m f)
 
--- a frame was missed on the way
-unfoldable pub skips : Frames → ℕ → Bool
-skips h n = eqb (h .heard) 1 && ltb 1 (ahead (h .last) n)
-
-unfoldable pub sureAt : Frames → ℕ → Bool
-sureAt h n = eqb (h .unbroken) 1 && not (skips h n)
-
-unfoldable pub framesAfter : Frames → ℕ → Frames
-framesAfter h n = record {
-  last = n;
-  heard = 1;
-  unbroken = cond (skips h n) 0 (cond (changing h n) 1 (h .unbroken));
-}
+-- nothing that is being gathered is taken for the whole where a frame was missed
+unfoldable pub overGap : List ℕ → ℕ → List ℕ
+overGap m n = cond (skips (framesOf m) n) (eachFrom ids 0 spoiledBoth m) m
 
 -- the changes up to the field's frame
 unfoldable pub upTo : List ℕ → ℕ → List ℕ
-upTo m n = cond (changing (framesOf m) n) (changedFrom ids 0 (sureAt (framesOf m) n) m) m
+upTo m n =
+    cond (changing (framesOf m) n) (changedFrom ids 0 (sureAt (framesOf m) n) (overGap m n)) (overGap m n)
 
 -- a structure with the field taken in: an old one is gone at once, a new one is to be deleted
 unfoldable pub putIn : Field → List ℕ → List ℕ
@@ -91,10 +75,6 @@ unfoldable pub takeAfter : List ℕ → List ℕ → List ℕ
 takeAfter m f = done (takeAnswer m f) (frameTaken m (fieldOf f)) m
 
 -- ---- a component, in the frame with a count
-
--- nothing more of what is announced can come: every frame since the change before is heard, to the last before the next
-unfoldable pub allHeard : Frames → Bool
-allHeard h = eqb (h .unbroken) 1 && eqb (until (h .last)) 1
 
 -- what is in force then: the announced structure behind the change
 unfoldable pub thenWhich : List ℕ → ℕ → ℕ → ℕ

@@ -4,27 +4,26 @@
 --   136 k + 68      component k: announced
 --   34,816          the frame count of the last field taken in
 --   34,817          1 where a field was taken in
---   34,818          1 where every frame since the last change was heard
+--   34,818          1 where every frame of the running configuration was heard
 --
---   ahead a b       the distance from frame count a to frame count b, "across the wrap from 127 to 0"
---   changes a b     a change falls behind the frame with count a, up to that with count b: "from the beginning of line 1 of the second
---                   frame following the frame in which FCNT code 0 (modulo 128) is sent", the frame with count 2
---   until a         in how many frames after that with count a the next change comes
 --   inForce, announced      a component's structures
 --   changed m b     a component at a change
+--   spoiledBoth b   a component's structures, where a frame was missed
+--   eachFrom        every component by such a rule
 --   good m          the condition of a good map
 --   present, components     which components a set has, and how many
 use mathlib.Core.Bool.{Bool, cond, not, _&&_}
 use mathlib.Core.List.{List, [], _∷_, _++_}
-use Prim.Native.Nat.{ℕ, zero, suc, _+_, _-_, _*_, _%_}
-use lib.Dec.{leb, ltb, eqb}
+use Prim.Native.Nat.{ℕ, zero, suc, _+_, _*_}
+use lib.Dec.{ltb, eqb}
 use lib.ListN.{getD}
 use Rattle.bits.specs.Bits.{blank}
 use Rattle.bits.specs.Search.{all}
 use Rattle.slot.specs.Part.{part, put}
-use Rattle.structure.specs.Structure.{structureSize, headOf, withHead, goodHead, said, settledHead}
+use Rattle.frames.specs.Counts.{goodFrames}
+use Rattle.structure.specs.Structure.{structureSize, headOf, withHead, spoiled, goodHead, said, settledHead}
 use Rattle.structure.specs.declared.Structure.{Structure}
-use Rattle.map.specs.declared.Frames.{Frames}
+use Rattle.frames.specs.declared.Frames.{Frames}
 
 abbrev pub ids : ℕ
 ids = 256
@@ -37,17 +36,6 @@ framesAt = 34816
 
 abbrev pub mapSize : ℕ
 mapSize = 34819
-
--- ---- frame counts
-
-unfoldable pub ahead : ℕ → ℕ → ℕ
-ahead a b = (b + 256 - a) % 128
-
-unfoldable pub changes : ℕ → ℕ → Bool
-changes a b = ltb (ahead 2 b) (ahead a b)
-
-unfoldable pub until : ℕ → ℕ
-until a = ahead a 1 + 1
 
 -- ---- places
 
@@ -79,9 +67,6 @@ announced k m = headOf (structureAt k 1 m)
 
 -- ---- good
 
-unfoldable pub goodFrames : Frames → Bool
-goodFrames h = leb (h .heard) 1 && leb (h .unbroken) 1
-
 unfoldable pub goodAt : List ℕ → ℕ → Bool
 goodAt m k = goodHead (inForce k m) && (eqb (inForce k m .deleted) 0 && goodHead (announced k m))
 
@@ -101,9 +86,17 @@ changed sure b =
     (cond (eqb (h .fields) 0) b (withHead (settledHead sure h) (movedDown b)))
 
 -- n components from k on
-unfoldable pub changedFrom : ℕ → ℕ → Bool → List ℕ → List ℕ
-changedFrom zero k sure m = m
-changedFrom (suc n) k sure m = changedFrom n (suc k) sure (withBlock k (changed sure (blockAt k m)) m)
+unfoldable pub eachFrom : ℕ → ℕ → (List ℕ → List ℕ) → List ℕ → List ℕ
+eachFrom zero k f m = m
+eachFrom (suc n) k f m = eachFrom n (suc k) f (withBlock k (f (blockAt k m)) m)
+
+abbrev pub changedFrom : ℕ → ℕ → Bool → List ℕ → List ℕ
+changedFrom n k sure m = eachFrom n k (changed sure) m
+
+-- ---- a missed frame
+
+unfoldable pub spoiledBoth : List ℕ → List ℕ
+spoiledBoth b = spoiled (part 0 structureSize b) ++ spoiled (part structureSize structureSize b)
 
 -- ---- the components of a set, before or behind a change
 

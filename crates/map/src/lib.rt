@@ -5,10 +5,11 @@
 ghost use mathlib.Core.Path.{_≡_};
 ghost use Prim.Native.Nat.{_<_};
 ghost use lib.ListN.{length};
-ghost use Rattle.map.specs.Map.{ahead, until, framesOf, withFrames, goodFrames, movedDown, changed, changedFrom};
-ghost use Rattle.map.specs.Calls.{startAnswer, startAfter, changing, again, skips, sureAt, framesAfter, allHeard, putIn, takenIn, takeAnswer, takeAfter, shown, listAnswer, listAfter};
+ghost use Rattle.map.specs.Map.{framesOf, withFrames, movedDown, changed, eachFrom, changedFrom, spoiledBoth};
+ghost use Rattle.map.specs.Calls.{startAnswer, startAfter, putIn, takenIn, takeAnswer, takeAfter, shown, listAnswer, listAfter};
 use field::Field;
 use field::Tdms;
+use frames::Frames;
 use slot::room;
 use structure::Structure;
 
@@ -29,13 +30,6 @@ impl Map {
     pub const SIZE: usize = Self::FRAMES + 3;
 }
 
-// The last frame count, whether there is one, and whether every frame since the last change was heard.
-pub struct Frames {
-    pub last: u8,
-    pub heard: u8,
-    pub unbroken: u8,
-}
-
 // What is known of a component: 0 with its fields' place and length in the map, or a refusal; and whether a change is announced, and
 // in how many frames behind the last one it comes.
 pub struct Shown {
@@ -46,97 +40,25 @@ pub struct Shown {
     pub frames: u8,
 }
 
-// The distance between two frame counts, across the wrap from 127 to 0.
-fn ahead(from: u8, to: u8) -> u8
-    ensures { λ r. ⌜ r ≡ ahead from to ⌝ }
+// The frames, at the map's end.
+fn frames_of(map: &[u8]) -> Frames
+    requires { ⌜ length (now map) ≡ 34819 ⌝ }
+    ensures { λ r. ⌜ r ≡ framesOf (now (map .entry)) ⌝ }
 {
-    std::num::wrapping_sub_u8(to, from) % 128
+    Frames {
+        last: map[Map::FRAMES],
+        heard: map[Map::FRAMES + 1],
+        unbroken: map[Map::FRAMES + 2],
+    }
 }
 
-impl Frames {
-    pub fn load(map: &[u8]) -> Self
-        requires { ⌜ length (now map) ≡ 34819 ⌝ }
-        ensures { λ r. ⌜ r ≡ framesOf (now (map .entry)) ⌝ }
-    {
-        Self {
-            last: map[Map::FRAMES],
-            heard: map[Map::FRAMES + 1],
-            unbroken: map[Map::FRAMES + 2],
-        }
-    }
-
-    pub fn store(self, map: &mut [u8])
-        requires { ⌜ length (now map) ≡ 34819 ⌝ }
-        ensures { λ _. ⌜ now (map .exit) ≡ withFrames self (now (map .entry)) ⌝ }
-    {
-        map[Map::FRAMES] = self.last;
-        map[Map::FRAMES + 1] = self.heard;
-        map[Map::FRAMES + 2] = self.unbroken;
-    }
-
-    pub fn good(self) -> bool
-        ensures { λ r. ⌜ r ≡ goodFrames self ⌝ }
-    {
-        (self.heard <= 1) & (self.unbroken <= 1)
-    }
-
-    // In how many frames behind the last one the next change comes: at the frame with count 2.
-    pub fn until(self) -> u8
-        ensures { λ r. ⌜ r ≡ until (self .last) ⌝ }
-    {
-        ahead(self.last, 1) + 1
-    }
-
-    // A change falls behind the last frame, up to that with a count.
-    pub fn changing(self, count: u8) -> bool
-        ensures { λ r. ⌜ r ≡ changing self count ⌝ }
-    {
-        (self.heard == 1) & (ahead(2, count) < ahead(self.last, count))
-    }
-
-    // One of the same frame's five identical blocks.
-    pub fn again(self, count: u8) -> bool
-        ensures { λ r. ⌜ r ≡ again self count ⌝ }
-    {
-        (self.heard == 1) & (ahead(self.last, count) == 0)
-    }
-
-    // A frame is missed on the way to that with a count.
-    pub fn skips(self, count: u8) -> bool
-        ensures { λ r. ⌜ r ≡ skips self count ⌝ }
-    {
-        (self.heard == 1) & (1 < ahead(self.last, count))
-    }
-
-    pub fn sure_at(self, count: u8) -> bool
-        ensures { λ r. ⌜ r ≡ sureAt self count ⌝ }
-    {
-        (self.unbroken == 1) & !self.skips(count)
-    }
-
-    // Nothing more of what is announced can come.
-    pub fn all_heard(self) -> bool
-        ensures { λ r. ⌜ r ≡ allHeard self ⌝ }
-    {
-        (self.unbroken == 1) & (self.until() == 1)
-    }
-
-    pub fn after(self, count: u8) -> Self
-        ensures { λ r. ⌜ r ≡ framesAfter self count ⌝ }
-    {
-        let unbroken = if self.skips(count) {
-            0
-        } else if self.changing(count) {
-            1
-        } else {
-            self.unbroken
-        };
-        Self {
-            last: count,
-            heard: 1,
-            unbroken,
-        }
-    }
+fn put_frames(map: &mut [u8], frames: Frames)
+    requires { ⌜ length (now map) ≡ 34819 ⌝ }
+    ensures { λ _. ⌜ now (map .exit) ≡ withFrames frames (now (map .entry)) ⌝ }
+{
+    map[Map::FRAMES] = frames.last;
+    map[Map::FRAMES + 1] = frames.heard;
+    map[Map::FRAMES + 2] = frames.unbroken;
 }
 
 // 20. Every byte becomes 0.
@@ -161,9 +83,12 @@ pub fn take(map: &mut [u8], field: &[u8]) -> u8
         return answer;
     }
     let field = Field::load(field);
-    let frames = Frames::load(map);
+    let frames = frames_of(map);
     if frames.again(field.count) {
         return 0;
+    }
+    if frames.skips(field.count) {
+        spoil(map);
     }
     if frames.changing(field.count) {
         change(map, frames.sure_at(field.count));
@@ -171,7 +96,7 @@ pub fn take(map: &mut [u8], field: &[u8]) -> u8
     if field.id != Field::PANNING {
         put_in(map, field);
     }
-    frames.after(field.count).store(map);
+    put_frames(map, frames.after(field.count));
     0
 }
 
@@ -203,6 +128,27 @@ fn change_one(block: &mut [u8], sure: bool)
     }
     move_down(block);
     coming.settled(sure).store(&mut block[0..Structure::SIZE]);
+}
+
+// A frame was missed: nothing that is being gathered is taken for the whole.
+fn spoil(map: &mut [u8])
+    requires { ⌜ length (now map) ≡ 34819 ⌝ }
+    ensures { λ _. ⌜ now (map .exit) ≡ eachFrom 256 0 spoiledBoth (now (map .entry)) ⌝ }
+{
+    let mut id: usize = 0;
+    while id < Map::IDS {
+        let at = id * Map::BLOCK;
+        spoil_one(&mut map[at..at + Map::BLOCK]);
+        id += 1;
+    }
+}
+
+fn spoil_one(block: &mut [u8])
+    requires { ⌜ length (now block) ≡ 136 ⌝ }
+    ensures { λ _. ⌜ now (block .exit) ≡ spoiledBoth (now (block .entry)) ⌝ }
+{
+    structure::spoil(&mut block[0..Structure::SIZE]);
+    structure::spoil(&mut block[Structure::SIZE..Map::BLOCK]);
 }
 
 // The announced structure's bytes take the place of those in force, and leave 0.

@@ -5,11 +5,11 @@ ghost use lib.ListN.{length};
 ghost use Rattle.map.specs.Map.{structureAt, goodAt, good, present, components};
 ghost use Rattle.structure.specs.Structure.{headOf};
 ghost use Rattle.map.specs.Calls.{tooMany, takeAnswer, foundOf, shownAt, showAnswer, markOf};
-use crate::Frames;
 use crate::Map;
 use crate::Shown;
 use field::Field;
 use field::Tdms;
+use frames::Frames;
 use structure::Structure;
 
 // The head of the structure in force (which 0) or of the announced one (which 1).
@@ -37,7 +37,7 @@ fn is_good(map: &[u8]) -> bool
     requires { ⌜ length (now map) ≡ 34819 ⌝ }
     ensures { λ r. ⌜ r ≡ good (now (map .entry)) ⌝ }
 {
-    let mut all = Frames::load(map).good();
+    let mut all = crate::frames_of(map).good();
     let mut id: usize = 0;
     while id < Map::IDS {
         all = all & good_at(map, id);
@@ -92,7 +92,7 @@ fn too_many(map: &[u8], field: Field) -> bool
     requires { ⌜ length (now map) ≡ 34819 ⌝ }
     ensures { λ r. ⌜ r ≡ tooMany (now (map .entry)) field ⌝ }
 {
-    let change = Frames::load(map).changing(field.count);
+    let change = crate::frames_of(map).changing(field.count);
     if Tdms::deletes(field.tdms) {
         return false;
     }
@@ -116,7 +116,7 @@ pub fn take_answer(map: &[u8], field: &[u8]) -> u8
     if field.bad() {
         return 44;
     }
-    if (field.id == Field::PANNING) | Frames::load(map).again(field.count) {
+    if (field.id == Field::PANNING) | crate::frames_of(map).again(field.count) {
         return 0;
     }
     if too_many(map, field) { 45 } else { 0 }
@@ -128,7 +128,7 @@ pub fn shown_at(map: &[u8], id: usize, count: u8) -> Shown
     requires { ⌜ id < 256 ⌝ }
     ensures { λ r. ⌜ r ≡ shownAt (now (map .entry)) id count ⌝ }
 {
-    let frames = Frames::load(map);
+    let frames = crate::frames_of(map);
     let coming = head(map, id, 1);
     let said = coming.said();
     let behind = frames.changing(count) & said;

@@ -17,8 +17,9 @@ use Rattle.field.specs.Field.{fieldSize, fieldOf, fieldBytes, badField, deletes
 use Rattle.field.specs.declared.Field.{Field}
 use Rattle.field.proofs.RoundTrip.{read-written, written-length}
 use Rattle.structure.specs.Structure.{headOf, said}
+use Rattle.frames.specs.Counts.{changing, again}
 use Rattle.map.specs.Map.{ids, mapSize, structureAt, framesOf, changedFrom, good, inForce, announced, stands, comes, present, components, counted}
-use Rattle.map.specs.Calls.{changing, again, tooMany, takeRows, takeAnswer}
+use Rattle.map.specs.Calls.{tooMany, takeRows, takeAnswer}
 use Rattle.multiplex.specs.Broadcast.{Broadcast, Sends, new, old, gone, vectors, Lawful, Allowed, some, epoch, inForceAt, before, goneBefore, countAt, sentAs, fieldSent}
 use Rattle.structure.specs.declared.Structure.{Structure}
 use Rattle.map.proofs.Changing.{stays, goes, emptied, in-force-fields}

@@ -1,5 +1,6 @@
 -- Frame counts, and counts of components.
 --
+--   begins-*        the frame that a configuration begins with
 --   next-*          the frame after the one with a count: neither again nor missed, and a change exactly at count 2
 --   same-*          the frame itself
 --   until-change    the change is the next frame exactly behind count 1
@@ -13,10 +14,27 @@ use native.Mathlib.Omega.{arith}
 use native.Mathlib.Decide.{ℕ-discrete}
 use borrow.Author.Tests.{eq-eqb, ne-eqb, eqb-true, le-ltb}
 use lib.Dec.{T, ltb, leb, eqb}
-use Rattle.map.specs.Map.{ahead, changes, until, counted, goodFrames}
-use Rattle.map.specs.Calls.{changing, again, skips, sureAt, framesAfter, allHeard}
-use Rattle.multiplex.specs.Broadcast.{Broadcast, countAt, change, epoch}
-use Rattle.map.specs.declared.Frames.{Frames}
+use Rattle.frames.specs.Counts.{ahead, changes, until, goodFrames, changing, again, skips, begins, sureAt, framesAfter, allHeard}
+use Rattle.map.specs.Map.{counted}
+use Rattle.multiplex.specs.Broadcast.{Broadcast, countAt, change, begun}
+use Rattle.frames.specs.declared.Frames.{Frames}
+
+-- ---- the frame that a configuration begins with
+
+-- "the second frame following the frame in which FCNT code 0 (modulo 128) is sent"
+begins-two : (n : ℕ) → begins n ≡ eqb (n % 128) 2
+unfolding begins ahead
+begins-two n = go (ℕ-discrete (n % 128) 2)
+  where
+    go : Dec (n % 128 ≡ 2) → eqb ((n + 256 - 2) % 128) 0 ≡ eqb (n % 128) 2
+    go (yes q) =
+        let z : (n + 256 - 2) % 128 ≡ 0 = omega arith in
+        eq-eqb ((n + 256 - 2) % 128) 0 z ∙ sym (eq-eqb (n % 128) 2 q)
+    go (no q) = ne-eqb ((n + 256 - 2) % 128) 0 (λ z. omega (arith, z)) ∙ sym (ne-eqb (n % 128) 2 q)
+
+under-one : (n : ℕ) → ltb n 1 ≡ eqb n 0
+under-one zero = refl
+under-one (suc n) = le-ltb (suc n) 1 (omega arith) ∙ sym (ne-eqb (suc n) 0 (λ z. omega (arith, z)))
 
 -- ---- one frame further
 
@@ -35,17 +53,9 @@ module _ (x y : ℕ) (hx : x < 256) (e : y ≡ (x + 1) % 256) where
           let d : y + 256 - x ≡ 257 = omega arith in
           ap (λ (u : ℕ). u % 128) d
 
-  pub changes-next : changes x y ≡ eqb (y % 128) 2
-  unfolding changes ahead
-  changes-next = ap (ltb ((y + 256 - 2) % 128)) one-ahead ∙ go (ℕ-discrete (y % 128) 2)
-    where
-      go : Dec (y % 128 ≡ 2) → ltb ((y + 256 - 2) % 128) 1 ≡ eqb (y % 128) 2
-      go (yes q) =
-          let z : (y + 256 - 2) % 128 ≡ 0 = omega arith in
-          ap (λ (u : ℕ). ltb u 1) z ∙ sym (eq-eqb (y % 128) 2 q)
-      go (no q) =
-          let z : 1 ≤ (y + 256 - 2) % 128 = omega arith in
-          le-ltb ((y + 256 - 2) % 128) 1 z ∙ sym (ne-eqb (y % 128) 2 q)
+  changes-next : changes x y ≡ begins y
+  unfolding changes begins
+  changes-next = ap (ltb (ahead 2 y)) one-ahead ∙ under-one (ahead 2 y)
 
   -- behind count 1 the change is the next frame
   pub until-change : y % 128 ≡ 2 → until x ≡ 1
@@ -74,16 +84,12 @@ pub or-yes : (x : Bool) → (x || true) ≡ true
 or-yes true = refl
 or-yes false = refl
 
--- from the first change on every frame since the last one was heard
-unfoldable pub sure : Broadcast → ℕ → Bool
-sure b t = not (eqb (epoch b t) 0)
-
-pub sure-later : (b : Broadcast) (t : ℕ) → (epoch b t ≡ 0 → ⊥) → sure b t ≡ true
-unfolding sure
-sure-later b t ne = ap not (ne-eqb (epoch b t) 0 ne)
+pub known : (x : Bool) → (x ≡ false → ⊥) → x ≡ true
+known true ne = refl
+known false ne = absurd (ne refl)
 
 unfoldable pub frames : Broadcast → ℕ → Frames
-frames b t = record { last = countAt b t; heard = 1; unbroken = cond (sure b t) 1 0 }
+frames b t = record { last = countAt b t; heard = 1; unbroken = cond (begun b t) 1 0 }
 
 module _ (b : Broadcast) (t : ℕ) where
   pub count-lt : countAt b t < 256
@@ -96,13 +102,17 @@ module _ (b : Broadcast) (t : ℕ) where
 
   pub next-changing : changing (frames b t) (countAt b (suc t)) ≡ change b (suc t)
   unfolding frames changing change
-  next-changing = changes-next (countAt b t) (countAt b (suc t)) count-lt count-next
+  next-changing = changes-next (countAt b t) (countAt b (suc t)) count-lt count-next ∙ begins-two (countAt b (suc t))
+
+  pub begins-change : begins (countAt b t) ≡ change b t
+  unfolding change
+  begins-change = begins-two (countAt b t)
 
   pub next-again : again (frames b t) (countAt b (suc t)) ≡ false
   unfolding frames again
   next-again = ap (λ (u : ℕ). eqb u 0) (one-ahead (countAt b t) (countAt b (suc t)) count-lt count-next)
 
-  next-skips : skips (frames b t) (countAt b (suc t)) ≡ false
+  pub next-skips : skips (frames b t) (countAt b (suc t)) ≡ false
   unfolding frames skips
   next-skips = ap (ltb 1) (one-ahead (countAt b t) (countAt b (suc t)) count-lt count-next)
 
@@ -110,43 +120,41 @@ module _ (b : Broadcast) (t : ℕ) where
   mark-is true = refl
   mark-is false = refl
 
-  pub next-sure : sureAt (frames b t) (countAt b (suc t)) ≡ sure b t
+  pub next-sure : sureAt (frames b t) (countAt b (suc t)) ≡ begun b t
   unfolding sureAt frames
-  next-sure = ap (λ (x : Bool). eqb (cond (sure b t) 1 0) 1 && not x) next-skips ∙ and-true (eqb (cond (sure b t) 1 0) 1) ∙ mark-is (sure b t)
+  next-sure = ap (λ (x : Bool). eqb (cond (begun b t) 1 0) 1 && not x) next-skips ∙ and-true (eqb (cond (begun b t) 1 0) 1) ∙ mark-is (begun b t)
 
   pub frames-good : goodFrames (frames b t) ≡ true
   unfolding goodFrames frames
-  frames-good = go (sure b t)
+  frames-good = go (begun b t)
     where
       go : (x : Bool) → leb (cond x 1 0) 1 ≡ true
       go true = refl
       go false = refl
 
-  -- a change makes it sure, and otherwise nothing moves
-  marked : (c : Bool) → change b (suc t) ≡ c → _≡_ {A = ℕ} (cond c 1 (cond (sure b t) 1 0)) (cond (sure b (suc t)) 1 0)
-  unfolding sure epoch
-  marked true e =
-      sym (ap (λ (c : Bool). cond {A = ℕ} (not (eqb (cond c (suc (epoch b t)) (epoch b t)) 0)) 1 0) e
-      ∙ ap (λ (x : Bool). cond {A = ℕ} (not x) 1 0) (ne-eqb (suc (epoch b t)) 0 (λ z. omega (arith, z))))
-  marked false e = sym (ap (λ (c : Bool). cond {A = ℕ} (not (eqb (cond c (suc (epoch b t)) (epoch b t)) 0)) 1 0) e)
+-- a change makes it so, and otherwise nothing moves
+marked : (c x : Bool) → _≡_ {A = ℕ} (cond c 1 (cond x 1 0)) (cond (c || x) 1 0)
+marked true x = refl
+marked false x = refl
 
+module _ (b : Broadcast) (t : ℕ) where
   pub next-frames : framesAfter (frames b t) (countAt b (suc t)) ≡ frames b (suc t)
-  unfolding framesAfter frames
+  unfolding framesAfter frames begun
   next-frames =
-      (λ i. record { last = countAt b (suc t); heard = 1; unbroken = cond (next-skips i) 0 (cond (next-changing i) 1 (cond (sure b t) 1 0)) })
-      ∙ ap (λ (n : ℕ). record { last = countAt b (suc t); heard = 1; unbroken = n }) (marked (change b (suc t)) refl)
+      (λ i. record { last = countAt b (suc t); heard = 1; unbroken = cond (next-skips b t i) 0 (cond (begins-change b (suc t) i) 1 (cond (begun b t) 1 0)) })
+      ∙ ap (λ (n : ℕ). record { last = countAt b (suc t); heard = 1; unbroken = n }) (marked (change b (suc t)) (begun b t))
 
   pub same-changing : changing (frames b t) (countAt b t) ≡ false
   unfolding frames changing
   same-changing = same-changes (countAt b t)
 
-  pub heard-all : change b (suc t) ≡ true → allHeard (frames b t) ≡ sure b t
+  pub heard-all : change b (suc t) ≡ true → allHeard (frames b t) ≡ begun b t
   unfolding frames allHeard change
   heard-all q =
-      ap (λ (x : Bool). eqb (cond (sure b t) 1 0) 1 && x)
+      ap (λ (x : Bool). eqb (cond (begun b t) 1 0) 1 && x)
       (eq-eqb (until (countAt b t)) 1
-      (until-change (countAt b t) (countAt b (suc t)) count-lt count-next (eqb-true (countAt b (suc t) % 128) 2 q)))
-      ∙ and-true (eqb (cond (sure b t) 1 0) 1) ∙ mark-is (sure b t)
+      (until-change (countAt b t) (countAt b (suc t)) (count-lt b t) (count-next b t) (eqb-true (countAt b (suc t) % 128) 2 q)))
+      ∙ and-true (eqb (cond (begun b t) 1 0) 1) ∙ mark-is b t (begun b t)
 
 -- ---- counts of components
 

@@ -7,7 +7,7 @@
 --
 -- Assumes nothing.
 use mathlib.Core.Path.{_≡_, refl, sym, ap, _∙_, subst}
-use mathlib.Core.Bool.{Bool, true, false, cond, _||_}
+use mathlib.Core.Bool.{Bool, true, false, true≢false, cond, _||_}
 use mathlib.Core.List.{List, [], _∷_}
 use Prim.Native.Nat.{ℕ, zero, suc, _+_, _%_, _≤_, _<_}
 use native.Mathlib.Omega.{arith}
@@ -16,7 +16,7 @@ use borrow.Author.Tests.{ne-eqb, eqb-true}
 use lib.Dec.{eqb, lit<, lit≤}
 use lib.ListN.{length}
 use Rattle.map.specs.Map.{ids}
-use Rattle.multiplex.specs.Broadcast.{Sends, vectors, countAt, change, epoch, inForceAt, isNew, isGone, before, through, goneBefore, goneThrough, Told, unsaid, described, deleted, Followed}
+use Rattle.multiplex.specs.Broadcast.{Sends, vectors, countAt, change, epoch, begun, inForceAt, isNew, isGone, before, through, goneBefore, goneThrough, Told, unsaid, described, deleted, Followed}
 use Rattle.multiplex.specs.Heard.{ours, heardTo}
 use Rattle.multiplex.specs.Example.{one, two, other, burst, configs, pick, script, example}
 use Rattle.multiplex.proofs.Seeing.{shows-in-force}
@@ -113,10 +113,10 @@ told-first =
     told-each 4 (described (lit< tt) (lit≤ tt) (λ z. lit< tt)) (described (lit< tt) (lit≤ tt) (λ z. lit< tt)) (unsaid refl refl refl)
 
 told-second : (id : ℕ) → Told example 132 id
-unfolding example epoch change countAt configs before through isNew goneBefore goneThrough isGone pick
+unfolding example epoch begun change countAt configs before through isNew goneBefore goneThrough isGone pick
 told-second =
-    told-each 132 (described (lit< tt) (lit≤ tt) (λ z. absurd (omega (arith, z)))) (deleted refl refl)
-    (described (lit< tt) (lit≤ tt) (λ z. absurd (omega (arith, z))))
+    told-each 132 (described (lit< tt) (lit≤ tt) (λ z. absurd (true≢false z))) (deleted refl refl)
+    (described (lit< tt) (lit≤ tt) (λ z. absurd (true≢false z)))
 
 -- ---- the later changes
 

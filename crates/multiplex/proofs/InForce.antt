@@ -20,13 +20,14 @@ use Rattle.field.specs.Field.{fieldOf, fieldBytes}
 use Rattle.field.specs.declared.Field.{Field}
 use Rattle.field.proofs.RoundTrip.{read-written}
 use Rattle.structure.specs.Structure.{structureSize}
-use Rattle.map.specs.Map.{ids, mapSize, blockSize, structureAt, framesOf, withFrames, changedFrom, goodFrames, good, present}
-use Rattle.map.specs.Calls.{changing, again, skips, sureAt, framesAfter, takenIn, upTo, frameTaken, takeAnswer, takeAfter}
-use Rattle.multiplex.specs.Broadcast.{Broadcast, Lawful, Followed, epoch, change, before, through, goneBefore, goneThrough, countAt, fieldSent}
-use Rattle.map.specs.declared.Frames.{Frames}
+use Rattle.frames.specs.Counts.{goodFrames, changing, again, skips, sureAt, framesAfter}
+use Rattle.map.specs.Map.{ids, mapSize, blockSize, structureAt, framesOf, withFrames, eachFrom, changedFrom, spoiledBoth, good, present}
+use Rattle.map.specs.Calls.{takenIn, overGap, upTo, frameTaken, takeAnswer, takeAfter}
+use Rattle.multiplex.specs.Broadcast.{Broadcast, Lawful, Followed, epoch, begun, change, before, through, goneBefore, goneThrough, countAt, fieldSent}
+use Rattle.frames.specs.declared.Frames.{Frames}
 use Rattle.map.proofs.Places.{frames-stored}
 use Rattle.map.proofs.Changing.{blank-empty, part-blank}
-use Rattle.multiplex.proofs.Counting.{sure, frames, frames-good, count-lt, next-changing, next-again, next-sure, next-frames}
+use Rattle.multiplex.proofs.Counting.{frames, frames-good, count-lt, next-changing, next-again, next-skips, next-sure, next-frames, begins-change}
 use Rattle.multiplex.proofs.Standing.{absent, nothing}
 use Rattle.multiplex.proofs.Steps.{Held, held-change, held-frames}
 use Rattle.multiplex.proofs.Taking.{held-as, taken-in, held-good, sound}
@@ -91,17 +92,24 @@ module _ (b : Broadcast) (f : Followed b) where
   unfolding changing
   no-change = ap (λ (x : Frames). changing x (countAt b 0)) blank-frames
 
+  no-gap : overGap (blank mapSize) (countAt b 0) ≡ blank mapSize
+  unfolding overGap skips
+  no-gap = ap (λ (x : Frames). cond (skips x (countAt b 0)) (eachFrom ids 0 spoiledBoth (blank mapSize)) (blank mapSize)) blank-frames
+
   up-first : upTo (blank mapSize) (countAt b 0) ≡ blank mapSize
   unfolding upTo
-  up-first = ap (λ (x : Bool). cond x (changedFrom ids 0 (sureAt (framesOf (blank mapSize)) (countAt b 0)) (blank mapSize)) (blank mapSize)) no-change
+  up-first =
+      λ i. cond (no-change i) (changedFrom ids 0 (sureAt (framesOf (blank mapSize)) (countAt b 0)) (no-gap i)) (no-gap i)
 
   fresh-first : again (framesOf (blank mapSize)) (countAt b 0) ≡ false
   unfolding again
   fresh-first = ap (λ (x : Frames). again x (countAt b 0)) blank-frames
 
   then-first : framesAfter (framesOf (blank mapSize)) (countAt b 0) ≡ frames b 0
-  unfolding framesAfter skips changing frames sure epoch
-  then-first = ap (λ (x : Frames). framesAfter x (countAt b 0)) blank-frames
+  unfolding framesAfter skips frames begun
+  then-first =
+      ap (λ (x : Frames). framesAfter x (countAt b 0)) blank-frames
+      ∙ ap (λ (x : Bool). record { last = countAt b 0; heard = 1; unbroken = cond x 1 0 }) (begins-change b 0)
 
   there-first : (v id : ℕ) → v < 2 → id < ids → present v (changing (framesOf (blank mapSize)) (countAt b 0)) (blank mapSize) id ≡ has v (blank mapSize) id
   there-first v id hv hid = ap (λ (x : Bool). present v x (blank mapSize) id) no-change ∙ still (blank mapSize) v id hv
@@ -129,15 +137,21 @@ module _ (b : Broadcast) (f : Followed b) (t : ℕ) (m : List ℕ) (a : At b t m
   pub changing-is : changing (framesOf m) (countAt b (suc t)) ≡ change b (suc t)
   changing-is = ap (λ (x : Frames). changing x (countAt b (suc t))) (a .frame) ∙ next-changing b t
 
-  sure-is : sureAt (framesOf m) (countAt b (suc t)) ≡ sure b t
+  sure-is : sureAt (framesOf m) (countAt b (suc t)) ≡ begun b t
   sure-is = ap (λ (x : Frames). sureAt x (countAt b (suc t))) (a .frame) ∙ next-sure b t
 
   behind : Bool → List ℕ
-  behind c = cond c (changedFrom ids 0 (sure b t) m) m
+  behind c = cond c (changedFrom ids 0 (begun b t) m) m
+
+  unmissed : overGap m (countAt b (suc t)) ≡ m
+  unfolding overGap
+  unmissed =
+      ap (λ (x : Frames). cond (skips x (countAt b (suc t))) (eachFrom ids 0 spoiledBoth m) m) (a .frame)
+      ∙ ap (λ (x : Bool). cond x (eachFrom ids 0 spoiledBoth m) m) (next-skips b t)
 
   up-is : (c : Bool) → change b (suc t) ≡ c → upTo m (countAt b (suc t)) ≡ behind c
   unfolding upTo behind
-  up-is c e = λ i. cond ((changing-is ∙ e) i) (changedFrom ids 0 (sure-is i) m) m
+  up-is c e = λ i. cond ((changing-is ∙ e) i) (changedFrom ids 0 (sure-is i) (unmissed i)) (unmissed i)
 
   held-behind : (c : Bool) → change b (suc t) ≡ c
       → Held b (epoch b (suc t)) (λ id. before b id (suc t)) (λ id. goneBefore b id (suc t)) (behind c)
@@ -145,7 +159,7 @@ module _ (b : Broadcast) (f : Followed b) (t : ℕ) (m : List ℕ) (a : At b t m
   held-behind true e =
       held-as b (suc (epoch b t)) (cond (change b (suc t)) (suc (epoch b t)) (epoch b t)) (λ id. 0)
       (λ id. cond (change b (suc t)) 0 (through b id t)) (λ id. false) (λ id. cond (change b (suc t)) false (goneThrough b id t))
-      (changedFrom ids 0 (sure b t) m)
+      (changedFrom ids 0 (begun b t) m)
       (sym (ap (λ (x : Bool). cond x (suc (epoch b t)) (epoch b t)) e))
       (λ id. sym (ap (λ (x : Bool). cond x 0 (through b id t)) e))
       (λ id. sym (ap (λ (x : Bool). cond x false (goneThrough b id t)) e))
@@ -163,7 +177,7 @@ module _ (b : Broadcast) (f : Followed b) (t : ℕ) (m : List ℕ) (a : At b t m
   unfolding behind
   there-is true e v id hv hid =
       ap (λ (x : Bool). present v x m id) (changing-is ∙ e)
-      ∙ shifted b (f .lawful) (epoch b t) (λ j. through b j t) (λ j. goneThrough b j t) m (a .held) id hid (sure b t) v hv
+      ∙ shifted b (f .lawful) (epoch b t) (λ j. through b j t) (λ j. goneThrough b j t) m (a .held) id hid (begun b t) v hv
   there-is false e v id hv hid = ap (λ (x : Bool). present v x m id) (changing-is ∙ e) ∙ still m v id hv
 
   fresh-next : again (framesOf m) (countAt b (suc t)) ≡ false

@@ -22,7 +22,7 @@ use Rattle.multiplex.specs.Broadcast.{Broadcast, Followed, countAt, chan
 use Rattle.multiplex.specs.Heard.{heardBefore, heardTo, ShowsInForce}
 use Rattle.multiplex.specs.Example.{configs, example}
 use Rattle.multiplex.specs.Empty.{deaf, refusing, firstOnly, late}
-use Rattle.map.specs.declared.Frames.{Frames}
+use Rattle.frames.specs.declared.Frames.{Frames}
 use Rattle.multiplex.proofs.Counting.{frames}
 use Rattle.multiplex.proofs.InForce.{at-first}
 use Rattle.multiplex.proofs.Examples.{example-followed}

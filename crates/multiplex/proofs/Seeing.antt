@@ -19,15 +19,16 @@ use Rattle.slot.proofs.Laws.{part-part}
 use Rattle.field.specs.Field.{fieldBytes, eightAt}
 use Rattle.field.proofs.Eight.{eightAt-part}
 use Rattle.structure.specs.Structure.{most, structureSize, headOf, nth, said, settledHead}
+use Rattle.frames.specs.Counts.{changing, allHeard}
 use Rattle.map.specs.Map.{mapSize, blockSize, ids, structureAt, framesOf, good, inForce, announced}
-use Rattle.map.specs.Calls.{changing, allHeard, thenWhich, thenHead, thenNumber, foundOf, shownAt, showAnswer, shownBy, shown}
-use Rattle.multiplex.specs.Broadcast.{Broadcast, Followed, Told, unsaid, described, deleted, epoch, change, inForceAt, through, goneThrough, countAt, fieldSent}
+use Rattle.map.specs.Calls.{thenWhich, thenHead, thenNumber, foundOf, shownAt, showAnswer, shownBy, shown}
+use Rattle.multiplex.specs.Broadcast.{Broadcast, Followed, Told, unsaid, described, deleted, epoch, begun, change, inForceAt, through, goneThrough, countAt, fieldSent}
 use Rattle.multiplex.specs.Heard.{ours, fieldsFrom, shownFields, heardBefore, heardTo, ShowsInForce}
-use Rattle.map.specs.declared.Frames.{Frames}
+use Rattle.frames.specs.declared.Frames.{Frames}
 use Rattle.map.specs.declared.Shown.{Shown}
 use Rattle.structure.specs.declared.Structure.{Structure}
 use Rattle.structure.proofs.Gathering.{Holds, Empty}
-use Rattle.multiplex.proofs.Counting.{same-changing, heard-all, sure, sure-later, or-yes}
+use Rattle.multiplex.proofs.Counting.{same-changing, heard-all, known, or-yes}
 use Rattle.multiplex.proofs.Standing.{Force, absent, present, Coming, nothing, deleting, partly, wholly, deletion-head}
 use Rattle.multiplex.proofs.InForce.{At, at-first, at-next, first-taken, next-taken, frame-good, changing-is}
 
@@ -227,7 +228,7 @@ module _ (b : Broadcast) (f : Followed b) (t : ℕ) (m : List ℕ) (a : At b t m
     now : changing (framesOf m) (countAt b (suc t)) ≡ true
     now = changing-is b f t m a ∙ e
 
-    all : allHeard (framesOf m) ≡ sure b t
+    all : allHeard (framesOf m) ≡ begun b t
     all = ap allHeard (a .frame) ∙ heard-all b t e
 
     run-change : Told b t id
@@ -246,19 +247,19 @@ module _ (b : Broadcast) (f : Followed b) (t : ℕ) (m : List ℕ) (a : At b t m
     run-change (described p q c) (partly pos y x) =
         let same : through b id t ≡ length (b .config (suc (epoch b t)) id) = omega arith in
         seen-coming m id (countAt b (suc t)) (a .held .size) gm
-        (λ i. now i && listed-yes (through b id t) (b .config (suc (epoch b t)) id) 0 (b .links (suc (epoch b t)) id 0) x pos i) (sure b t) all
+        (λ i. now i && listed-yes (through b id t) (b .config (suc (epoch b t)) id) 0 (b .links (suc (epoch b t)) id 0) x pos i) (begun b t) all
         (b .config (suc (epoch b t)) id) 0 (b .links (suc (epoch b t)) id 0)
-        (ap (λ (v : Bool). v || eqb 0 1) (sure-later b t (λ z. omega (arith, c z)))) p few-next
+        (ap (λ (v : Bool). v || eqb 0 1) (known (begun b t) (λ z. omega (arith, c z)))) p few-next
         (subst (λ (n : ℕ). Holds (structureAt id 1 m) n (b .config (suc (epoch b t)) id) 0 (b .links (suc (epoch b t)) id 0)) same x)
     run-change (described p q c) (wholly pos y l hl x) =
         seen-coming m id (countAt b (suc t)) (a .held .size) gm
-        (λ i. now i && listed-yes (length (b .config (suc (epoch b t)) id)) (b .config (suc (epoch b t)) id) 1 l x pos i) (sure b t) all
-        (b .config (suc (epoch b t)) id) 1 l (or-yes (sure b t)) p few-next x
+        (λ i. now i && listed-yes (length (b .config (suc (epoch b t)) id)) (b .config (suc (epoch b t)) id) 1 l x pos i) (begun b t) all
+        (b .config (suc (epoch b t)) id) 1 l (or-yes (begun b t)) p few-next x
     run-change (deleted z q) (nothing n0 g0 x) = absurd (subst T (sym q ∙ g0) tt)
     run-change (deleted z q) (deleting g1 y x) =
         let hd = ap headOf x ∙ deletion-head in
         subst (Seen m id (countAt b (suc t))) (sym z)
-        (seen-deleted m id (countAt b (suc t)) (a .held .size) gm (λ i. now i && deleted-yes hd i) (sure b t) all hd)
+        (seen-deleted m id (countAt b (suc t)) (a .held .size) gm (λ i. now i && deleted-yes hd i) (begun b t) all hd)
     run-change (deleted z q) (partly p y x) = absurd (omega (arith, ap length z))
     run-change (deleted z q) (wholly p y l hl x) = absurd (omega (arith, ap length z))
 

@@ -17,13 +17,13 @@ use lib.Dec.{T, eqb, lit<, lit≤}
 use lib.ListN.{length}
 use Rattle.structure.specs.Structure.{structureSize, headOf}
 use Rattle.map.specs.Map.{ids, mapSize, structureAt, withStructure, withFrames, changedFrom}
-use Rattle.multiplex.specs.Broadcast.{Broadcast, Lawful, Told, unsaid, described, deleted, epoch, inForceAt, through, goneThrough}
-use Rattle.map.specs.declared.Frames.{Frames}
+use Rattle.multiplex.specs.Broadcast.{Broadcast, Lawful, Told, unsaid, described, deleted, epoch, begun, inForceAt, through, goneThrough}
+use Rattle.frames.specs.declared.Frames.{Frames}
 use Rattle.structure.specs.declared.Structure.{Structure}
 use Rattle.map.proofs.Places.{structure-same, structure-other, with-structure-length, with-frames-length, structures-kept}
 use Rattle.structure.proofs.Gathering.{Holds, Empty}
 use Rattle.map.proofs.Changing.{stays, goes, emptied, settled, from-length}
-use Rattle.multiplex.proofs.Counting.{sure, sure-later, or-yes}
+use Rattle.multiplex.proofs.Counting.{known, or-yes}
 use Rattle.multiplex.proofs.Standing.{Force, absent, present, Coming, nothing, deleting, partly, wholly, deletion-head, deletion-length}
 
 pub record Held (b : Broadcast) (e : ℕ) (n : ℕ → ℕ) (g : ℕ → Bool) (m : List ℕ) : Type 0 where
@@ -40,16 +40,16 @@ module _ (b : Broadcast) (w : Lawful b) (t : ℕ) (m : List ℕ) (k : ℕ) (hk :
     (f : Force (structureAt k 0 m) (inForceAt b t k)) where
   Both : Type 0
   Both =
-      Force (structureAt k 0 (changedFrom ids 0 (sure b t) m)) (b .config (suc (epoch b t)) k)
-      × Coming (structureAt k 1 (changedFrom ids 0 (sure b t) m)) (b .config (suc (suc (epoch b t))) k) 0 false (b .links (suc (suc (epoch b t))) k)
+      Force (structureAt k 0 (changedFrom ids 0 (begun b t) m)) (b .config (suc (epoch b t)) k)
+      × Coming (structureAt k 1 (changedFrom ids 0 (begun b t) m)) (b .config (suc (suc (epoch b t))) k) 0 false (b .links (suc (suc (epoch b t))) k)
 
   changed-one : Told b t k
       → Coming (structureAt k 1 m) (b .config (suc (epoch b t)) k) (through b k t) (goneThrough b k t) (b .links (suc (epoch b t)) k) → Both
   unfolding Both inForceAt
   changed-one (unsaid z q s) (nothing n0 g0 e) = (
-    subst (λ (x : List ℕ). Force x (b .config (suc (epoch b t)) k)) (sym (stays (sure b t) m l k hk (e .fields) (e .deleted) 0 (lit< tt)))
+    subst (λ (x : List ℕ). Force x (b .config (suc (epoch b t)) k)) (sym (stays (begun b t) m l k hk (e .fields) (e .deleted) 0 (lit< tt)))
         (subst (Force (structureAt k 0 m)) (sym s) f),
-    nothing refl refl (subst Empty (sym (stays (sure b t) m l k hk (e .fields) (e .deleted) 1 (lit< tt))) e),
+    nothing refl refl (subst Empty (sym (stays (begun b t) m l k hk (e .fields) (e .deleted) 1 (lit< tt))) e),
   )
   changed-one (unsaid z q s) (deleting g1 x e) = clash (sym g1 ∙ q)
   changed-one (unsaid z q s) (partly p x h) = absurd (omega (arith, z))
@@ -60,30 +60,30 @@ module _ (b : Broadcast) (w : Lawful b) (t : ℕ) (m : List ℕ) (k : ℕ) (hk :
       let few = w .linked (suc (epoch b t)) k hk .few in
       let same : through b k t ≡ length (b .config (suc (epoch b t)) k) = omega arith in (
         present (b .links (suc (epoch b t)) k 0) (omega (arith, w .links (suc (epoch b t)) k 0)) p
-            (subst (λ (n : ℕ). Holds (structureAt k 0 (changedFrom ids 0 (sure b t) m)) n (b .config (suc (epoch b t)) k) 1 (b .links (suc (epoch b t)) k 0)) same
-            (settled (sure b t) m l k hk (through b k t) (b .config (suc (epoch b t)) k) 0 (b .links (suc (epoch b t)) k 0) h pos
-            (ap (λ (y : Bool). y || eqb 0 1) (sure-later b t (λ z. omega (arith, c z)))) (omega arith))),
-        nothing refl refl (emptied (sure b t) m l k hk (through b k t) (b .config (suc (epoch b t)) k) 0 (b .links (suc (epoch b t)) k 0) h pos),
+            (subst (λ (n : ℕ). Holds (structureAt k 0 (changedFrom ids 0 (begun b t) m)) n (b .config (suc (epoch b t)) k) 1 (b .links (suc (epoch b t)) k 0)) same
+            (settled (begun b t) m l k hk (through b k t) (b .config (suc (epoch b t)) k) 0 (b .links (suc (epoch b t)) k 0) h pos
+            (ap (λ (y : Bool). y || eqb 0 1) (known (begun b t) (λ z. omega (arith, c z)))) (omega arith))),
+        nothing refl refl (emptied (begun b t) m l k hk (through b k t) (b .config (suc (epoch b t)) k) 0 (b .links (suc (epoch b t)) k 0) h pos),
       )
   changed-one (described p q c) (wholly pos x r hr h) =
       let few = w .linked (suc (epoch b t)) k hk .few in (
         present r hr p
-            (settled (sure b t) m l k hk (length (b .config (suc (epoch b t)) k)) (b .config (suc (epoch b t)) k) 1 r h pos (or-yes (sure b t)) few),
-        nothing refl refl (emptied (sure b t) m l k hk (length (b .config (suc (epoch b t)) k)) (b .config (suc (epoch b t)) k) 1 r h pos),
+            (settled (begun b t) m l k hk (length (b .config (suc (epoch b t)) k)) (b .config (suc (epoch b t)) k) 1 r h pos (or-yes (begun b t)) few),
+        nothing refl refl (emptied (begun b t) m l k hk (length (b .config (suc (epoch b t)) k)) (b .config (suc (epoch b t)) k) 1 r h pos),
       )
   changed-one (deleted z q) (nothing n0 g0 e) = clash (sym q ∙ g0)
   changed-one (deleted z q) (deleting g1 x e) =
       let d : headOf (structureAt k 1 m) .deleted ≡ 1 = ap (λ (s : List ℕ). headOf s .deleted) e ∙ ap (λ (h : Structure). h .deleted) deletion-head in
-      (absent z (goes (sure b t) m l k hk d 0 (lit< tt)), nothing refl refl (goes (sure b t) m l k hk d 1 (lit< tt)))
+      (absent z (goes (begun b t) m l k hk d 0 (lit< tt)), nothing refl refl (goes (begun b t) m l k hk d 1 (lit< tt)))
   changed-one (deleted z q) (partly p x h) = absurd (omega (arith, ap length z))
   changed-one (deleted z q) (wholly p x r hr h) = absurd (omega (arith, ap length z))
 
 pub held-change : (b : Broadcast) → Lawful b → (t : ℕ) (m : List ℕ) → ((id : ℕ) → id < ids → Told b t id)
     → Held b (epoch b t) (λ id. through b id t) (λ id. goneThrough b id t) m
-    → Held b (suc (epoch b t)) (λ id. 0) (λ id. false) (changedFrom ids 0 (sure b t) m)
+    → Held b (suc (epoch b t)) (λ id. 0) (λ id. false) (changedFrom ids 0 (begun b t) m)
 unfolding Both inForceAt
 held-change b w t m told h = record {
-  size = from-length (sure b t) ids 0 m (lit≤ tt) (h .size);
+  size = from-length (begun b t) ids 0 m (lit≤ tt) (h .size);
   force = λ id hid. changed-one b w t m id hid (h .size) (h .force id hid) (told id hid) (h .coming id hid) .0;
   coming = λ id hid. changed-one b w t m id hid (h .size) (h .force id hid) (told id hid) (h .coming id hid) .1;
 }

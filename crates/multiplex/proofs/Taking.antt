@@ -19,7 +19,8 @@ use Rattle.bits.proofs.Search.{all-each}
 use Rattle.field.specs.Field.{badField, deletes, panning}
 use Rattle.field.specs.declared.Field.{Field}
 use Rattle.structure.specs.Structure.{structureSize, gathered, deletion}
-use Rattle.map.specs.Map.{ids, structureAt, withStructure, framesOf, goodFrames, goodAt, good, inForce, announced}
+use Rattle.frames.specs.Counts.{goodFrames}
+use Rattle.map.specs.Map.{ids, structureAt, withStructure, framesOf, goodAt, good, inForce, announced}
 use Rattle.map.specs.Calls.{putIn, takenIn}
 use Rattle.multiplex.specs.Broadcast.{Broadcast, Sends, new, old, gone, vectors, Lawful, Linked, Allowed, isNew, isGone, epoch, inForceAt, before, through, goneBefore, goneThrough, countAt, sentAs, fieldSent}
 use Rattle.map.proofs.Changing.{blank-empty, stays}

@@ -13,7 +13,8 @@ use native.Mathlib.Omega.{arith}
 use borrow.Author.Tests.{eq-eqb, ne-eqb, lt-ltb}
 use lib.Dec.{ltb, eqb}
 use Rattle.structure.specs.Structure.{headOf, said}
-use Rattle.map.specs.Map.{ids, structureAt, announced, ahead, until}
+use Rattle.frames.specs.Counts.{ahead, until}
+use Rattle.map.specs.Map.{ids, structureAt, announced}
 use Rattle.map.specs.Calls.{foundOf, shownAt, shown}
 use Rattle.map.specs.declared.Shown.{Shown}
 use Rattle.multiplex.specs.Broadcast.{Broadcast, Followed, epoch, change, countAt, through, goneThrough}

@@ -9,6 +9,7 @@
 --   change b t            a configuration begins with frame t: "from the beginning of line 1 of the second frame following the frame in
 --                         which FCNT code 0 (modulo 128) is sent"
 --   epoch b t             how many have begun by then
+--   begun b t             whether the running one did so in frame 0 or later, so that all its frames up to t are heard
 --   inForceAt b t id      the structure in force in frame t
 --   before b id t         how many new fields of a component the running configuration's frames have carried before frame t
 --   through b id t        the same with frame t
@@ -51,6 +52,10 @@ change b t = eqb (countAt b t % 128) 2
 unfoldable pub epoch : Broadcast → ℕ → ℕ
 epoch b zero = 0
 epoch b (suc t) = cond (change b (suc t)) (suc (epoch b t)) (epoch b t)
+
+unfoldable pub begun : Broadcast → ℕ → Bool
+begun b zero = change b zero
+begun b (suc t) = change b (suc t) || begun b t
 
 unfoldable pub inForceAt : Broadcast → ℕ → ℕ → List ℕ
 inForceAt b t id = b .config (epoch b t) id
@@ -146,11 +151,12 @@ pub record Lawful (b : Broadcast) : Type 0 where
   pub sends : (t : ℕ) → Allowed b t (b .sends t)
 
 -- of the change behind frame t: a component that nothing was said of stays as it is; all the fields of any other were sent, or that it
--- is to be deleted; and before the first change, where what was sent before the map was started is not known, the first field again
+-- is to be deleted; and where the running configuration began before frame 0, so that what it sent before is not known, the first
+-- field again
 pub data Told (b : Broadcast) (t id : ℕ) : Type 0 where
   unsaid : through b id t ≡ 0 → goneThrough b id t ≡ false → b .config (suc (epoch b t)) id ≡ inForceAt b t id → Told b t id
   described : 0 < length (b .config (suc (epoch b t)) id) → length (b .config (suc (epoch b t)) id) ≤ through b id t
-      → (epoch b t ≡ 0 → length (b .config (suc (epoch b t)) id) < through b id t) → Told b t id
+      → (begun b t ≡ false → length (b .config (suc (epoch b t)) id) < through b id t) → Told b t id
   deleted : b .config (suc (epoch b t)) id ≡ [] → goneThrough b id t ≡ true → Told b t id
 
 pub record Followed (b : Broadcast) : Type 0 where

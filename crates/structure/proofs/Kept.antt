@@ -2,26 +2,87 @@
 --
 --   Kept                    what one more field keeps
 --   gathered-length, gathered-good, gathered-deleted
+--   spoiled-length, spoiled-head, spoiled-open    a missed frame: the head stays, and no next field is taken to complete it
 --   deletion-length, deletion-good, blank-good    a structure that is to be deleted, and one of 0 alone
 --   settled-good            a head as a change puts it in force
 --   good-deleted            a good head that is not to be deleted says so
 --
 -- Assumes nothing.
 use mathlib.Core.Path.{_≡_, refl, ap, _∙_}
-use mathlib.Core.Bool.{Bool, true, false, cond, _&&_, _||_}
+use mathlib.Core.Bool.{Bool, true, false, true≢false, cond, _&&_, _||_}
 use mathlib.Core.List.{List}
-use Prim.Native.Nat.{ℕ, _+_, _≤_, _<_}
+use Prim.Native.Nat.{ℕ, _+_, _-_, _%_, _^_, _≤_, _<_}
 use native.Mathlib.Omega.{arith}
-use borrow.Author.Tests.{leb-true, ltb-true, le-leb}
+use borrow.Author.Tests.{ne-eqb, leb-true, ltb-true, le-leb, lt-ltb}
 use lib.Dec.{leb, ltb, eqb, lit<, lit≤}
 use lib.ListN.{length}
 use Rattle.bits.specs.Bits.{blank}
 use Rattle.bits.proofs.Search.{and-left, and-right}
 use Rattle.bits.proofs.Storing.{blank-length}
-use Rattle.structure.specs.Structure.{most, structureSize, headOf, withHead, nth, withNth, member, goesOn, turnOf, turned, gathered, deletion, goodHead, settledHead}
+use Rattle.field.specs.Field.{deletes}
+use Rattle.structure.specs.Structure.{most, structureSize, allOnes, headOf, withHead, nth, withNth, member, goesOn, turnOf, turned, gathered, spoiled, deletion, goodHead, settledHead}
 use Rattle.structure.specs.declared.Structure.{Structure}
+use Rattle.structure.specs.declared.Turn.{Turn}
 use Rattle.structure.specs.declared.Turn.the-variants.{Begins, Joins, Overflows, Completes, Known}
-use Rattle.structure.proofs.Gathering.{head-stored, head-nth, with-head-length, with-nth-length}
+use Rattle.structure.proofs.Gathering.{head-stored, head-nth, nth-same, with-head-length, with-nth-length}
+
+-- ---- a missed frame
+
+pub completes : Turn → Bool
+completes Begins = false
+completes Joins = false
+completes Overflows = false
+completes Completes = true
+completes Known = false
+
+module _ (s : List ℕ) (l : length s ≡ structureSize) where
+  either : (P : List ℕ → Type 0) → P (withNth 0 allOnes s) → P s → P (spoiled s)
+  unfolding spoiled
+  either P p q = go (eqb (headOf s .whole) 0 && ltb 0 (headOf s .fields))
+    where
+      go : (b : Bool) → P (cond b (withNth 0 allOnes s) s)
+      go true = p
+      go false = q
+
+  pub spoiled-length : length (spoiled s) ≡ structureSize
+  spoiled-length = either (λ (x : List ℕ). length x ≡ structureSize) (with-nth-length s l 0 allOnes (lit< tt)) l
+
+  pub spoiled-head : headOf (spoiled s) ≡ headOf s
+  spoiled-head = either (λ (x : List ℕ). headOf x ≡ headOf s) (head-nth s l 0 allOnes (lit< tt)) refl
+
+  -- whatever field comes next, it does not end a repetition that would be taken for the whole
+  module _ (gathers : headOf s .whole ≡ 0) (some : 0 < headOf s .fields) where
+    first-ones : nth 0 (spoiled s) ≡ allOnes
+    unfolding spoiled
+    first-ones =
+        ap (λ (b : Bool). nth 0 (cond b (withNth 0 allOnes s) s)) (λ i. eqb (gathers i) 0 && lt-ltb 0 (headOf s .fields) some i)
+        ∙ nth-same s l 0 allOnes (lit< tt) (lit< tt)
+
+    pub spoiled-open : (t r : ℕ) → deletes t ≡ false → completes (turnOf (spoiled s) t r) ≡ false
+    unfolding turnOf deletes completes
+    spoiled-open t r d =
+        (λ i. completes (cond (shut i) (cond (member (spoiled s) t) Known Begins) (cond (goesOn (spoiled s) t r) (cond (ltb (h .fields) most) Joins Overflows)
+        (cond (ltb 0 (h .fields) && (leb (h .fields) most && other i)) Completes Begins))))
+        ∙ none (goesOn (spoiled s) t r) (ltb (h .fields) most) (ltb 0 (h .fields)) (leb (h .fields) most)
+      where
+        h : Structure
+        h = headOf (spoiled s)
+
+        shut : eqb (h .whole) 1 ≡ false
+        shut = ap (λ (x : Structure). eqb (x .whole) 1) spoiled-head ∙ ap (λ (x : ℕ). eqb x 1) gathers
+
+        differs : allOnes ≡ t → ⊥
+        differs e = true≢false (ap (λ (x : ℕ). eqb (x % 2 ^ 40) (2 ^ 40 - 1)) e ∙ d)
+
+        other : eqb (nth 0 (spoiled s)) t ≡ false
+        other = ap (λ (x : ℕ). eqb x t) first-ones ∙ ne-eqb allOnes t differs
+
+        none : (g m a b : Bool) → completes (cond g (cond m Joins Overflows) (cond (a && (b && false)) Completes Begins)) ≡ false
+        none true true a b = refl
+        none true false a b = refl
+        none false m true true = refl
+        none false m true false = refl
+        none false m false b = refl
 
 -- ---- heads that are not to be deleted
 

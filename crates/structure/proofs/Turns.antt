@@ -9,6 +9,7 @@
 --   turn-known .. turn-begins              what one more field does, by the tests
 --   joins-room                             a field that joins has room
 --   begun-stored .. known-stays            the structure with it taken in, as it is stored
+--   spoils, spoils-none                    a missed frame, by the test
 --
 -- Assumes nothing.
 use mathlib.Core.Path.{_≡_, refl, sym, ap, ap₂, _∙_, subst}
@@ -24,7 +25,7 @@ use Rattle.bits.specs.Bits.{blank}
 use Rattle.bits.specs.Search.{first}
 use Rattle.slot.specs.Part.{put}
 use Rattle.field.specs.Field.{key}
-use Rattle.structure.specs.Structure.{most, structureSize, headOf, withHead, nth, withNth, stored, member, goesOn, turnOf, turned, gathered, deletion, goodHead, settledHead}
+use Rattle.structure.specs.Structure.{most, structureSize, allOnes, headOf, withHead, nth, withNth, stored, member, goesOn, turnOf, turned, gathered, spoiled, deletion, goodHead, settledHead}
 use Rattle.structure.specs.declared.Structure.{Structure}
 use Rattle.structure.specs.declared.Turn.{Turn}
 use Rattle.structure.specs.declared.Turn.the-variants.{Begins, Joins, Overflows, Completes, Known}
@@ -238,3 +239,17 @@ module _ (s : List ℕ) (t l : ℕ) where
   pub known-stays : turnOf s t l ≡ Known → s ≡ gathered s t l
   unfolding turned
   known-stays e = by-turn Known e
+
+-- ---- a missed frame
+
+module _ (s : List ℕ) (h : Structure) (e : h ≡ headOf s) where
+  by-gathers : (b : Bool) → (eqb (h .whole) 0 && ltb 0 (h .fields)) ≡ b → cond b (withNth 0 allOnes s) s ≡ spoiled s
+  unfolding spoiled
+  by-gathers b q =
+      ap (λ (x : Bool). cond x (withNth 0 allOnes s) s) (sym q ∙ ap (λ (x : Structure). eqb (x .whole) 0 && ltb 0 (x .fields)) e)
+
+  pub spoils : (eqb (h .whole) 0 && ltb 0 (h .fields)) ≡ true → (x : List ℕ) → x ≡ withNth 0 allOnes s → x ≡ spoiled s
+  spoils q x ex = ex ∙ by-gathers true q
+
+  pub spoils-none : (eqb (h .whole) 0 && ltb 0 (h .fields)) ≡ false → s ≡ spoiled s
+  spoils-none q = by-gathers false q

@@ -14,12 +14,13 @@
 --   goesOn s t l         t goes on with the repetition that is being gathered: the same LINKS, and a greater key
 --   turnOf s t l         what one more field does
 --   gathered s t l       the structure with it taken in
+--   spoiled s            a structure that is being gathered, where a frame was missed
 --   deletion             a structure that says that the component is to be deleted
 --   goodHead h           within these bounds
 --   settledHead sure h   an announced structure as a change puts it in force: whole, unless a field may be missing
 use mathlib.Core.Bool.{Bool, cond, _&&_, _||_}
 use mathlib.Core.List.{List, [], _∷_}
-use Prim.Native.Nat.{ℕ, _+_, _-_, _*_}
+use Prim.Native.Nat.{ℕ, _+_, _-_, _*_, _^_}
 use lib.Dec.{leb, ltb, eqb}
 use lib.ListN.{getD}
 use Rattle.bits.specs.Bits.{blank}
@@ -36,6 +37,9 @@ most = 8
 
 abbrev pub structureSize : ℕ
 structureSize = 68
+
+abbrev pub allOnes : ℕ
+allOnes = 2 ^ 62 - 1
 
 unfoldable pub headOf : List ℕ → Structure
 headOf s = record { fields = getD s 0 0; whole = getD s 1 0; links = getD s 2 0; deleted = getD s 3 0 }
@@ -82,6 +86,13 @@ turned Known s t l = s
 
 unfoldable pub gathered : List ℕ → ℕ → ℕ → List ℕ
 gathered s t l = turned (turnOf s t l) s t l
+
+-- A frame was missed: what is being gathered may lack a field. Its first field becomes all ones, which is no field of a structure, so
+-- that no repetition is taken for the whole of it, and the next one begins anew.
+unfoldable pub spoiled : List ℕ → List ℕ
+spoiled s =
+    let h = headOf s in
+    cond (eqb (h .whole) 0 && ltb 0 (h .fields)) (withNth 0 allOnes s) s
 
 unfoldable pub deletion : List ℕ
 deletion = withHead (record { fields = 0; whole = 0; links = 0; deleted = 1 }) (blank structureSize)

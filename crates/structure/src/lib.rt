@@ -3,7 +3,7 @@
 ghost use mathlib.Core.Path.{_≡_};
 ghost use Prim.Native.Nat.{_+_, _<_};
 ghost use lib.ListN.{length};
-ghost use Rattle.structure.specs.Structure.{headOf, withHead, nth, withNth, stored, member, goesOn, turnOf, gathered, deletion, said, goodHead, settledHead};
+ghost use Rattle.structure.specs.Structure.{headOf, withHead, nth, withNth, stored, member, goesOn, turnOf, gathered, spoiled, deletion, said, goodHead, settledHead};
 use field::Tdms;
 use slot::room;
 
@@ -193,6 +193,17 @@ pub fn gather(s: &mut [u8], tdms: u64, links: u8)
             head_with(fields, 1, links).store(s);
         }
         Turn::Known => {}
+    }
+}
+
+// A frame was missed: what is being gathered may lack a field, and is not taken for the whole.
+pub fn spoil(s: &mut [u8])
+    requires { ⌜ length (now s) ≡ 68 ⌝ }
+    ensures { λ _. ⌜ now (s .exit) ≡ spoiled (now (s .entry)) ⌝ }
+{
+    let head = Structure::load(s);
+    if (head.whole == 0) & (0 < head.fields) {
+        put_nth(s, 0, Tdms::END - 1);
     }
 }
 

@@ -1,26 +1,24 @@
 //! Rows of bits in the order in which they are sent. Numbers and bytes are sent lowest bit first.
 
 /// The lowest `count` bits of a number, in sending order.
-pub fn of_number(number: u32, count: usize) -> Vec<bool> {
-    (0..count).map(|k| number >> k & 1 == 1).collect()
-}
-
-/// The number whose bits were sent in this order.
-pub fn to_number(row: &[bool]) -> u32 {
-    row.iter()
-        .rev()
-        .fold(0, |number, &bit| number * 2 + u32::from(bit))
-}
-
-/// The same two for numbers of up to 64 bits.
 pub fn of_wide(number: u64, count: usize) -> Vec<bool> {
     (0..count).map(|k| number >> k & 1 == 1).collect()
 }
 
+/// The number whose bits were sent in this order.
 pub fn to_wide(row: &[bool]) -> u64 {
     row.iter()
         .rev()
         .fold(0, |number, &bit| number * 2 + u64::from(bit))
+}
+
+/// The same two for the numbers of 32 bits that all but the map's fields are.
+pub fn of_number(number: u32, count: usize) -> Vec<bool> {
+    of_wide(u64::from(number), count)
+}
+
+pub fn to_number(row: &[bool]) -> u32 {
+    to_wide(row).try_into().expect("a number of 32 bits")
 }
 
 /// All bits of some bytes, in sending order.

@@ -4,8 +4,9 @@ use Prim.Native.Nat.{_-_}
 use native.Mathlib.Omega.{arith}
 use lib.ListN.{length}
 use borrow.Author.Needs.{needs}
-use Rattle.map.specs.Map.{ids, mapSize, changedFrom}
-use Rattle.map.proofs.Moving.{block-span, change-turn, change-end}
+use Rattle.map.specs.Map.{ids, mapSize, changed, changedFrom}
+use Rattle.map.proofs.Moving.{block-span, each-turn, each-end}
+use Rattle.map.proofs.Changing.{changed-length}
 use Rattle.map.proofs.change.Statement.{statement}
 use Rattle.map.proofs.change.Tie as tie
 
@@ -46,7 +47,8 @@ loop-again : tie.Need-loop-again Inv-loop μ-loop
 loop-again c =
     let turn = c .before .before .before .before in
     let now = turn .before .loop in
-    let after = change-turn (c .before .before .before .before .before .before .before .args .sure) (now .id) (now .map) (now .inv .0) (turn .loop-test .taken) _ (c .before .before .change-one .ensures) in
+    let sure = c .before .before .before .before .before .before .before .args .sure in
+    let after = each-turn (changed sure) (changed-length sure) (now .id) (now .map) (now .inv .0) (turn .loop-test .taken) _ (c .before .before .change-one .ensures) in
     (after .0, after .1 ∙ now .inv .1)
 
 same-length : tie.Need-same-length Inv-loop μ-loop
@@ -55,7 +57,7 @@ same-length c = omega (arith, c .before .before .before .pre)
 returns : tie.Need-returns Inv-loop μ-loop
 returns c =
     let now = c .before .loop in
-    change-end (c .before .before .before .args .sure) (now .id) (now .map) _ (c .loop-test .left) (now .inv .1)
+    each-end (changed (c .before .before .before .args .sure)) (now .id) (now .map) _ (c .loop-test .left) (now .inv .1)
 
 pub change-spec : {M : Type 1} → statement M
 change-spec =

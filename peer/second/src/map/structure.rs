@@ -10,6 +10,8 @@ pub const COMPONENT: usize = 2 * STRUCTURE;
 /// How many fields have room, and the number that stands for more.
 const ROOMS: usize = 8;
 const MORE: u8 = 9;
+/// What no field of a structure is: it would be a deletion.
+const ALL_ONES: u64 = (1 << 62) - 1;
 
 #[derive(Clone, Debug, Default, PartialEq, Eq)]
 pub struct Structure {
@@ -123,6 +125,14 @@ impl Structure {
         }
     }
 
+    /// What a missed frame leaves of it: of a list that is being gathered a field may be missing, so no repetition may find its first
+    /// field again.
+    fn spoil(&mut self) {
+        if !self.whole && self.has_list() {
+            self.rooms[0] = ALL_ONES;
+        }
+    }
+
     /// As a change puts it in force. Of what was announced in frames that were all heard, nothing is missing.
     fn put_in_force(&self, all_heard: bool) -> Structure {
         Structure {
@@ -157,6 +167,12 @@ impl Component {
 
     pub fn is_announced(&self) -> bool {
         self.announced.has_list() || self.announced.deleted
+    }
+
+    /// As a missed frame leaves it.
+    pub fn spoil(&mut self) {
+        self.in_force.spoil();
+        self.announced.spoil();
     }
 
     /// As a change leaves it.

@@ -20,7 +20,7 @@ pub struct Map {
     /// The count of the frame whose field was taken in last; `heard` says whether there was one.
     pub last: u8,
     pub heard: bool,
-    /// Whether every frame since the last change was heard.
+    /// Whether every frame of the running configuration was heard.
     pub unbroken: bool,
 }
 
@@ -81,9 +81,12 @@ impl Map {
         let mut next = Map {
             last: count,
             heard: true,
-            unbroken: !skips && (self.unbroken || self.changing(count)),
+            unbroken: !skips && (self.unbroken || begins(count)),
             ..self.clone()
         };
+        if skips {
+            next.components.iter_mut().for_each(Component::spoil);
+        }
         if self.changing(count) {
             for component in &mut next.components {
                 *component = component.behind_change(all_heard);
@@ -168,6 +171,11 @@ fn structure(component: &Component, flag: bool) -> &Structure {
     } else {
         &component.in_force
     }
+}
+
+/// Whether a configuration begins with the frame of a count.
+fn begins(count: u8) -> bool {
+    i32::from(count) % CYCLE == i32::from(CHANGE)
 }
 
 /// How many frames from one count to another. Half of the eight bits is told apart.

@@ -29,7 +29,12 @@ fn what_is_in_force_is_shown() {
             None => random.below(256) as u8,
         };
         let map = listening(origin);
-        follow(map, Broadcast::new(round as u64, origin), &mut random, &mut seen);
+        follow(
+            map,
+            Broadcast::new(round as u64, origin),
+            &mut random,
+            &mut seen,
+        );
     }
     assert!(seen.changes > 50, "{seen:?}");
     assert!(seen.announced > 10_000, "{seen:?}");
@@ -37,14 +42,21 @@ fn what_is_in_force_is_shown() {
     assert!(seen.components > 50_000, "{seen:?}");
 }
 
-/// A map that has heard every frame since the last change, up to before that with this count, and nothing in them but panning vectors:
-/// what was announced before its first change a late listener cannot know to be all.
+/// A map that has missed nothing of the configuration of this count's frame, which it hears next: one that is started with the
+/// configuration's first frame, or that has heard nothing but panning vectors in all the frames before. What is announced to a late
+/// listener it cannot know to be all.
 fn listening(count: u8) -> Vec<u8> {
     let mut map = vec![0xA5; MAP];
     assert_eq!(start(&mut map), DONE);
+    if count % 128 == 2 {
+        return map;
+    }
     let mut field = [0; FIELD];
     for before in (1..=128).rev() {
-        assert_eq!(write(count.wrapping_sub(before), 0, PANNING, 0, 0, &mut field), DONE);
+        assert_eq!(
+            write(count.wrapping_sub(before), 0, PANNING, 0, 0, &mut field),
+            DONE
+        );
         assert_eq!(take(&mut map, &field), DONE);
     }
     map

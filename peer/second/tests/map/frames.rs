@@ -94,7 +94,8 @@ fn the_distance_across_the_wrap() {
     }
 }
 
-/// The first frame changes nothing, whatever its count is, and what came before it is not known.
+/// The first frame changes nothing, whatever its count is. What came before it is not known, and need not be where a configuration
+/// begins with it.
 #[test]
 fn the_first_frame() {
     for count in 0..=255 {
@@ -102,7 +103,7 @@ fn the_first_frame() {
         assert_eq!(listener.marks(), [0, 0]);
         assert_eq!(listener.at(7, count), said(0, ""));
         listener.hears(1, 7, "a", 0);
-        assert_eq!(listener.marks(), [1, 0]);
+        assert_eq!(listener.marks(), [1, u8::from(count % 128 == 2)]);
         assert_eq!(listener.map[34_816], count);
         assert_eq!(listener.now(7), said(0, ""));
         assert_eq!(listener.announced(7).0, 1);
@@ -179,7 +180,7 @@ fn it_is_finished_later() {
     listener.count = 2;
     listener.idle_to(3);
     assert_eq!(listener.now(7), said(46, ""));
-    for (letter, expected) in [("b", said(46, "")), ("a", said(0, "ab"))] {
+    for (letter, expected) in [("a", said(46, "")), ("b", said(46, "")), ("a", said(0, "ab"))] {
         listener.hears(0, 7, letter, 0);
         assert_eq!(listener.now(7), expected);
     }
@@ -203,4 +204,72 @@ fn a_late_listener_takes_no_part_for_the_whole() {
     listener.hears(1, 7, "bcabca", 0);
     listener.idle_to(131);
     assert_eq!(listener.now(7), said(0, "abc"));
+}
+
+/// One who begins with a configuration's first frame has missed nothing of what is announced in it, and needs no repetition; one who
+/// begins a frame later does.
+#[test]
+fn from_the_first_frame_on_each_field_once_is_enough() {
+    for first in [2, 130_u8] {
+        for late in 0..3 {
+            let change = first.wrapping_add(128);
+            let mut listener = Listener::late(first + late);
+            listener.hears(1, 7, "ab", 0);
+            listener.idle_to(change);
+            let known = if late == 0 {
+                said(0, "ab")
+            } else {
+                said(46, "")
+            };
+            assert_eq!(listener.next(7), known, "{first} {late}");
+            listener.idle_to(change.wrapping_add(1));
+            assert_eq!(listener.now(7), known, "{first} {late}");
+        }
+    }
+}
+
+/// A field lost in the middle of a repetition is missed: the list without it is not taken for the whole, whether LINKS tells the
+/// repetitions apart or not. The next repetition shows it.
+#[test]
+fn a_field_lost_in_a_repetition_is_missed() {
+    for (flag, links) in [(0, 0), (0, 1), (1, 0), (1, 1)] {
+        let mut listener = Listener::new(100);
+        listener.hears(flag, 7, "a", 0);
+        // Here was "b".
+        listener.count += 1;
+        listener.hears(flag, 7, "c", 0);
+        let behind = |listener: &Listener| {
+            if flag == 0 {
+                listener.now(7)
+            } else {
+                listener.at(7, 130)
+            }
+        };
+        for (letters, links, expected) in [
+            ("", 0, 46),
+            ("a", links, 46),
+            ("bc", links, 46),
+            ("a", 0, 0),
+        ] {
+            listener.hears(flag, 7, letters, links);
+            let letters = if expected == 0 { "abc" } else { "" };
+            assert_eq!(behind(&listener), said(expected, letters), "{flag} {links}");
+        }
+        assert_eq!(listener.marks(), [1, 0]);
+    }
+}
+
+/// The same of one field alone, and of nine; and of a list that is whole nothing is lost.
+#[test]
+fn a_missed_frame_leaves_what_is_whole() {
+    for (letters, number, shown) in [("a", 46, ""), ("abcdefghi", 46, ""), ("aba", 0, "ab")] {
+        let mut listener = Listener::new(20);
+        listener.hears(0, 7, letters, 0);
+        listener.count += 1;
+        listener.idle_to(listener.count + 1);
+        assert_eq!(listener.now(7), said(number, shown), "{letters}");
+        // A list that was open is begun anew with the next field.
+        listener.hears(0, 7, "aba", 1);
+        assert_eq!(listener.now(7), said(0, "ab"), "{letters}");
+    }
 }

@@ -19,7 +19,7 @@ impl Listener {
         Listener { map, count }
     }
 
-    /// One who has heard every frame since the last change, and of nothing that matters. The next frame has this count.
+    /// One who has heard every frame of the running configuration, and of nothing that matters. The next frame has this count.
     pub fn new(count: u8) -> Listener {
         let mut listener = Listener::late(count.wrapping_sub(128));
         listener.idle_to(count);
@@ -72,7 +72,7 @@ impl Listener {
         (announced, frames)
     }
 
-    /// The marks of a frame that was heard, and of all since the last change.
+    /// The marks of a frame that was heard, and of all of the running configuration.
     pub fn marks(&self) -> [u8; 2] {
         [self.map[MAP - 2], self.map[MAP - 1]]
     }

@@ -1,4 +1,5 @@
 -- `field::Tdms::bad` meets its contract: one of the three pairs is bad. Assumes nothing.
+use mathlib.Core.Bool.{_||_}
 use borrow.Author.Needs.{needs}
 use Rattle.field.specs.Field.{fln1, lln1, fln2, lln2, fcp, lcp, badTdms}
 use Rattle.field.proofs.Tdms.bad.Statement.{statement}
@@ -15,7 +16,7 @@ bad-pair-requires-3 c κs = search needs
 
 returns : tie.Need-returns
 unfolding fln1 lln1 fln2 lln2 fcp lcp badTdms
-returns c = cc
+returns c = λ i. c .before .before .bad-pair .ensures i || (c .before .bad-pair2 .ensures i || c .bad-pair3 .ensures i)
 
 pub bad-spec : {M : Type 1} → statement M
 bad-spec = tie.close (tie.spec bad-pair-requires bad-pair-requires-2 bad-pair-requires-3 returns)

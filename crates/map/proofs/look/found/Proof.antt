@@ -2,7 +2,7 @@
 use mathlib.Core.Path.{_≡_, sym, ap, _∙_}
 use mathlib.Core.Bool.{Bool, true, false, cond}
 use mathlib.Core.Logic.{⊎-elim}
-use Rattle.map.specs.Map.{until}
+use Rattle.frames.specs.Counts.{until}
 use Rattle.map.proofs.Looking.{found-whole, found-part}
 use borrow.Author.Needs.{needs}
 use Rattle.map.proofs.look.found.Statement.{statement}

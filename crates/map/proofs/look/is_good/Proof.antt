@@ -5,7 +5,8 @@ use Prim.Native.Nat.{_+_, _-_, _≤_}
 use native.Mathlib.Omega.{arith}
 use borrow.Author.Needs.{needs}
 use Rattle.bits.specs.Search.{all as allOf}
-use Rattle.map.specs.Map.{ids, goodFrames, goodAt, good}
+use Rattle.frames.specs.Counts.{goodFrames}
+use Rattle.map.specs.Map.{ids, goodAt, good}
 use Rattle.map.proofs.Looking.{all-next, all-end}
 use Rattle.map.proofs.look.is_good.Statement.{statement}
 use Rattle.map.proofs.look.is_good.Tie as tie
@@ -16,15 +17,15 @@ Inv-loop map all₀ id₀ all id = (id ≤ ids) × ((all && allOf (goodAt map) (
 abbrev μ-loop : tie.MeasureT-loop
 μ-loop map all₀ id₀ all id = ids - id
 
-load-requires : tie.Need-load-requires Inv-loop μ-loop
-load-requires c κs = search needs
+frames-of-requires : tie.Need-frames-of-requires Inv-loop μ-loop
+frames-of-requires c κs = search needs
 
 good-requires : tie.Need-good-requires Inv-loop μ-loop
 good-requires c κs = search needs
 
 loop-holds : tie.Need-loop-holds Inv-loop μ-loop
 unfolding good
-loop-holds c = (omega arith, ap (λ (b : Bool). b && allOf (goodAt (c .before .before .before .args .map .now)) ids 0) (c .good2 .ensures ∙ ap goodFrames (c .before .load .ensures)))
+loop-holds c = (omega arith, ap (λ (b : Bool). b && allOf (goodAt (c .before .before .before .args .map .now)) ids 0) (c .good2 .ensures ∙ ap goodFrames (c .before .frames-of .ensures)))
 
 good-at-requires : tie.Need-good-at-requires Inv-loop μ-loop
 good-at-requires c κs = (c .before .before .before .before .before .pre, c .loop-test .taken)
@@ -55,7 +56,7 @@ is-good-spec =
     (tie.spec
     Inv-loop
     μ-loop
-    load-requires
+    frames-of-requires
     good-requires
     loop-holds
     good-at-requires

@@ -5,9 +5,10 @@ use mathlib.Core.Logic.{⊎-elim}
 use Prim.Native.Nat.{_<_}
 use native.Mathlib.Omega.{arith}
 use Rattle.structure.specs.Structure.{said, settledHead}
+use Rattle.frames.specs.Counts.{changing, allHeard}
 use Rattle.map.specs.Map.{framesOf, inForce, announced}
-use Rattle.map.specs.Calls.{changing, allHeard, thenHead}
-use Rattle.map.specs.declared.Frames.{Frames}
+use Rattle.map.specs.Calls.{thenHead}
+use Rattle.frames.specs.declared.Frames.{Frames}
 use Rattle.map.proofs.Looking.{behind-then, force-then, shown-then}
 use borrow.Author.Needs.{needs}
 use Rattle.map.proofs.look.shown_at.Statement.{statement}
@@ -21,11 +22,11 @@ unfolding announced
 behind c =
     let start = c .before .before .before .before .before in
     ap₂ (λ (x y : Bool). x && y)
-    (c .changing .ensures ∙ ap (λ (f : Frames). changing f (start .args .count)) (c .before .before .before .load .ensures))
+    (c .changing .ensures ∙ ap (λ (f : Frames). changing f (start .args .count)) (c .before .before .before .frames-of .ensures))
     (c .before .said .ensures ∙ ap said (c .before .before .head .ensures))
 
-load-requires : tie.Need-load-requires
-load-requires c κs = search needs
+frames-of-requires : tie.Need-frames-of-requires
+frames-of-requires c κs = search needs
 
 head-requires : tie.Need-head-requires
 head-requires c κs = search needs
@@ -55,7 +56,7 @@ unfolding announced inForce
 returns c =
     let one = c .before .before in
     let now = one .before in
-    let frames = now .before .before .before .load in
+    let frames = now .before .before .before .frames-of in
     let coming = now .before .before .head in
     let a = now .before .before .before .before .before .args in
     let m = a .map .now in
@@ -74,7 +75,7 @@ pub shown-at-spec : {M : Type 1} → statement M
 shown-at-spec =
     tie.close
     (tie.spec
-    load-requires
+    frames-of-requires
     head-requires
     said-requires
     changing-requires

@@ -6,9 +6,10 @@ use lib.ListN.{length}
 use borrow.Author.Tests.{not-true, not-false}
 use Rattle.field.specs.Field.{fieldOf, badField, panning}
 use Rattle.field.specs.declared.Field.{Field}
+use Rattle.frames.specs.Counts.{again}
 use Rattle.map.specs.Map.{mapSize, good}
-use Rattle.map.specs.Calls.{again, tooMany}
-use Rattle.map.specs.declared.Frames.{Frames}
+use Rattle.map.specs.Calls.{tooMany}
+use Rattle.frames.specs.declared.Frames.{Frames}
 use Rattle.map.proofs.Looking.{take-20, map-size, field-size, take-34, take-44, take-idle, take-45, take-0, idle}
 use borrow.Author.Needs.{needs}
 use Rattle.map.proofs.look.take_answer.Statement.{statement}
@@ -29,7 +30,7 @@ same-idle : (c : tie.After-again) → (eqb (c .before .before .before .before .b
 same-idle c =
     let field = c .before .before .before .before .before .load .ensures in
     ap₂ (λ (x y : Bool). x || y) (ap (λ (r : Field). eqb (r .id) panning) field)
-    (c .again .ensures ∙ ap₂ (λ (f : Frames) (r : Field). again f (r .count)) (c .before .load2 .ensures) field)
+    (c .again .ensures ∙ ap₂ (λ (f : Frames) (r : Field). again f (r .count)) (c .before .frames-of .ensures) field)
 
 returns : tie.Need-returns
 returns c = sym (take-20 (c .before .before .before .args .map .now) (c .before .before .before .args .field .now) (c .if1 .taken))
@@ -59,8 +60,8 @@ returns-3 c =
     sym (take-44 (a .map .now) (a .field .now) (one .if1 .left) (sound two)
     (ap badField (sym (c .before .before .load .ensures)) ∙ sym (c .before .bad .ensures) ∙ c .if3 .taken))
 
-load-requires-2 : tie.Need-load-requires-2
-load-requires-2 c κs = sized (c .before .before .before .before .before .before)
+frames-of-requires : tie.Need-frames-of-requires
+frames-of-requires c κs = sized (c .before .before .before .before .before .before)
 
 again-requires : tie.Need-again-requires
 again-requires c κs = search needs
@@ -106,7 +107,7 @@ take-answer-spec =
     load-requires
     bad-requires
     returns-3
-    load-requires-2
+    frames-of-requires
     again-requires
     returns-4
     too-many-requires

@@ -1,18 +1,18 @@
 -- `map::look::too_many` meets its contract: the tests are those of the definition, in its order. Assumes nothing.
 use mathlib.Core.Path.{_≡_, sym, ap, _∙_}
+use Rattle.frames.specs.Counts.{changing}
 use Rattle.map.specs.Map.{framesOf}
-use Rattle.map.specs.Calls.{changing}
-use Rattle.map.specs.declared.Frames.{Frames}
+use Rattle.frames.specs.declared.Frames.{Frames}
 use Rattle.map.proofs.Looking.{many-deletes, many-present, many-counted}
 use borrow.Author.Needs.{needs}
 use Rattle.map.proofs.look.too_many.Statement.{statement}
 use Rattle.map.proofs.look.too_many.Tie as tie
 
 change : (c : tie.After-changing) → c .changing .result ≡ changing (framesOf (c .before .before .before .args .map .now)) (c .before .before .before .args .field .count)
-change c = c .changing .ensures ∙ ap (λ (f : Frames). changing f (c .before .before .before .args .field .count)) (c .before .load .ensures)
+change c = c .changing .ensures ∙ ap (λ (f : Frames). changing f (c .before .before .before .args .field .count)) (c .before .frames-of .ensures)
 
-load-requires : tie.Need-load-requires
-load-requires c κs = search needs
+frames-of-requires : tie.Need-frames-of-requires
+frames-of-requires c κs = search needs
 
 changing-requires : tie.Need-changing-requires
 changing-requires c κs = search needs
@@ -62,7 +62,7 @@ pub too-many-spec : {M : Type 1} → statement M
 too-many-spec =
     tie.close
     (tie.spec
-    load-requires
+    frames-of-requires
     changing-requires
     deletes-requires
     returns

@@ -1,0 +1,51 @@
+-- Distances of frame counts, and the frames behind one more: the code's tests against the definitions.
+--
+--   ahead-wraps, ahead-lt    the distance between frame counts, by a difference that wraps
+--   after-*                  the frames behind a field, by the tests on the way; after-good: they stay good
+--
+-- Assumes nothing.
+use mathlib.Core.Path.{_≡_, refl, sym, ap, _∙_}
+use mathlib.Core.Bool.{Bool, true, false, cond}
+use Prim.Native.Nat.{ℕ, _+_, _%_, _<_}
+use native.Mathlib.Omega.{arith}
+use borrow.Author.Tests.{eq-eqb, ne-eqb}
+use lib.Dec.{leb, eqb}
+use Rattle.bits.proofs.Search.{and-right}
+use Rattle.frames.specs.Counts.{ahead, goodFrames, skips, begins, framesAfter}
+use Rattle.frames.specs.declared.Frames.{Frames}
+
+pub ahead-wraps : (r a b : ℕ) → r < 256 → a < 256 → (r + a) % 256 ≡ b → r % 128 ≡ ahead a b
+unfolding ahead
+ahead-wraps r a b hr ha e = omega arith
+
+pub ahead-lt : (a b : ℕ) → ahead a b < 128
+unfolding ahead
+ahead-lt a b = omega arith
+
+module _ (h : Frames) (n : ℕ) where
+  abbrev behind : ℕ → Frames
+  behind unbroken = record { last = n; heard = 1; unbroken = unbroken }
+
+  pub after-skipped : skips h n ≡ true → behind 0 ≡ framesAfter h n
+  unfolding framesAfter
+  after-skipped e = λ i. behind (cond (sym e i) 0 (cond (begins n) 1 (h .unbroken)))
+
+  module _ (e : skips h n ≡ false) (d : ℕ) (ed : d ≡ ahead 2 n) where
+    by-begins : (b : Bool) → eqb d 0 ≡ b → behind (cond b 1 (h .unbroken)) ≡ framesAfter h n
+    unfolding framesAfter begins
+    by-begins b q = λ i. behind (cond (sym e i) 0 (cond ((sym q ∙ ap (λ (x : ℕ). eqb x 0) ed) i) 1 (h .unbroken)))
+
+    pub after-begun : d ≡ 0 → behind 1 ≡ framesAfter h n
+    after-begun z = by-begins true (eq-eqb d 0 z)
+
+    pub after-next : (d ≡ 0 → ⊥) → behind (h .unbroken) ≡ framesAfter h n
+    after-next ne = by-begins false (ne-eqb d 0 ne)
+
+pub after-good : (h : Frames) (n : ℕ) → goodFrames h ≡ true → goodFrames (framesAfter h n) ≡ true
+unfolding goodFrames framesAfter
+after-good h n g = go (skips h n) (begins n)
+  where
+    go : (s c : Bool) → leb (cond s 0 (cond c 1 (h .unbroken))) 1 ≡ true
+    go true c = refl
+    go false true = refl
+    go false false = and-right (leb (h .heard) 1) (leb (h .unbroken) 1) g

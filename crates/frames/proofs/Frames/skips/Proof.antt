@@ -1,0 +1,19 @@
+-- `frames::Frames::skips` meets its contract: the distance is that of the definition. Assumes nothing.
+use mathlib.Core.Path.{ap}
+use mathlib.Core.Bool.{_&&_}
+use Prim.Native.Nat.{ℕ}
+use lib.Dec.{ltb, eqb}
+use Rattle.frames.specs.Counts.{skips}
+use borrow.Author.Needs.{needs}
+use Rattle.frames.proofs.Frames.skips.Statement.{statement}
+use Rattle.frames.proofs.Frames.skips.Tie as tie
+
+ahead-requires : tie.Need-ahead-requires
+ahead-requires c κs = search needs
+
+returns : tie.Need-returns
+unfolding skips
+returns c = ap (λ (d : ℕ). eqb (c .before .before .args .self .heard) 1 && ltb 1 d) (c .ahead .ensures)
+
+pub skips-spec : {M : Type 1} → statement M
+skips-spec = tie.close (tie.spec ahead-requires returns)

@@ -1,0 +1,56 @@
+-- Frame counts, and what is known of the frames that were heard (ETS 300 352, 4.5.4).
+--
+--   ahead a b       the distance from frame count a to frame count b, "across the wrap from 127 to 0"
+--   changes a b     a change falls behind the frame with count a, up to that with count b: "from the beginning of line 1 of the second
+--                   frame following the frame in which FCNT code 0 (modulo 128) is sent", the frame with count 2
+--   until a         in how many frames after that with count a the next change comes
+--   changing h n, again h n, skips h n     of the last frame heard and that with count n: a change falls between them; they are the
+--                   same; a frame was missed on the way
+--   framesAfter h n what is known when the frame with count n is heard
+--   sureAt h n, allHeard h     nothing more can come of what is announced, at a change before the frame with count n; at the next one
+use mathlib.Core.Bool.{Bool, cond, not, _&&_}
+use Prim.Native.Nat.{ℕ, _+_, _-_, _%_}
+use lib.Dec.{leb, ltb, eqb}
+use Rattle.frames.specs.declared.Frames.{Frames}
+
+unfoldable pub ahead : ℕ → ℕ → ℕ
+ahead a b = (b + 256 - a) % 128
+
+unfoldable pub changes : ℕ → ℕ → Bool
+changes a b = ltb (ahead 2 b) (ahead a b)
+
+unfoldable pub until : ℕ → ℕ
+until a = ahead a 1 + 1
+
+unfoldable pub goodFrames : Frames → Bool
+goodFrames h = leb (h .heard) 1 && leb (h .unbroken) 1
+
+-- a change falls between the last field's frame and this one's
+unfoldable pub changing : Frames → ℕ → Bool
+changing h n = eqb (h .heard) 1 && changes (h .last) n
+
+-- one of the same frame's five identical blocks
+unfoldable pub again : Frames → ℕ → Bool
+again h n = eqb (h .heard) 1 && eqb (ahead (h .last) n) 0
+
+-- a frame was missed on the way
+unfoldable pub skips : Frames → ℕ → Bool
+skips h n = eqb (h .heard) 1 && ltb 1 (ahead (h .last) n)
+
+unfoldable pub sureAt : Frames → ℕ → Bool
+sureAt h n = eqb (h .unbroken) 1 && not (skips h n)
+
+-- the frame that a configuration begins with
+unfoldable pub begins : ℕ → Bool
+begins n = eqb (ahead 2 n) 0
+
+unfoldable pub framesAfter : Frames → ℕ → Frames
+framesAfter h n = record {
+  last = n;
+  heard = 1;
+  unbroken = cond (skips h n) 0 (cond (begins n) 1 (h .unbroken));
+}
+
+-- every frame since the change before is heard, to the last before the next
+unfoldable pub allHeard : Frames → Bool
+allHeard h = eqb (h .unbroken) 1 && eqb (until (h .last)) 1

@@ -1,0 +1,83 @@
+// The frames that were heard, by their counts: distances, changes, and whether one was missed. Every count is answered.
+ghost use mathlib.Core.Path.{_≡_};
+ghost use Rattle.frames.specs.Counts.{ahead, until, goodFrames, changing, again, skips, sureAt, framesAfter, allHeard};
+
+// The last frame count, whether there is one, and whether every frame of the running configuration was heard.
+pub struct Frames {
+    pub last: u8,
+    pub heard: u8,
+    pub unbroken: u8,
+}
+
+// The distance between two frame counts, across the wrap from 127 to 0.
+fn ahead(from: u8, to: u8) -> u8
+    ensures { λ r. ⌜ r ≡ ahead from to ⌝ }
+{
+    std::num::wrapping_sub_u8(to, from) % 128
+}
+
+impl Frames {
+    pub fn good(self) -> bool
+        ensures { λ r. ⌜ r ≡ goodFrames self ⌝ }
+    {
+        (self.heard <= 1) & (self.unbroken <= 1)
+    }
+
+    // In how many frames behind the last one the next change comes: at the frame with count 2.
+    pub fn until(self) -> u8
+        ensures { λ r. ⌜ r ≡ until (self .last) ⌝ }
+    {
+        ahead(self.last, 1) + 1
+    }
+
+    // A change falls behind the last frame, up to that with a count.
+    pub fn changing(self, count: u8) -> bool
+        ensures { λ r. ⌜ r ≡ changing self count ⌝ }
+    {
+        (self.heard == 1) & (ahead(2, count) < ahead(self.last, count))
+    }
+
+    // One of the same frame's five identical blocks.
+    pub fn again(self, count: u8) -> bool
+        ensures { λ r. ⌜ r ≡ again self count ⌝ }
+    {
+        (self.heard == 1) & (ahead(self.last, count) == 0)
+    }
+
+    // A frame is missed on the way to that with a count.
+    pub fn skips(self, count: u8) -> bool
+        ensures { λ r. ⌜ r ≡ skips self count ⌝ }
+    {
+        (self.heard == 1) & (1 < ahead(self.last, count))
+    }
+
+    pub fn sure_at(self, count: u8) -> bool
+        ensures { λ r. ⌜ r ≡ sureAt self count ⌝ }
+    {
+        (self.unbroken == 1) & !self.skips(count)
+    }
+
+    // Nothing more of what is announced can come.
+    pub fn all_heard(self) -> bool
+        ensures { λ r. ⌜ r ≡ allHeard self ⌝ }
+    {
+        (self.unbroken == 1) & (self.until() == 1)
+    }
+
+    pub fn after(self, count: u8) -> Self
+        ensures { λ r. ⌜ r ≡ framesAfter self count ⌝ }
+    {
+        let unbroken = if self.skips(count) {
+            0
+        } else if ahead(2, count) == 0 {
+            1
+        } else {
+            self.unbroken
+        };
+        Self {
+            last: count,
+            heard: 1,
+            unbroken,
+        }
+    }
+}

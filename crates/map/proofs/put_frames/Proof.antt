@@ -1,0 +1,42 @@
+-- `map::put_frames` meets its contract: the three stores put the frames there. Assumes nothing.
+use mathlib.Core.List.{[], _∷_}
+use native.Mathlib.Omega.{arith}
+use Rattle.slot.proofs.Laws.{sets-put}
+use Rattle.map.specs.Map.{framesAt, withFrames}
+use borrow.Author.Needs.{needs}
+use Rattle.map.proofs.put_frames.Statement.{statement}
+use Rattle.map.proofs.put_frames.Tie as tie
+
+slice-write-map : tie.Need-slice-write-map
+slice-write-map c = search needs
+
+add-map : tie.Need-add-map
+add-map c = search needs
+
+slice-write-map-2 : tie.Need-slice-write-map-2
+slice-write-map-2 c = search needs
+
+add-map-2 : tie.Need-add-map-2
+add-map-2 c = search needs
+
+slice-write-map-3 : tie.Need-slice-write-map-3
+slice-write-map-3 c = search needs
+
+same-length : tie.Need-same-length
+same-length c = search needs
+
+returns : tie.Need-returns
+unfolding withFrames
+returns c = sets-put framesAt (c .args .frames .last ∷ c .args .frames .heard ∷ c .args .frames .unbroken ∷ []) (c .args .map .now) (omega arith)
+
+pub put-frames-spec : {M : Type 1} → statement M
+put-frames-spec =
+    tie.close
+    (tie.spec
+    slice-write-map
+    add-map
+    slice-write-map-2
+    add-map-2
+    slice-write-map-3
+    same-length
+    returns)
