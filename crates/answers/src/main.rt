@@ -86,7 +86,7 @@ fn served(state: &mut [u8], buffer: &mut [u8], n: usize, number: u64) -> Progres
     let mut answers = io::buffer();
     let mut count: usize = 0;
     let mut at: usize = 0;
-    let last = records::serve_all(state, &buffer[..n], &mut answers, &mut count, &mut at);
+    let last = serving::serve_all(state, &buffer[..n], &mut answers, &mut count, &mut at);
     text::lines(number, &answers[..count]);
     let next = std::num::wrapping_add_u64(number, count as u64);
     match last {

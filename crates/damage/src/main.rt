@@ -1,13 +1,8 @@
 // Damage within what the codes correct, and beyond it, to groups at address 17, whose limit is 2; and groups out of step.
-//
-// packets  the rows of the packet call that need no slot, and those of the writer
 use bare::TypeByte;
 use libc::STDOUT_FILENO;
-use table::Following;
 use trial::sent;
 use trial::text;
-
-mod packets;
 
 // Bits of an image: all of it with the spare bit, and where its type byte and its first word begin.
 const IMAGE: u32 = 752;
@@ -31,7 +26,6 @@ const UNREADABLE: [u32; 4] = [0, 2, 4, 6];
 
 fn main() {
     io::write_all(STDOUT_FILENO, b"damage 1\n");
-    packets::print();
     corrected(1);
     corrected(0);
     bad_word();
@@ -41,17 +35,10 @@ fn main() {
     early_start();
 }
 
-fn followed(protection: u32) -> [u8; 11776] {
-    let mut state = [0u8; 11776];
-    let number = table::follow(&mut state, Following::new(17, protection, 2));
-    text::line(b"follow 17", number as u64);
-    state
-}
-
 // Three flips in each header and in each protected word, two in each type byte.
 fn corrected(protection: u32) {
     io::write_all(STDOUT_FILENO, b"as much damage as is corrected\n");
-    let mut state = followed(protection);
+    let mut state = sent::followed(protection);
     let mut images = sent::written(17, protection, 1);
     turn_fronts(&mut images);
     if protection == 1 {
@@ -82,36 +69,38 @@ fn turn_words(images: &mut [u8]) {
     }
 }
 
+fn whole(state: &mut [u8], protection: u32, from: u8) {
+    sent::feed(state, sent::written(17, protection, from), 0, 4);
+}
+
 // Four flips in a word: 31, and the last whole group is doubtful until the next one.
 fn bad_word() {
     io::write_all(STDOUT_FILENO, b"four flips in a word\n");
-    let mut state = followed(1);
-    sent::feed(&mut state, sent::written(17, 1, 1), 0, 4);
-    let mut images = sent::written(17, 1, 2);
-    sent::turn(&mut images, IMAGE * 2 + WORDS + WORD * 7, &FOUR);
-    sent::feed(&mut state, images, 0, 4);
-    sent::shown(&state, 17, 1, 1);
-    sent::feed(&mut state, sent::written(17, 1, 3), 0, 4);
-    sent::shown(&state, 17, 1, 3);
+    broken(1, IMAGE * 2 + WORDS + WORD * 7, &FOUR);
 }
 
 // A type byte of 55: 28.
 fn bad_type() {
     io::write_all(STDOUT_FILENO, b"a type byte of 55\n");
-    let mut state = followed(0);
-    sent::feed(&mut state, sent::written(17, 0, 1), 0, 4);
-    let mut images = sent::written(17, 0, 2);
-    sent::turn(&mut images, IMAGE + TYPE, &UNREADABLE);
+    broken(0, IMAGE + TYPE, &UNREADABLE);
+}
+
+// A group, one with bits of a packet turned over, and one more.
+fn broken(protection: u32, from: u32, bits: &[u32]) {
+    let mut state = sent::followed(protection);
+    whole(&mut state, protection, 1);
+    let mut images = sent::written(17, protection, 2);
+    sent::turn(&mut images, from, bits);
     sent::feed(&mut state, images, 0, 4);
-    sent::shown(&state, 17, 0, 1);
-    sent::feed(&mut state, sent::written(17, 0, 3), 0, 4);
-    sent::shown(&state, 17, 0, 3);
+    sent::shown(&state, 17, protection, 1);
+    whole(&mut state, protection, 3);
+    sent::shown(&state, 17, protection, 3);
 }
 
 // Types that are not data's, each after a packet that is.
 fn other_types() {
     io::write_all(STDOUT_FILENO, b"types 3F, C7 and F8\n");
-    let mut state = followed(0);
+    let mut state = sent::followed(0);
     let images = sent::written(17, 0, 1);
     sent::feed(&mut state, images, 0, 4);
     typed(&mut state, TypeByte::CONTROL);
@@ -131,7 +120,7 @@ fn typed(state: &mut [u8], kind: u8) {
 // 32: nothing was started; one was left out; one came twice.
 fn out_of_step() {
     io::write_all(STDOUT_FILENO, b"out of step\n");
-    let mut state = followed(1);
+    let mut state = sent::followed(1);
     let images = sent::written(17, 1, 1);
     sent::feed(&mut state, images, 1, 4);
     sent::shown(&state, 17, 1, 1);
@@ -147,8 +136,8 @@ fn out_of_step() {
 // A group that starts while 2 is awaited marks a gap, and is handed out.
 fn early_start() {
     io::write_all(STDOUT_FILENO, b"an early start\n");
-    let mut state = followed(0);
-    sent::feed(&mut state, sent::written(17, 0, 1), 0, 4);
+    let mut state = sent::followed(0);
+    whole(&mut state, 0, 1);
     sent::feed(&mut state, sent::written(17, 0, 2), 0, 2);
     sent::shown(&state, 17, 0, 1);
     let images = sent::written(17, 0, 3);

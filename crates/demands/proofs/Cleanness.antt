@@ -30,11 +30,12 @@ use Rattle.slot.specs.Move.{Move, started, held, whole, outOfStep, moveOf, move
 use Rattle.slot.specs.declared.Head.{Head}
 use Rattle.slot.proofs.Laws.{part-length, unfinished-room, unfinished-put, unfinished-length, store-unfinished, store-stored, withHead-length, good-load, good-aged, good-cases, free-blank}
 use Rattle.table.specs.State.{stateSize, slots, slotAt, withSlot, find}
-use Rattle.table.specs.Calls.{groupLength, startAnswer, startAfter, followAnswer, followAfter, leaveAnswer, leaveAfter, endAnswer, ages, endAfter}
+use Rattle.table.specs.Calls.{startAnswer, startAfter, followAnswer, followAfter, leaveAnswer, leaveAfter, endAnswer, ages, endAfter}
 use Rattle.table.proofs.States.{good-each, slot-length, slot-same, slot-other, address-is, find-has, zero-free}
 use Rattle.table.proofs.Looking.{Passed, state-passed}
 use Rattle.table.proofs.Kept.{part-blank, Followed, follow-passed, leave-passed, done-either}
 use Rattle.table.proofs.Doing.{start-passed}
+use Rattle.asking.specs.Asking.{groupLength}
 use Rattle.group.specs.Group.{blockOf, placed, roomsMoved, slotMoved, slotDropped, takenAfter}
 use Rattle.group.proofs.Laws.{Wants, Fits, moveOf-wants, moved-head, started-stored, held-stored, whole-room, whole-stored, dropped-room, dropped-stored, dropped-head}
 use Rattle.group.proofs.Doing.{placed-length, out-drops, block-le}

@@ -21,11 +21,12 @@ use Rattle.bits.proofs.Storing.{blank-length}
 use Rattle.slot.specs.Head.{shown}
 use Rattle.slot.specs.Move.{moveOf, moveNumber, movedHead}
 use Rattle.table.specs.State.{find}
-use Rattle.table.specs.Calls.{followAnswer, followAfter, endAfter, askPart, asked}
-use Rattle.table.specs.declared.Asked.{Asked}
+use Rattle.table.specs.Calls.{followAnswer, followAfter, endAfter}
 use Rattle.table.proofs.Looking.{leave-27}
 use Rattle.table.proofs.States.{each-good}
-use Rattle.table.proofs.Doing.{asked-refused}
+use Rattle.asking.specs.Asking.{asked, askPart}
+use Rattle.asking.specs.declared.Asked.{Asked}
+use Rattle.asking.proofs.Laws.{asked-refused}
 use Rattle.history.specs.Followed as one
 use Rattle.history.specs.Sent.{group, groups, In, Exactly}
 use Rattle.history.specs.Transcript.{Entry, subframe, isWhole, anyWhole, sinceWhole, ends, marked, called}

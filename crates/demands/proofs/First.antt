@@ -29,8 +29,9 @@ use Rattle.slot.specs.Head.{shown}
 use Rattle.slot.specs.Move.{Move, started, held, whole, outOfStep, moveOf, moveNumber}
 use Rattle.slot.specs.declared.Head.{Head}
 use Rattle.table.specs.State.{slotAt, find}
-use Rattle.table.specs.declared.Asked.{Asked}
-use Rattle.table.specs.Calls.{startAnswer, startAfter, followAnswer, followAfter, leaveAnswer, leaveAfter, endAnswer, endAfter, askedAt, askedBy, asked}
+use Rattle.table.specs.Calls.{startAnswer, startAfter, followAnswer, followAfter, leaveAnswer, leaveAfter, endAnswer, endAfter}
+use Rattle.asking.specs.Asking.{askedAt, askedBy, asked}
+use Rattle.asking.specs.declared.Asked.{Asked}
 use Rattle.group.specs.Group.{slotMoved, slotDropped, takenNumber, takenAfter}
 use Rattle.group.proofs.Laws.{dropped-room, dropped-stored, dropped-head}
 use Rattle.group.proofs.Doing.{out-drops}

@@ -26,11 +26,11 @@ use Rattle.slot.specs.Head.{shown}
 use Rattle.slot.specs.declared.Head.{Head}
 use Rattle.slot.proofs.Laws.{part-part}
 use Rattle.table.specs.State.{stateSize, slotAt, withSlot, find, good}
-use Rattle.table.specs.Calls.{groupLength, askedAt, asked, askPart}
-use Rattle.table.specs.declared.Asked.{Asked}
 use Rattle.table.proofs.States.{good-each, slot-same, slot-other, with-length}
-use Rattle.table.proofs.Looking.{leave-0, asked-group, asked-none}
-use Rattle.table.proofs.Doing.{asked-found}
+use Rattle.table.proofs.Looking.{leave-0}
+use Rattle.asking.specs.Asking.{groupLength, askedAt, asked, askPart}
+use Rattle.asking.specs.declared.Asked.{Asked}
+use Rattle.asking.proofs.Laws.{asked-group, asked-none, asked-found}
 use Rattle.group.specs.Group.{takenNumber, takenAfter}
 use Rattle.adapter.specs.Calls.{addressOf, followed, unplaced, readingAt, slotAnswer, slotAfter, packetAnswer, packetAfter}
 use Rattle.adapter.proofs.Laws.{followed-both, Placed, placed, placed-zero, packet-placed}

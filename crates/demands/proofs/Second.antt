@@ -35,7 +35,7 @@ use Rattle.slot.specs.declared.Head.{Head}
 use Rattle.slot.proofs.Laws.{part-cat, part-length}
 use Rattle.table.specs.State.{slotAt, addressAt, find}
 use Rattle.table.proofs.States.{find-has, address-is, used-one}
-use Rattle.table.proofs.Looking.{shown-5}
+use Rattle.asking.proofs.Laws.{shown-5}
 use Rattle.history.specs.Followed.{Followed, Event, moved, joined, lastOf, after, answer}
 use Rattle.history.specs.Followed as one
 use Rattle.adapter.specs.Calls.{addressOf, groupSize, imagesSize, packetOf, groupImages, packetAnswer, packetAfter, writeAnswer, writeAfter}

@@ -25,10 +25,11 @@ use Rattle.slot.specs.Head.{newHead}
 use Rattle.slot.specs.declared.Head.{Head}
 use Rattle.slot.proofs.Laws.{good-new, good-load, withHead-length}
 use Rattle.table.specs.State.{slots, slotAt, withSlot, addressAt, find}
-use Rattle.table.specs.Calls.{followAnswer, followAfter, asked, askPart, boardText}
+use Rattle.table.specs.Calls.{followAnswer, followAfter}
 use Rattle.table.proofs.Looking.{follow-0}
 use Rattle.table.proofs.States.{slot-length, address-same, address-other, find-has, find-none}
 use Rattle.table.proofs.Kept.{follow-passed}
+use Rattle.asking.specs.Asking.{asked, askPart, boardText}
 use Rattle.history.specs.Followed as one
 use Rattle.history.specs.Sent.{group, Exactly}
 use Rattle.packet.specs.Damage.{sentImage}

@@ -25,7 +25,7 @@ use Rattle.packet.specs.Damage.{dataSize, Refused}
 use Rattle.packet.specs.declared.Reading.{Reading}
 use Rattle.slot.specs.Move.{Move, started, held, whole, outOfStep, moveOf, moveNumber, movedHead}
 use Rattle.slot.specs.declared.Head.{Head}
-use Rattle.table.specs.Calls.{askPart}
+use Rattle.asking.specs.Asking.{askPart}
 use Rattle.history.specs.Followed as one
 use Rattle.history.specs.Transcript.{Entry, answered, subframe, entry, told}
 use Rattle.history.proofs.Laws.{run-app}

@@ -15,10 +15,11 @@ use Rattle.bits.specs.Rows.{row, refusal}
 use Rattle.bits.proofs.Search.{and-left, and-right}
 use Rattle.slot.specs.Head.{within, shown}
 use Rattle.table.specs.State.{slots, find}
-use Rattle.table.specs.Calls.{followAnswer, asked, askPart}
+use Rattle.table.specs.Calls.{followAnswer}
 use Rattle.table.proofs.Looking.{state-rest}
 use Rattle.table.proofs.States.{each-good}
 use Rattle.table.proofs.Kept.{follow-passed}
+use Rattle.asking.specs.Asking.{asked, askPart}
 use Rattle.history.specs.Followed as one
 use Rattle.history.specs.Sent.{Readable, Exactly}
 use Rattle.history.specs.Transcript.{called, told}

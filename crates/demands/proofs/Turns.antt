@@ -16,7 +16,8 @@ use borrow.Author.Tests.{eq-eqb}
 use lib.Dec.{eqb, lit<}
 use Rattle.bits.specs.Bits.{blank}
 use Rattle.slot.specs.Head.{shown}
-use Rattle.table.specs.Calls.{followAnswer, followAfter, asked}
+use Rattle.table.specs.Calls.{followAnswer, followAfter}
+use Rattle.asking.specs.Asking.{asked}
 use Rattle.history.specs.Followed as one
 use Rattle.history.specs.Transcript.{Entry, answered}
 use Rattle.adapter.specs.Calls.{addressOf, packetAnswer, packetAfter}

@@ -19,7 +19,7 @@ use Rattle.slot.specs.Head.{newHead, droppedHead, agedHead, goodHead}
 use Rattle.slot.specs.Move.{Move, started, held, whole, outOfStep, movedHead}
 use Rattle.slot.specs.declared.Head.{Head}
 use Rattle.slot.proofs.Laws.{good-load, good-aged, store-unfinished, store-stored}
-use Rattle.table.specs.Calls.{groupLength}
+use Rattle.asking.specs.Asking.{groupLength}
 use Rattle.history.specs.Followed.{Followed, moved, joined, lastOf, dropped, aged, followed}
 use Rattle.group.specs.Group.{blockOf, slotMoved, slotDropped}
 use Rattle.group.proofs.Laws.{Wants, Fits, moved-head, started-room, started-stored, held-room, held-stored, whole-group, dropped-head, dropped-stored}

@@ -14,7 +14,7 @@ use Rattle.bits.specs.Bits.{blank}
 use Rattle.slot.specs.Slot.{roomSize, headOf, unfinished, stored}
 use Rattle.slot.specs.declared.Head.{Head}
 use Rattle.table.specs.State.{stateSize, slots, slotAt}
-use Rattle.table.specs.Calls.{groupLength}
+use Rattle.asking.specs.Asking.{groupLength}
 use Rattle.group.specs.Group.{blockOf}
 use Rattle.demands.specs.Machine.{Call, start, Machine}
 

@@ -11,7 +11,8 @@ use mathlib.Core.List.{List, [], _∷_}
 use Prim.Native.Nat.{ℕ, _<_}
 use lib.ListN.{length, getD}
 use Rattle.bare.specs.Bare.{headerRead, headerWritten, wordRead, wordWritten, typeRead, typeWritten}
-use Rattle.table.specs.Calls.{startAnswer, startAfter, followAnswer, followAfter, leaveAnswer, leaveAfter, endAnswer, endAfter, asked, askPart}
+use Rattle.table.specs.Calls.{startAnswer, startAfter, followAnswer, followAfter, leaveAnswer, leaveAfter, endAnswer, endAfter}
+use Rattle.asking.specs.Asking.{asked, askPart}
 use Rattle.adapter.specs.Calls.{packetAnswer, packetAfter, writeAnswer, writeAfter}
 
 pub data Call : Type 0 where

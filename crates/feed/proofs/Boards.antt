@@ -13,8 +13,8 @@ use lib.Dec.{eqb}
 use lib.ListN.{length}
 use lib.Seq.{take-length}
 use Rattle.slot.specs.Part.{part}
-use Rattle.table.specs.Calls.{asked, askPart, boardText}
-use Rattle.table.specs.declared.Asked.{Asked}
+use Rattle.asking.specs.Asking.{asked, askPart, boardText}
+use Rattle.asking.specs.declared.Asked.{Asked}
 use Rattle.feed.specs.Board.{boardFrom, boardAt, boardLength}
 
 module _ (s : List ℕ) (a : ℕ) (notice : List ℕ) (r : Asked) (e : r ≡ asked s a) where

@@ -7,7 +7,7 @@ use mathlib.Core.List.{List}
 use Prim.Native.Nat.{ℕ}
 use lib.Dec.{eqb}
 use lib.ListN.{length}
-use Rattle.table.specs.Calls.{asked}
+use Rattle.asking.specs.Asking.{asked}
 
 unfoldable pub boardFrom : List ℕ → ℕ → ℕ
 boardFrom s a = cond (eqb (asked s a .number) 5) 1 0

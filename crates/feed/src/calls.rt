@@ -1,7 +1,8 @@
 // The calls on a state, and the group writer. A part is handed back as its place and its length in what was lent.
 ghost use mathlib.Core.Path.{_≡_};
 ghost use lib.ListN.{length};
-ghost use Rattle.table.specs.Calls.{startAnswer, startAfter, followAnswer, followAfter, leaveAnswer, leaveAfter, endAnswer, endAfter, asked};
+ghost use Rattle.table.specs.Calls.{startAnswer, startAfter, followAnswer, followAfter, leaveAnswer, leaveAfter, endAnswer, endAfter};
+ghost use Rattle.asking.specs.Asking.{asked};
 ghost use Rattle.adapter.specs.Calls.{packetAnswer, packetAfter, writeAnswer, writeAfter};
 ghost use Rattle.feed.specs.Board.{boardFrom, boardAt, boardLength};
 use table::Following;
@@ -58,7 +59,7 @@ pub extern "C" fn feed_ask(state: &[u8], address: u32, at: &mut usize, len: &mut
     ensures { λ _. ⌜ now (at .exit) ≡ asked (now (state .entry)) address .at ⌝ }
     ensures { λ _. ⌜ now (len .exit) ≡ asked (now (state .entry)) address .len ⌝ }
 {
-    let shown = table::answer(state, address);
+    let shown = asking::answer(state, address);
     *at = shown.at;
     *len = shown.len;
     shown.number
@@ -80,7 +81,7 @@ pub extern "C" fn feed_board_text(
     ensures { λ _. ⌜ now (at .exit) ≡ boardAt (now (state .entry)) address ⌝ }
     ensures { λ _. ⌜ now (len .exit) ≡ boardLength (now (state .entry)) address (now (notice .entry)) ⌝ }
 {
-    let shown = table::answer(state, address);
+    let shown = asking::answer(state, address);
     if shown.number == 5 {
         *from = 1;
         *at = shown.at;

@@ -1,6 +1,6 @@
 -- Laws of a field's bits and bytes. `Below 256 f` says that each of f is a byte.
 --
---   eight-sets       eight stores put a number there
+--   eight-put        the two halves of a number, put one after the other
 --   loaded           the numbers of a field, by its bytes
 --
 -- Assumes nothing.
@@ -8,38 +8,23 @@ use mathlib.Core.Path.{_≡_, sym, ap, _∙_}
 use mathlib.Core.List.{List}
 use Prim.Native.Nat.{ℕ, suc, _+_, _*_, _/_, _%_, _^_, _≤_, _<_}
 use native.Mathlib.Omega.{arith}
-use lib.ListN.{length, take, drop, getD, set, drop-of-length-le}
+use lib.ListN.{length, take, drop, getD, drop-of-length-le}
 use lib.Seq.{drop-drop}
-use lib.Pow.{shr-shr}
 use Rattle.bits.specs.Bits.{number, sent}
 use Rattle.bits.proofs.Runs.{Below, digit, sent-drop, sent-below, number-at}
 use Rattle.slot.specs.Part.{put}
 use Rattle.slot.specs.Slot.{four, fourAt}
-use Rattle.slot.proofs.Laws.{sets-put, fourAt-lt}
+use Rattle.slot.proofs.Laws.{put-next, four-length, fourAt-lt}
 use Rattle.field.specs.Field.{bitsAt, fieldOf, eight, eightAt}
 
 -- ---- eight bytes stored
 
-pub eight-sets : (at n : ℕ) (s : List ℕ) → n < 2 ^ 64 → at + 8 ≤ length s
-    → set (set (set (set (set (set (set (set s at (n % 256)) (at + 1) (n / 256 % 256)) (at + 2) (n / 65536 % 256)) (at + 3)
-    (n / 16777216 % 256)) (at + 4) (n / 4294967296 % 256)) (at + 5) (n / 1099511627776 % 256)) (at + 6) (n / 281474976710656 % 256))
-    (at + 7) (n / 72057594037927936)
-    ≡ put at 8 (eight n) s
-unfolding four eight
-eight-sets at n s h l =
-    let i1 : at + 1 ≡ suc at = omega arith in
-    let i2 : at + 2 ≡ suc (suc at) = omega arith in
-    let i3 : at + 3 ≡ suc (suc (suc at)) = omega arith in
-    let i4 : at + 4 ≡ suc (suc (suc (suc at))) = omega arith in
-    let i5 : at + 5 ≡ suc (suc (suc (suc (suc at)))) = omega arith in
-    let i6 : at + 6 ≡ suc (suc (suc (suc (suc (suc at))))) = omega arith in
-    let i7 : at + 7 ≡ suc (suc (suc (suc (suc (suc (suc at)))))) = omega arith in
-    let top : n / 2 ^ 56 ≡ n / 2 ^ 32 / 2 ^ 24 % 256 = omega (arith, shr-shr n 32 24) in
-    let byte : (k : ℕ) → n / 2 ^ (32 + k) % 256 ≡ n / 2 ^ 32 / 2 ^ k % 256 =
-    λ k. ap (λ (x : ℕ). x % 256) (sym (shr-shr n 32 k)) in
-    (λ i. set (set (set (set (set (set (set (set s at (n % 256)) (i1 i) (n / 256 % 256)) (i2 i) (n / 65536 % 256)) (i3 i)
-    (n / 16777216 % 256)) (i4 i) (n / 4294967296 % 256)) (i5 i) (byte 8 i)) (i6 i) (byte 16 i)) (i7 i) (top i))
-    ∙ sets-put at (eight n) s l
+pub eight-put : (at n : ℕ) (s mid after : List ℕ) → at + 8 ≤ length s → mid ≡ put at 4 (four n) s
+    → after ≡ put (at + 4) 4 (four (n / 2 ^ 32)) mid → after ≡ put at 8 (eight n) s
+unfolding eight
+eight-put at n s mid after l low high =
+    high ∙ ap (λ (x : List ℕ). put (at + 4) 4 (four (n / 2 ^ 32)) x) low
+    ∙ put-next at 4 (four n) s 4 (four (n / 2 ^ 32)) (omega arith) (four-length n)
 
 -- ---- a field's numbers by its bytes
 

@@ -14,6 +14,8 @@ use Prim.Native.Nat.{ℕ, suc, _+_, _*_, _/_, _%_, _^_, _<_}
 use native.Mathlib.Omega.{arith}
 use lib.Dec.{ltb, leb, eqb}
 use lib.ListN.{length, set, length-set, drop-of-length-le}
+use mir.Syntax.{w64}
+use mir.Val.{Fits}
 use borrow.Author.Tests.{ltb-false, leb-false, eq-eqb, ne-eqb}
 use Rattle.bits.specs.Rows.{given, done}
 use Rattle.bits.proofs.Rows.{refusal-hit, refusal-miss, refusal-none}
@@ -159,15 +161,15 @@ module _ (s : Tdms) where
       (ap (λ (n : ℕ). given n whole) e, e)
 
   -- each of the six is within its width
-  pub record Narrow : Type 0 where
-    pub fln1 : s .fln1 < 1024
-    pub lln1 : s .lln1 < 1024
-    pub fln2 : s .fln2 < 1024
-    pub lln2 : s .lln2 < 1024
-    pub fcp : s .fcp < 2048
-    pub lcp : s .lcp < 2048
+  record Narrow : Type 0 where
+    fln1 : s .fln1 < 1024
+    lln1 : s .lln1 < 1024
+    fln2 : s .fln2 < 1024
+    lln2 : s .lln2 < 1024
+    fcp : s .fcp < 2048
+    lcp : s .lcp < 2048
 
-  pub pack-narrow : (lines || clock) ≡ false → Narrow
+  pack-narrow : (lines || clock) ≡ false → Narrow
   pack-narrow w =
       let all = neither lines clock w in
       let one = neither (leb 1024 (s .fln1)) _ (all .0) in
@@ -183,12 +185,70 @@ module _ (s : Tdms) where
         lcp = leb-false 2048 (s .lcp) (last .1);
       }
 
-  pub pack-passed : (lines || clock) ≡ false → (n : ℕ) → n ≡ whole
-      → (n ≡ packed s) × (0 ≡ packNumber s)
+  abbrev pair1 : ℕ
+  pair1 = s .fln1 + s .lln1 * 1024
+
+  abbrev pair2 : ℕ
+  pair2 = s .fln2 + s .lln2 * 1024
+
+  abbrev pair3 : ℕ
+  pair3 = s .fcp + s .lcp * 2048
+
+  -- the sum as the code makes it
+  abbrev pairs : ℕ
+  pairs = pair1 + pair2 * 1048576 + pair3 * 1099511627776
+
+  -- no step of the code's sum wraps
+  pub record Packs : Type 0 where
+    pub fln1 : Fits w64 (s .fln1)
+    pub lln1 : Fits w64 (s .lln1)
+    pub fln2 : Fits w64 (s .fln2)
+    pub lln2 : Fits w64 (s .lln2)
+    pub fcp : Fits w64 (s .fcp)
+    pub lcp : Fits w64 (s .lcp)
+    pub lln1-at : Fits w64 (s .lln1 * 1024)
+    pub lln2-at : Fits w64 (s .lln2 * 1024)
+    pub lcp-at : Fits w64 (s .lcp * 2048)
+    pub one : Fits w64 pair1
+    pub two : Fits w64 pair2
+    pub three : Fits w64 pair3
+    pub two-at : Fits w64 (pair2 * 1048576)
+    pub both : Fits w64 (pair1 + pair2 * 1048576)
+    pub three-at : Fits w64 (pair3 * 1099511627776)
+    pub sum : Fits w64 pairs
+
+  -- the arithmetic stands here, and not at the needs: there each `omega` would read the whole walk
+  pub packs : (lines || clock) ≡ false → Packs
+  packs w =
+      let h = pack-narrow w in
+      record {
+        fln1 = record { fits = omega arith };
+        lln1 = record { fits = omega arith };
+        fln2 = record { fits = omega arith };
+        lln2 = record { fits = omega arith };
+        fcp = record { fits = omega arith };
+        lcp = record { fits = omega arith };
+        lln1-at = record { fits = omega arith };
+        lln2-at = record { fits = omega arith };
+        lcp-at = record { fits = omega arith };
+        one = record { fits = omega arith };
+        two = record { fits = omega arith };
+        three = record { fits = omega arith };
+        two-at = record { fits = omega arith };
+        both = record { fits = omega arith };
+        three-at = record { fits = omega arith };
+        sum = record { fits = omega arith };
+      }
+
+  same-sum : pairs ≡ whole
+  unfolding tdmsOf
+  same-sum = omega arith
+
+  pub pack-passed : (lines || clock) ≡ false → (pairs ≡ packed s) × (0 ≡ packNumber s)
   unfolding packed packNumber given
-  pack-passed w n same =
+  pack-passed w =
       let e : 0 ≡ packNumber s = sym (refusal-miss _ 33 [] (one-test false w) ∙ refusal-none) in
-      (same ∙ ap (λ (x : ℕ). given x whole) e, e)
+      (same-sum ∙ ap (λ (x : ℕ). given x whole) e, e)
 
 -- ---- unpack
 

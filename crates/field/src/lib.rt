@@ -4,7 +4,7 @@ ghost use mathlib.Core.Path.{_≡_};
 ghost use Prim.Native.Nat.{_+_, _≤_};
 ghost use lib.ListN.{length};
 ghost use Rattle.slot.specs.Part.{put};
-ghost use Rattle.slot.specs.Slot.{fourAt};
+ghost use Rattle.slot.specs.Slot.{four, fourAt};
 ghost use Rattle.field.specs.Field.{fieldOf, fieldBytes, badPair, badTdms, deletes, key, badField, readNumber, readField, writeNumber, writtenAfter, packNumber, packed, numbersOf, unpackNumber, unpacked, eight, eightAt};
 
 // Frame count, update flag, component, the 62 bits of TDMS as one number, LINKS.
@@ -210,17 +210,22 @@ pub fn eight_at(s: &[u8], at: usize) -> u64
     four_at(s, at) + four_at(s, at + 4) * 4294967296
 }
 
-// Puts a number at a place, and touches no other byte.
-pub fn put_eight(s: &mut [u8], at: usize, n: u64)
-    requires { ⌜ at + 8 ≤ length (now s) ⌝ }
-    ensures { λ _. ⌜ now (s .exit) ≡ put at 8 (eight n) (now (s .entry)) ⌝ }
+// Puts the lowest four bytes of a number at a place.
+fn put_four(s: &mut [u8], at: usize, n: u64)
+    requires { ⌜ at + 4 ≤ length (now s) ⌝ }
+    ensures { λ _. ⌜ now (s .exit) ≡ put at 4 (four n) (now (s .entry)) ⌝ }
 {
     s[at] = (n % 256) as u8;
     s[at + 1] = (n / 256 % 256) as u8;
     s[at + 2] = (n / 65536 % 256) as u8;
     s[at + 3] = (n / 16777216 % 256) as u8;
-    s[at + 4] = (n / 4294967296 % 256) as u8;
-    s[at + 5] = (n / 1099511627776 % 256) as u8;
-    s[at + 6] = (n / 281474976710656 % 256) as u8;
-    s[at + 7] = (n / 72057594037927936) as u8;
+}
+
+// Puts a number at a place, and touches no other byte.
+pub fn put_eight(s: &mut [u8], at: usize, n: u64)
+    requires { ⌜ at + 8 ≤ length (now s) ⌝ }
+    ensures { λ _. ⌜ now (s .exit) ≡ put at 8 (eight n) (now (s .entry)) ⌝ }
+{
+    put_four(s, at, n);
+    put_four(s, at + 4, n / 4294967296);
 }

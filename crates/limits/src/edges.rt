@@ -11,16 +11,18 @@ pub fn print() {
     changes(253);
     io::write_all(STDOUT_FILENO, b"pairs out of order, and in order\n");
     bad_pairs();
-    io::write_all(STDOUT_FILENO, b"lengths\n");
-    wrong_length(&mut [7u8; 34818]);
-    wrong_length(&mut [7u8; 34820]);
-    lengths(&mut [0u8; 34819]);
+    every_length();
     io::write_all(STDOUT_FILENO, b"maps that are not good\n");
     bad_maps();
     io::write_all(STDOUT_FILENO, b"linked fields\n");
     linked(1);
     linked(8);
     linked(9);
+}
+
+// A refused call leaves what is lent to it as it was.
+fn as_it_was(label: &[u8], now: &[u8], before: &[u8]) {
+    text::line(label, call::same(now, before));
 }
 
 // Component 7 announced, with one field from a line on.
@@ -70,13 +72,17 @@ fn around(map: &[u8], count: u8, number: u8) {
 // 44, while a change is due: it does not come. Then pairs that are equal or all ones, which pass, and bring it.
 fn bad_pairs() {
     let mut map = [0u8; 34819];
-    call::told(b"announced", &mut map, one(128, 11));
-    call::told(b"announced again", &mut map, one(129, 11));
+    announce(&mut map);
     let before = map;
     pairs(&mut map, 0, 6);
-    text::line(b"as it was", call::same(&map, &before));
+    as_it_was(b"as it was", &map, &before);
     pairs(&mut map, 6, 9);
     call::shown(b"7 in", &map, 7, 132);
+}
+
+fn announce(map: &mut [u8]) {
+    call::told(b"announced", map, one(128, 11));
+    call::told(b"announced again", map, one(129, 11));
 }
 
 // First after last and last alone all ones, for each of the three pairs; equal ones, and all ones for one pair.
@@ -106,15 +112,20 @@ fn count_of(k: u8) -> u8 {
 fn pairs(map: &mut [u8], first: u8, end: u8) {
     let mut k = first;
     while k < end {
-        let count = count_of(k);
-        let number = written(count, pair(k));
-        let taken = raw(map, count, pair(k));
-        call::numbers(
-            b"pair, written, taken",
-            &[k as u64, number as u64, taken as u64],
-        );
+        try_pair(map, k);
         k += 1;
     }
+}
+
+fn try_pair(map: &mut [u8], k: u8) {
+    let count = count_of(k);
+    let tdms = pair(k);
+    let number = written(count, tdms);
+    let taken = raw(map, count, tdms);
+    call::numbers(
+        b"pair, written, taken",
+        &[k as u64, number as u64, taken as u64],
+    );
 }
 
 fn sent(count: u8, id: u8, tdms: u64) -> Field {
@@ -146,6 +157,13 @@ fn even(x: u8) -> u8 {
     x - x % 2
 }
 
+fn every_length() {
+    io::write_all(STDOUT_FILENO, b"lengths\n");
+    wrong_length(&mut [7u8; 34818]);
+    wrong_length(&mut [7u8; 34820]);
+    lengths(&mut [0u8; 34819]);
+}
+
 // A byte too few, or one too many: 20, and nothing is touched.
 fn wrong_length(map: &mut [u8]) {
     text::line(b"start", map::start(map) as u64);
@@ -165,15 +183,23 @@ fn calls(map: &mut [u8]) {
     );
 }
 
-// Fields and lists of other lengths than 10 and 256.
+// Fields and lists of other lengths than 10 and 256, and of these.
 fn lengths(map: &mut [u8]) {
-    text::line(b"field of 9", map::take(map, &[0u8; 9]) as u64);
-    text::line(b"field of 11", map::take(map, &[0u8; 11]) as u64);
+    other_lengths(map);
+    text::line(b"as it was", call::all(map, 0));
+    take(b"field of 10", map, &[0u8; 10]);
+    list(map, &mut [9u8; 256]);
+}
+
+fn other_lengths(map: &mut [u8]) {
+    take(b"field of 9", map, &[0u8; 9]);
+    take(b"field of 11", map, &[0u8; 11]);
     list(map, &mut [9u8; 255]);
     list(map, &mut [9u8; 257]);
-    text::line(b"as it was", call::all(map, 0));
-    text::line(b"field of 10", map::take(map, &[0u8; 10]) as u64);
-    list(map, &mut [9u8; 256]);
+}
+
+fn take(label: &[u8], map: &mut [u8], field: &[u8]) {
+    text::line(label, map::take(map, field) as u64);
 }
 
 fn list(map: &[u8], out: &mut [u8]) {
@@ -195,7 +221,7 @@ fn bad_map(at: usize, value: u8) {
     let before = map;
     text::line(b"byte", at as u64);
     calls(&mut map);
-    text::line(b"  as it was", call::same(&map, &before));
+    as_it_was(b"  as it was", &map, &before);
 }
 
 // A map as it starts but for one byte.

@@ -1,11 +1,10 @@
--- For each contract of the calls: any two results that it allows, of the answer and of every lent byte, are equal.
--- Assumes nothing.
+-- For each contract of the calls that change the state: any two results that it allows, of the answer and of every lent
+-- byte, are equal. Assumes nothing.
 use mathlib.Core.Path.{_≡_}
 use mathlib.Core.List.{List}
 use Prim.Native.Nat.{ℕ}
 use Rattle.bits.proofs.Determined.{determined}
-use Rattle.table.specs.Calls.{startAnswer, startAfter, followAnswer, followAfter, leaveAnswer, leaveAfter, endAnswer, endAfter, asked, askPart, boardText}
-use Rattle.table.specs.declared.Asked.{Asked}
+use Rattle.table.specs.Calls.{startAnswer, startAfter, followAnswer, followAfter, leaveAnswer, leaveAfter, endAnswer, endAfter}
 
 -- an answer and the bytes after, by the two functions of a call
 abbrev pub Same : ℕ → List ℕ → Type 0
@@ -26,12 +25,3 @@ leave-same s a = same (leaveAnswer s a) (leaveAfter s a)
 
 pub end-same : (s : List ℕ) → Same (endAnswer s) (endAfter s)
 end-same s = same (endAnswer s) (endAfter s)
-
-pub answer-same : (s : List ℕ) (a : ℕ) (r q : Asked) → r ≡ asked s a → q ≡ asked s a → r ≡ q
-answer-same s a r q = determined
-
-pub ask-same : (s : List ℕ) (a : ℕ) → Same (asked s a .number) (askPart s a)
-ask-same s a = same (asked s a .number) (askPart s a)
-
-pub board-same : (s : List ℕ) (a : ℕ) (notice : List ℕ) → Same (asked s a .number) (boardText s a notice)
-board-same s a notice = same (asked s a .number) (boardText s a notice)

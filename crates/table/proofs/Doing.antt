@@ -7,32 +7,27 @@
 --   span-length                  the part that is lent of slot k is a slot's length
 --   slot-given, slot-stored, slot-cleared    and the state with what came back of it
 --   ages-turn, ages-end          a turn and the end of the loop that ages the slots
---   asked-refused, asked-found   ask's answer, by the answer of the rows
---   asked-within, asked-part     the group's place is in the state, and the slice is that part
---   board-notice, board-group    the board text, by the number
 --
 -- Assumes nothing.
-use mathlib.Core.Path.{_≡_, refl, sym, ap, ap₂, _∙_, subst}
-use mathlib.Core.Bool.{Bool, true, false, cond, not}
-use mathlib.Core.List.{List, [], _++_, append-nil}
-use Prim.Native.Nat.{ℕ, zero, suc, _+_, _-_, _*_, _≤_, _<_}
+use mathlib.Core.Path.{_≡_, sym, ap, ap₂, _∙_}
+use mathlib.Core.Bool.{not}
+use mathlib.Core.List.{List, [], _++_}
+use Prim.Native.Nat.{ℕ, suc, _+_, _-_, _*_, _≤_, _<_}
 use native.Mathlib.Omega.{arith}
 use native.Mathlib.Numerals.{add-one}
 use borrow.Author.Tests.{eq-eqb, ne-eqb}
 use lib.Dec.{eqb}
-use lib.ListN.{length, take, drop, replicate}
-use lib.Seq.{drop-length}
+use lib.ListN.{length, take, drop}
 use Rattle.bits.specs.Bits.{blank}
 use Rattle.bits.specs.Rows.{refusal, done}
 use Rattle.bits.proofs.Rows.{refusal-hit, refusal-miss, done-refused, done-passed}
 use Rattle.slot.specs.Part.{part, put}
-use Rattle.slot.specs.Slot.{slotSize, wholeAt, headOf, withHead}
-use Rattle.slot.specs.Head.{agedHead, shown}
+use Rattle.slot.specs.Slot.{slotSize, headOf, withHead}
+use Rattle.slot.specs.Head.{agedHead}
 use Rattle.slot.specs.declared.Head.{Head}
 use Rattle.slot.proofs.Laws.{withHead-length}
 use Rattle.table.specs.State.{stateSize, slots, slotAt, withSlot, find}
-use Rattle.table.specs.Calls.{startAnswer, followAnswer, leaveAnswer, endAnswer, ages, groupLength, askedAt, askedBy, asked, askPart, boardText}
-use Rattle.table.specs.declared.Asked.{Asked}
+use Rattle.table.specs.Calls.{startAnswer, followAnswer, leaveAnswer, endAnswer, ages}
 use Rattle.table.proofs.States.{slot-length, with-length}
 use Rattle.table.proofs.Kept.{follow-passed, leave-passed}
 use Rattle.table.proofs.Looking.{state-passed}
@@ -127,63 +122,3 @@ unfolding ages
 ages-end k s t h e =
     let n : 0 ≡ slots - k = omega arith in
     ap (λ (m : ℕ). ages m k s) n ∙ e
-
--- ---- ask
-
-abbrev pub bare : ℕ → Asked
-bare n = record { number = n; at = 0; len = 0 }
-
-pub asked-refused : (s : List ℕ) (a r : ℕ) → r ≡ leaveAnswer s a → (r ≡ 0 → ⊥) → bare r ≡ asked s a
-unfolding asked askedBy
-asked-refused s a r e ne = ap bare e ∙ go (leaveAnswer s a) e
-  where
-    go : (m : ℕ) → r ≡ m → bare m ≡ askedBy m (askedAt (find s a) (headOf (slotAt (find s a) s)))
-    go zero q = absurd (ne q)
-    go (suc m) q = refl
-
-pub asked-found : (s : List ℕ) (a k : ℕ) (h : Head) (x : Asked) → leaveAnswer s a ≡ 0 → k ≡ find s a → h ≡ headOf (slotAt k s)
-    → x ≡ askedAt k h → x ≡ asked s a
-unfolding asked askedBy
-asked-found s a k h x z e eh ex =
-    ex ∙ ap (askedAt k) eh ∙ ap (λ (j : ℕ). askedAt j (headOf (slotAt j s))) e
-    ∙ ap (λ (m : ℕ). askedBy m (askedAt (find s a) (headOf (slotAt (find s a) s)))) (sym z)
-
--- a group's place is in its slot
-abbrev ends : Asked → ℕ
-ends x = x .at + x .len
-
-group-ends : (k : ℕ) (h : Head) → k < slots → ends (askedAt k h) ≤ stateSize
-unfolding askedAt groupLength
-group-ends k h l = go (eqb (h .group) 0) (eqb (h .protection) 1)
-  where
-    go : (g p : Bool) → ends (cond g (bare 4) (record { number = shown h; at = k * slotSize + wholeAt; len = cond p 180 360 })) ≤ stateSize
-    go true p = omega arith
-    go false true = omega arith
-    go false false = omega arith
-
-pub asked-within : (s : List ℕ) (a : ℕ) (r : Asked) → r ≡ asked s a → r .at + r .len ≤ length s
-unfolding asked askedBy
-asked-within s a r e = subst (λ (x : Asked). ends x ≤ length s) (sym e) (go (leaveAnswer s a) refl)
-  where
-    go : (m : ℕ) → leaveAnswer s a ≡ m → ends (askedBy m (askedAt (find s a) (headOf (slotAt (find s a) s)))) ≤ length s
-    go zero q = omega (arith, leave-length s a q, group-ends (find s a) (headOf (slotAt (find s a) s)) (leave-passed s a q .2))
-    go (suc m) q = omega arith
-
-pub asked-part : (s : List ℕ) (a : ℕ) (r : Asked) → r ≡ asked s a → take (r .at + r .len - r .at) (drop (r .at) s) ≡ askPart s a
-unfolding askPart part
-asked-part s a r e =
-    let n : r .at + r .len - r .at ≡ r .len = omega arith in
-    ap (λ (m : ℕ). take m (drop (r .at) s)) n ∙ ap (λ (x : Asked). part (x .at) (x .len) s) e
-
--- ---- board text
-
-module _ (s : List ℕ) (a : ℕ) (notice : List ℕ) (r : Asked) (e : r ≡ asked s a) where
-  by-number : (b : Bool) → eqb (r .number) 5 ≡ b → cond b (askPart s a) notice ≡ boardText s a notice
-  unfolding boardText
-  by-number b q = ap (λ (t : Bool). cond t (askPart s a) notice) (sym q ∙ ap (λ (x : Asked). eqb (x .number) 5) e)
-
-  pub board-notice : (r .number ≡ 5 → ⊥) → notice ≡ boardText s a notice
-  board-notice ne = by-number false (ne-eqb (r .number) 5 ne)
-
-  pub board-group : r .number ≡ 5 → take (r .at + r .len - r .at) (drop (r .at) s) ≡ boardText s a notice
-  board-group q = asked-part s a r e ∙ by-number true (eq-eqb (r .number) 5 q)

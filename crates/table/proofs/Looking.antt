@@ -6,7 +6,6 @@
 --   all-next, all-end    the fold over the slots
 --   state-*          the rows of the state, before a call's own
 --   outside          a test on both sides of a range
---   shown-*, asked-*, length-*   what ask says of a head
 --   leave-22 .., follow-22 ..    the rows of leave, ask and follow, in the code's tests
 --
 -- Assumes nothing.
@@ -23,11 +22,11 @@ use Rattle.bits.specs.Rows.{Row, row, refusal}
 use Rattle.bits.specs.Search.{first, all}
 use Rattle.bits.proofs.Rows.{refusal-hit, refusal-miss, refusal-passed, refusal-none}
 use Rattle.slot.specs.Part.{part}
-use Rattle.slot.specs.Slot.{slotSize, wholeAt, headOf}
-use Rattle.slot.specs.Head.{within, free, goodSlot, shown}
+use Rattle.slot.specs.Slot.{headOf}
+use Rattle.slot.specs.Head.{within, free, goodSlot}
 use Rattle.slot.specs.declared.Head.{Head}
 use Rattle.table.specs.State.{slots, stateSize, slotAt, addressAt, find, goodAt, good}
-use Rattle.table.specs.Calls.{stateRows, endAnswer, followAnswer, leaveAnswer, askedAt, groupLength}
+use Rattle.table.specs.Calls.{stateRows, endAnswer, followAnswer, leaveAnswer}
 use Rattle.table.proofs.States.{free-address, used-address, has}
 
 pub slot-part : (k : ℕ) (s : List ℕ) → take (k * 736 + 736 - k * 736) (drop (k * 736) s) ≡ slotAt k s
@@ -262,38 +261,3 @@ module _ (s : List ℕ) (a p l : ℕ) (ok : Passed s) where
           follow-0 h =
               past25 ∙ refusal-miss (not (ltb (find s 0) slots)) 26 [] (ap not (lt-ltb (find s 0) slots (subst (λ (x : ℕ). x < slots) f h)))
               ∙ refusal-none
-
--- ---- what ask says
-
-module _ (h : Head) (ne : h .group ≡ 0 → ⊥) where
-  shown-group : shown h ≡ cond (leb (h .limit) (h .age)) 7 (cond (eqb (h .gap) 1) 6 5)
-  unfolding shown
-  shown-group = ap (λ (b : Bool). cond b 4 (cond (leb (h .limit) (h .age)) 7 (cond (eqb (h .gap) 1) 6 5))) (ne-eqb (h .group) 0 ne)
-
-  pub shown-7 : h .limit ≤ h .age → shown h ≡ 7
-  shown-7 q = shown-group ∙ ap (λ (b : Bool). cond b 7 (cond (eqb (h .gap) 1) 6 5)) (le-leb (h .limit) (h .age) q)
-
-  shown-young : h .age < h .limit → shown h ≡ cond (eqb (h .gap) 1) 6 5
-  shown-young q = shown-group ∙ ap (λ (b : Bool). cond b 7 (cond (eqb (h .gap) 1) 6 5)) (lt-leb (h .limit) (h .age) q)
-
-  pub shown-6 : h .age < h .limit → h .gap ≡ 1 → shown h ≡ 6
-  shown-6 q g = shown-young q ∙ ap (λ (b : Bool). cond b 6 5) (eq-eqb (h .gap) 1 g)
-
-  pub shown-5 : h .age < h .limit → (h .gap ≡ 1 → ⊥) → shown h ≡ 5
-  shown-5 q g = shown-young q ∙ ap (λ (b : Bool). cond b 6 5) (ne-eqb (h .gap) 1 g)
-
-  pub asked-group : (k : ℕ) → askedAt k h ≡ record { number = shown h; at = k * slotSize + wholeAt; len = groupLength h }
-  unfolding askedAt
-  asked-group k = rw (ne-eqb (h .group) 0 ne)
-
-pub asked-none : (k : ℕ) (h : Head) → h .group ≡ 0 → askedAt k h ≡ record { number = 4; at = 0; len = 0 }
-unfolding askedAt
-asked-none k h e = rw (eq-eqb (h .group) 0 e)
-
-pub length-180 : (h : Head) → h .protection ≡ 1 → groupLength h ≡ 180
-unfolding groupLength
-length-180 h e = rw (eq-eqb (h .protection) 1 e)
-
-pub length-360 : (h : Head) → (h .protection ≡ 1 → ⊥) → groupLength h ≡ 360
-unfolding groupLength
-length-360 h e = rw (ne-eqb (h .protection) 1 e)

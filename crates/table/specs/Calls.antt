@@ -1,25 +1,20 @@
--- The calls on the state, each as two functions of what was lent: its answer, and the bytes after (document 01, sections 3,
--- 5 and 6). A refused call changes nothing.
+-- The calls that change the state, each as two functions of what was lent: its answer, and the bytes after (document 01,
+-- sections 3, 5 and 6). A refused call changes nothing.
 --
 --   startAnswer, startAfter     20
 --   followAnswer, followAfter   20, 34, 22, 23, 24, 25, 26
 --   leaveAnswer, leaveAfter     20, 34, 22, 27
 --   endAnswer, endAfter         20, 34: the end of a subframe
---   asked s a                   ask's answer (20, 34, 22, 27 before), and where the group stands in the state
---   boardNumber, boardText      ask's number; the stored group where that is 5, otherwise the whole notice
-use mathlib.Core.Bool.{cond, not}
+use mathlib.Core.Bool.{not}
 use mathlib.Core.List.{List, [], _∷_}
-use Prim.Native.Nat.{ℕ, zero, suc, _+_, _*_}
-use lib.Dec.{leb, ltb, eqb}
+use Prim.Native.Nat.{ℕ, zero, suc}
+use lib.Dec.{ltb, eqb}
 use lib.ListN.{length}
 use Rattle.bits.specs.Bits.{blank}
 use Rattle.bits.specs.Rows.{Row, row, refusal, done}
-use Rattle.slot.specs.Part.{part}
-use Rattle.slot.specs.Slot.{slotSize, wholeAt, headOf, withHead}
-use Rattle.slot.specs.Head.{newHead, agedHead, within, shown}
-use Rattle.slot.specs.declared.Head.{Head}
+use Rattle.slot.specs.Slot.{slotSize, headOf, withHead}
+use Rattle.slot.specs.Head.{newHead, agedHead, within}
 use Rattle.table.specs.State.{slots, stateSize, slotAt, withSlot, find, good}
-use Rattle.table.specs.declared.Asked.{Asked}
 
 -- 20: state not 11,776; 34: state not good; then the call's own rows
 abbrev pub stateRows : List ℕ → List Row → List Row
@@ -72,31 +67,3 @@ ages (suc n) k s = ages n (suc k) (withSlot k (withHead (agedHead (headOf (slotA
 
 unfoldable pub endAfter : List ℕ → List ℕ
 endAfter s = done (endAnswer s) (ages slots 0 s) s
-
--- ---- ask, by `shown`: "Answers 5 to 7 come with the part of the state that holds the group, at its true length"
-
--- 360 bytes plain, 180 protected
-unfoldable pub groupLength : Head → ℕ
-groupLength h = cond (eqb (h .protection) 1) 180 360
-
--- a followed address, in slot k
-unfoldable pub askedAt : ℕ → Head → Asked
-askedAt k h =
-    cond (eqb (h .group) 0) (record { number = 4; at = 0; len = 0 })
-    (record { number = shown h; at = k * slotSize + wholeAt; len = groupLength h })
-
--- refused, or a followed address
-unfoldable pub askedBy : ℕ → Asked → Asked
-askedBy zero found = found
-askedBy (suc number) found = record { number = suc number; at = 0; len = 0 }
-
-unfoldable pub asked : List ℕ → ℕ → Asked
-asked s address = askedBy (leaveAnswer s address) (askedAt (find s address) (headOf (slotAt (find s address) s)))
-
-unfoldable pub askPart : List ℕ → ℕ → List ℕ
-askPart s address = part (asked s address .at) (asked s address .len) s
-
--- ---- board text
-
-unfoldable pub boardText : List ℕ → ℕ → List ℕ → List ℕ
-boardText s address notice = cond (eqb (asked s address .number) 5) (askPart s address) notice

@@ -1,10 +1,10 @@
-// The state of 16 slots, and the calls on it but for the packet call. No call has a `requires`: every slice and every
-// number is answered.
+// The state of 16 slots, and the calls that change it but for the packet call. No call has a `requires`: every slice and
+// every number is answered.
 //
 // look     what the state is asked before a change: heads, the slot of an address, whether it is good
 ghost use mathlib.Core.Path.{_≡_};
 ghost use lib.ListN.{length};
-ghost use Rattle.table.specs.Calls.{startAnswer, startAfter, followAnswer, followAfter, leaveAnswer, leaveAfter, endAnswer, endAfter, ages, asked, askPart, boardText};
+ghost use Rattle.table.specs.Calls.{startAnswer, startAfter, followAnswer, followAfter, leaveAnswer, leaveAfter, endAnswer, endAfter, ages};
 use slot::Head;
 use slot::Slot;
 use slot::room;
@@ -36,13 +36,6 @@ impl Following {
             limit,
         }
     }
-}
-
-// What ask answers: 4 to 7 or a refusal; with 5 to 7 the place and the length of the group in the state.
-pub struct Asked {
-    pub number: u8,
-    pub at: usize,
-    pub len: usize,
 }
 
 // 20. Every byte becomes 0.
@@ -100,49 +93,6 @@ pub fn subframe_end(state: &mut [u8]) -> u8
     }
     age(state);
     0
-}
-
-// What is known of an address: 20, 34, 22, 27, or 4 to 7 with the place of its group.
-pub fn answer(state: &[u8], address: u32) -> Asked
-    ensures { λ r. ⌜ r ≡ asked (now (state .entry)) address ⌝ }
-{
-    let refused = look::leave_answer(state, address);
-    if refused != 0 {
-        return Asked {
-            number: refused,
-            at: 0,
-            len: 0,
-        };
-    }
-    let k = look::find(state, address);
-    look::shown(k, look::head(state, k))
-}
-
-// The same with the part of the state that holds the group; an empty part with 4 and refusals.
-pub fn ask<'a>(state: &'a [u8], address: u32, number: &mut u8) -> &'a [u8]
-    ensures { λ r. ⌜ now r ≡ askPart (now (state .entry)) address ⌝ }
-    ensures { λ _. ⌜ now (number .exit) ≡ asked (now (state .entry)) address .number ⌝ }
-{
-    let shown = answer(state, address);
-    *number = shown.number;
-    let at = shown.at;
-    let end = at + shown.len;
-    &state[at..end]
-}
-
-// Ask's number, and the stored group where that is 5, otherwise the whole notice.
-pub fn board_text<'a>(state: &'a [u8], address: u32, notice: &'a [u8], number: &mut u8) -> &'a [u8]
-    ensures { λ r. ⌜ now r ≡ boardText (now (state .entry)) address (now (notice .entry)) ⌝ }
-    ensures { λ _. ⌜ now (number .exit) ≡ asked (now (state .entry)) address .number ⌝ }
-{
-    let shown = answer(state, address);
-    *number = shown.number;
-    if shown.number != 5 {
-        return notice;
-    }
-    let at = shown.at;
-    let end = at + shown.len;
-    &state[at..end]
 }
 
 // Every slot's head aged.

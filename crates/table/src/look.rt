@@ -3,10 +3,8 @@ ghost use mathlib.Core.Path.{_≡_};
 ghost use Prim.Native.Nat.{_<_};
 ghost use lib.ListN.{length};
 ghost use Rattle.slot.specs.Slot.{headOf};
-ghost use Rattle.slot.specs.Head.{shown};
 ghost use Rattle.table.specs.State.{slotAt, find, goodAt, good};
-ghost use Rattle.table.specs.Calls.{endAnswer, followAnswer, leaveAnswer, askedAt};
-use crate::Asked;
+ghost use Rattle.table.specs.Calls.{endAnswer, followAnswer, leaveAnswer};
 use crate::Following;
 use crate::Table;
 use slot::Head;
@@ -114,42 +112,5 @@ pub fn leave_answer(state: &[u8], address: u32) -> u8
         0
     } else {
         27
-    }
-}
-
-// What ask says of a followed address in slot k.
-pub fn shown(k: usize, head: Head) -> Asked
-    requires { ⌜ k < 16 ⌝ }
-    ensures { λ r. ⌜ r ≡ askedAt k head ⌝ }
-{
-    if head.group == 0 {
-        return Asked {
-            number: 4,
-            at: 0,
-            len: 0,
-        };
-    }
-    let len = if head.protection == 1 {
-        Slot::PROTECTED
-    } else {
-        Slot::ROOM
-    };
-    Asked {
-        number: freshness(head),
-        at: k * Slot::SIZE + Slot::WHOLE,
-        len,
-    }
-}
-
-// Stale, doubtful or fresh.
-fn freshness(head: Head) -> u8
-    ensures { λ r. ⌜ ((head .group ≡ 0 → ⊥) → r ≡ shown head) ⌝ }
-{
-    if head.limit <= head.age {
-        7
-    } else if head.gap == 1 {
-        6
-    } else {
-        5
     }
 }

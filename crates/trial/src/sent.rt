@@ -3,6 +3,7 @@ ghost use Prim.Native.Nat.{_≤_};
 use crate::text;
 use image::Packet;
 use slot::Slot;
+use table::Following;
 
 // The bytes from, from + 7, from + 14, ..
 pub fn message(from: u8) -> [u8; 360] {
@@ -13,6 +14,14 @@ pub fn message(from: u8) -> [u8; 360] {
         k += 1;
     }
     bytes
+}
+
+// A state that follows address 17 with limit 2.
+pub fn followed(protection: u32) -> [u8; 11776] {
+    let mut state = [0u8; 11776];
+    let number = table::follow(&mut state, Following::new(17, protection, 2));
+    text::line(b"follow 17", number as u64);
+    state
 }
 
 // How many of them a group brings.
@@ -54,7 +63,7 @@ pub fn shown(state: &[u8], address: u32, protection: u32, from: u8) {
     let bytes = message(from);
     let len = size(protection);
     let mut number: u8 = 0;
-    let part = table::ask(state, address, &mut number);
+    let part = asking::ask(state, address, &mut number);
     text::line(b"ask", number as u64);
     text::line(b"  bytes shown", part.len() as u64);
     text::line(b"  as sent", check::same(part, &bytes[..len]) as u64);

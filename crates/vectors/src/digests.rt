@@ -1,7 +1,7 @@
 // One number each for many readings and writings: FNV-1a of 32 bits over their bytes.
-use crate::text;
 use bare::Header;
 use bare::Word;
+use printing::text;
 
 const START: u64 = 0x811C9DC5;
 

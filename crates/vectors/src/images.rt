@@ -1,8 +1,8 @@
 // Whole images, sound and damaged, and what they are received as.
 ghost use Prim.Native.Nat.{_<_, _≤_};
-use crate::text;
 use bare::TypeByte;
 use image::Packet;
+use printing::text;
 
 // Bits that are turned over: in the header and the type byte, in each word, in one word, in the type byte.
 const FRONT: [u32; 5] = [3, 11, 22, 24, 29];

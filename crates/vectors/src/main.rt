@@ -1,14 +1,13 @@
 // Worked examples of every bare call and of received images, one a line: its name, what went in, what came out.
 // Hexadecimal is lower case; bytes stand in their order. The text expected is made by the second implementation.
 //
-// text       the parts of a line
-// codes      headers, words and type bytes
 // images     whole images, sound and damaged
 // digests    one number each for many readings and writings
-mod codes;
+use printing::codes;
+use printing::text;
+
 mod digests;
 mod images;
-mod text;
 
 fn main() {
     text::word(b"vectors 1");

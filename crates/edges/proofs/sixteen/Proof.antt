@@ -1,7 +1,6 @@
 -- `edges::sixteen` is safe and ends: the loop keeps the length of the state.
 -- Assumes nothing.
-use mathlib.Core.Path.{_∙_}
-use mathlib.Core.Path.{_≡_, refl}
+use mathlib.Core.Path.{_≡_, refl, _∙_}
 use Prim.Native.Nat.{_≤_, _-_}
 use native.Mathlib.Omega.{arith}
 use borrow.Author.Needs.{needs}
@@ -21,8 +20,8 @@ loop-holds c = (omega arith, refl)
 slice-aggregate-line : tie.Need-slice-aggregate-line Inv-loop μ-loop
 slice-aggregate-line c = search needs
 
-follow-requires : tie.Need-follow-requires Inv-loop μ-loop
-follow-requires c κs = search needs
+followed-requires : tie.Need-followed-requires Inv-loop μ-loop
+followed-requires c κs = search needs
 
 cast-line : tie.Need-cast-line Inv-loop μ-loop
 cast-line c = search needs
@@ -37,7 +36,7 @@ loop-less : tie.Need-loop-less Inv-loop μ-loop
 loop-less c = omega arith
 
 loop-again : tie.Need-loop-again Inv-loop μ-loop
-loop-again c = (omega arith, c .before .before .before .follow .kept .0 ∙ c .before .before .before .before .before .before .before .loop .inv .1)
+loop-again c = (omega arith, c .before .before .before .followed .kept .0 ∙ c .before .before .before .before .before .before .before .loop .inv .1)
 
 same-length : tie.Need-same-length Inv-loop μ-loop
 same-length c = c .before .loop .inv .1
@@ -53,7 +52,7 @@ sixteen-spec =
     μ-loop
     loop-holds
     slice-aggregate-line
-    follow-requires
+    followed-requires
     cast-line
     line-requires
     add-k

@@ -7,6 +7,7 @@ use borrow.Author.Needs.{needs}
 use Rattle.bits.specs.Rows.{given}
 use Rattle.bare.specs.Bare.{typeWritten}
 use Rattle.bare.specs.declared.Written.{Written}
+use Rattle.feed.proofs.Fields.{written-fields}
 use Rattle.feed.proofs.feed_write_type.Statement.{statement}
 use Rattle.feed.proofs.feed_write_type.Tie as tie
 
@@ -28,7 +29,7 @@ cast-value c =
     omega (arith, value-le (c .before .before .args .byte))
 
 returns : tie.Need-returns
-returns c = (cc, cc)
+returns c = written-fields (c .before .write-type .ensures)
 
 pub feed-write-type-spec : {M : Type 1} → statement M
 feed-write-type-spec = tie.close (tie.spec write-type-requires cast-value returns)

@@ -1,73 +1,71 @@
 -- `field::pack` meets its contract: by the test of the widths, refused or packed. Assumes nothing.
-use native.Mathlib.Omega.{arith}
-use borrow.Author.Needs.{needs}
-use Rattle.field.specs.Field.{tdmsOf}
-use Rattle.field.proofs.Steps.{pack-wide, pack-narrow, pack-passed}
+use Rattle.field.specs.declared.Tdms.{Tdms}
+use Rattle.field.proofs.Steps.{pack-wide, Packs, packs, pack-passed}
 use Rattle.field.proofs.pack.Statement.{statement}
 use Rattle.field.proofs.pack.Tie as tie
 
+-- the six numbers, as they are handed in
+abbrev given : tie.After-struct-known6 → Tdms
+given c = c .before .before .before .before .before .before .args .s
+
+fit : (c : tie.Else1) → Packs (given (c .before))
+fit c = packs (given (c .before)) (c .if1 .left)
+
 returns : tie.Need-returns
-returns c = pack-wide (c .before .before .before .before .before .before .before .args .s) (c .if1 .taken)
+returns c = pack-wide (given (c .before)) (c .if1 .taken)
 
 cast-one : tie.Need-cast-one
-cast-one c = search needs
+cast-one c = fit (c .before) .fln1
 
 cast-one-2 : tie.Need-cast-one-2
-cast-one-2 c = search needs
+cast-one-2 c = fit (c .before .before) .lln1
 
 mul-one : tie.Need-mul-one
-mul-one c = search needs
+mul-one c = fit (c .before .before) .lln1-at
 
 add-one : tie.Need-add-one
-add-one c = search needs
+add-one c = fit (c .before .before) .one
 
 cast-two : tie.Need-cast-two
-cast-two c = search needs
+cast-two c = fit (c .before .before .before) .fln2
 
 cast-two-2 : tie.Need-cast-two-2
-cast-two-2 c = search needs
+cast-two-2 c = fit (c .before .before .before .before) .lln2
 
 mul-two : tie.Need-mul-two
-mul-two c = search needs
+mul-two c = fit (c .before .before .before .before) .lln2-at
 
 add-two : tie.Need-add-two
-add-two c = search needs
+add-two c = fit (c .before .before .before .before) .two
 
 cast-three : tie.Need-cast-three
-cast-three c = search needs
+cast-three c = fit (c .before .before .before .before .before) .fcp
 
 cast-three-2 : tie.Need-cast-three-2
-cast-three-2 c = search needs
+cast-three-2 c = fit (c .before .before .before .before .before .before) .lcp
 
 mul-three : tie.Need-mul-three
-mul-three c = search needs
+mul-three c = fit (c .before .before .before .before .before .before) .lcp-at
 
 add-three : tie.Need-add-three
-add-three c = search needs
+add-three c = fit (c .before .before .before .before .before .before) .three
 
 mul-result : tie.Need-mul-result
-mul-result c = search needs
+mul-result c = fit (c .before .before .before .before .before .before) .two-at
 
 add-result : tie.Need-add-result
-add-result c = search needs
+add-result c = fit (c .before .before .before .before .before .before) .both
 
 mul-result-2 : tie.Need-mul-result-2
-mul-result-2 c =
-    let test = c .before .before .before .before .before .before in
-    let h = pack-narrow (test .before .before .before .before .before .before .before .args .s) (test .if1 .left) in
-    omega arith
+mul-result-2 c = fit (c .before .before .before .before .before .before) .three-at
 
 add-result-2 : tie.Need-add-result-2
-add-result-2 c =
-    let test = c .before .before .before .before .before .before in
-    let h = pack-narrow (test .before .before .before .before .before .before .before .args .s) (test .if1 .left) in
-    omega arith
+add-result-2 c = fit (c .before .before .before .before .before .before) .sum
 
 returns-2 : tie.Need-returns-2
-unfolding tdmsOf
 returns-2 c =
     let test = c .before .before .before .before .before .before in
-    pack-passed (test .before .before .before .before .before .before .before .args .s) (test .if1 .left) _ (omega arith)
+    pack-passed (given (test .before)) (test .if1 .left)
 
 pub pack-spec : {M : Type 1} → statement M
 pack-spec =

@@ -1,112 +1,28 @@
--- `field::put_eight` meets its contract: the eight stores put the number there. Assumes nothing.
-use native.Mathlib.Omega.{arith}
-use lib.ListN.{length-set}
+-- `field::put_eight` meets its contract: its two halves are put one after the other. Assumes nothing.
 use borrow.Author.Needs.{needs}
-use Rattle.field.proofs.Laws.{eight-sets}
+use Rattle.field.proofs.Laws.{eight-put}
 use Rattle.field.proofs.put_eight.Statement.{statement}
 use Rattle.field.proofs.put_eight.Tie as tie
 
-cast-s : tie.Need-cast-s
-cast-s c = search needs
+put-four-requires : tie.Need-put-four-requires
+put-four-requires c κs = search needs
 
-slice-write-s : tie.Need-slice-write-s
-slice-write-s c = search needs
+add-put-four : tie.Need-add-put-four
+add-put-four c = search needs
 
-cast-s-2 : tie.Need-cast-s-2
-cast-s-2 c = search needs
-
-add-s : tie.Need-add-s
-add-s c = search needs
-
-slice-write-s-2 : tie.Need-slice-write-s-2
-slice-write-s-2 c = simp length-set (omega arith)
-
-cast-s-3 : tie.Need-cast-s-3
-cast-s-3 c = search needs
-
-add-s-2 : tie.Need-add-s-2
-add-s-2 c = search needs
-
-slice-write-s-3 : tie.Need-slice-write-s-3
-slice-write-s-3 c = simp length-set (omega arith)
-
-cast-s-4 : tie.Need-cast-s-4
-cast-s-4 c = search needs
-
-add-s-3 : tie.Need-add-s-3
-add-s-3 c = search needs
-
-slice-write-s-4 : tie.Need-slice-write-s-4
-slice-write-s-4 c = simp length-set (omega arith)
-
-cast-s-5 : tie.Need-cast-s-5
-cast-s-5 c = search needs
-
-add-s-4 : tie.Need-add-s-4
-add-s-4 c = search needs
-
-slice-write-s-5 : tie.Need-slice-write-s-5
-slice-write-s-5 c = simp length-set (omega arith)
-
-cast-s-6 : tie.Need-cast-s-6
-cast-s-6 c = search needs
-
-add-s-5 : tie.Need-add-s-5
-add-s-5 c = search needs
-
-slice-write-s-6 : tie.Need-slice-write-s-6
-slice-write-s-6 c = simp length-set (omega arith)
-
-cast-s-7 : tie.Need-cast-s-7
-cast-s-7 c = search needs
-
-add-s-6 : tie.Need-add-s-6
-add-s-6 c = search needs
-
-slice-write-s-7 : tie.Need-slice-write-s-7
-slice-write-s-7 c = simp length-set (omega arith)
-
-cast-s-8 : tie.Need-cast-s-8
-cast-s-8 c = search needs
-
-add-s-7 : tie.Need-add-s-7
-add-s-7 c = search needs
-
-slice-write-s-8 : tie.Need-slice-write-s-8
-slice-write-s-8 c = simp length-set (omega arith)
+put-four-requires-2 : tie.Need-put-four-requires-2
+put-four-requires-2 c κs = search needs
 
 same-length : tie.Need-same-length
 same-length c = search needs
 
 returns : tie.Need-returns
-returns c = eight-sets (c .args .at) (c .args .n) (c .args .s .now) (c .fits .n .fits) (c .pre)
+returns c =
+    let high = c .before .before in
+    let low = high .before .before .before .before in
+    let start = low .before .before .before in
+    eight-put (start .args .at) (start .args .n) (start .args .s .now) _ _ (start .pre) (low .put-four .ensures) (high .put-four2 .ensures)
 
 pub put-eight-spec : {M : Type 1} → statement M
 put-eight-spec =
-    tie.close
-    (tie.spec
-    cast-s
-    slice-write-s
-    cast-s-2
-    add-s
-    slice-write-s-2
-    cast-s-3
-    add-s-2
-    slice-write-s-3
-    cast-s-4
-    add-s-3
-    slice-write-s-4
-    cast-s-5
-    add-s-4
-    slice-write-s-5
-    cast-s-6
-    add-s-5
-    slice-write-s-6
-    cast-s-7
-    add-s-6
-    slice-write-s-7
-    cast-s-8
-    add-s-7
-    slice-write-s-8
-    same-length
-    returns)
+    tie.close (tie.spec put-four-requires add-put-four put-four-requires-2 same-length returns)

@@ -1,6 +1,6 @@
 -- `feed::calls::feed_ask` meets its contract. Assumes nothing.
 use mathlib.Core.Path.{ap}
-use Rattle.table.specs.declared.Asked.{Asked}
+use Rattle.asking.specs.declared.Asked.{Asked}
 use borrow.Author.Needs.{needs}
 use Rattle.feed.proofs.calls.feed_ask.Statement.{statement}
 use Rattle.feed.proofs.calls.feed_ask.Tie as tie
