@@ -39,19 +39,10 @@ use Rattle.history.specs.Followed as one
 use Rattle.adapter.specs.Calls.{addressOf, readingAt}
 use Rattle.table.specs.State.{slotAt, find}
 use Rattle.demands.specs.Machine.{Call, start, follow, leave, packet, subframeEnd, ask}
-use Rattle.demands.proofs.View.{viewOf, view-moved, view-dropped}
+use Rattle.demands.specs.Seen.{reasonOf, eventBy, eventOf, seenIn}
+use Rattle.demands.proofs.View.{view-moved, view-dropped}
 
 -- ---- what an image is to the address that it is read as
-
-unfoldable pub reasonOf : ℕ → Reason
-reasonOf n = cond (eqb n 28) typeUnreadable (cond (eqb n 29) typeReserved (cond (eqb n 30) typeScrambled wordUnreadable))
-
-unfoldable pub eventBy : ℕ → ℕ → List ℕ → Event
-eventBy zero c b = one.packet c b
-eventBy (suc n) c b = one.refused (reasonOf (suc n))
-
-unfoldable pub eventOf : Bool → List ℕ → Event
-eventOf p image = eventBy (received p image .number) (received p image .index) (take (dataSize p) (received p image .bytes))
 
 pub reason-number : (r : Reading) → Refused r → number (reasonOf (r .number)) ≡ r .number
 unfolding number reasonOf
@@ -93,8 +84,8 @@ pub record Does (e : Event) (x y : List ℕ) (n : ℕ) : Type 0 where
   pub size : length y ≡ 736
   pub good : goodSlot y ≡ true
   pub address : headOf y .address ≡ headOf x .address
-  pub seen : viewOf y ≡ after e (viewOf x)
-  pub number : n ≡ answer e (viewOf x)
+  pub seen : seenIn y ≡ after e (seenIn x)
+  pub number : n ≡ answer e (seenIn x)
 
 -- the address is none of what a row changes
 moved-address : (mv : Move) (h : Head) → movedHead mv h .address ≡ h .address
@@ -126,7 +117,7 @@ module _ (x image : List ℕ) (l : length x ≡ 736) (g : goodHead (headOf x) �
   }
 
   read-does : r .number ≡ 0 → Does (one.packet (r .index) b) x (takenAfter r x) (takenNumber r (headOf x))
-  unfolding takenAfter takenNumber after answer viewOf
+  unfolding takenAfter takenNumber after answer seenIn
   read-does z =
       let e : takenAfter r x ≡ slotMoved mv (r .index) b x =
       done-passed (r .number) _ (slotDropped x) z
@@ -136,7 +127,7 @@ module _ (x image : List ℕ) (l : length x ≡ 736) (g : goodHead (headOf x) �
         size = ap length e ∙ moved-size mv (r .index) b x fits;
         good = good-slot (takenAfter r x) (ap goodHead h ∙ moved-good mv (r .index) b x fits);
         address = ap (λ (y : Head). y .address) h ∙ moved-address mv (headOf x);
-        seen = ap viewOf e ∙ view-moved mv (r .index) b x fits;
+        seen = ap seenIn e ∙ view-moved mv (r .index) b x fits;
         number = further-passed (r .number) _ z;
       }
 
@@ -150,7 +141,7 @@ module _ (x image : List ℕ) (l : length x ≡ 736) (g : goodHead (headOf x) �
         size = ap length e ∙ dropped-size x l g;
         good = good-slot (takenAfter r x) (ap goodHead h ∙ good-dropped (headOf x) g);
         address = ap (λ (y : Head). y .address) h;
-        seen = ap viewOf e ∙ view-dropped x l g;
+        seen = ap seenIn e ∙ view-dropped x l g;
         number = further-refused (r .number) _ ne ∙ sym (reason-number r f);
       }
 
@@ -163,19 +154,6 @@ module _ (x image : List ℕ) (l : length x ≡ 736) (g : goodHead (headOf x) �
       go (inr f) =
           subst (λ (e : Event). Does e x (takenAfter r x) (takenNumber r (headOf x))) (sym (event-refused p image (refused-not-zero r f)))
           (refused-does f)
-
--- ---- each call
-
-unfoldable pub arrivesAt : ℕ → List ℕ → Bool
-arrivesAt a image = eqb (length image) 94 && (not (eqb (spareOf image) 1) && eqb (addressOf image) a)
-
-unfoldable pub eventsAt : ℕ → Bool → Call → List Event
-eventsAt a p start = []
-eventsAt a p (follow b q l) = []
-eventsAt a p (leave b) = []
-eventsAt a p (packet image) = cond (arrivesAt a image) (eventOf p image ∷ []) []
-eventsAt a p subframeEnd = ended ∷ []
-eventsAt a p (ask b) = []
 
 abbrev pub protectedAt : List ℕ → ℕ → Bool
 protectedAt s a = eqb (headOf (slotAt (find s a) s) .protection) 1

@@ -37,9 +37,10 @@ use Rattle.adapter.specs.Calls.{addressOf, followed, unplaced, readingAt, slotA
 use Rattle.adapter.proofs.Laws.{both-followed, followed-both, Placed, placed, placed-zero, packet-refused, packet-placed}
 use Rattle.demands.specs.Machine.{Call, start, follow, leave, packet, subframeEnd, ask, ourAfter}
 use Rattle.demands.specs.Demand3.{Stays}
-use Rattle.demands.proofs.View.{viewOf, view-aged, view-new}
+use Rattle.demands.specs.Seen.{arrivesAt, eventOf, eventsAt, seenIn}
+use Rattle.demands.proofs.View.{view-aged, view-new}
 use Rattle.demands.proofs.Serving.{Serves, view, Kept, kept-by, here-size, here-address, here-good, change-here, change-apart, change-none, older, ages-at, ages-long}
-use Rattle.demands.proofs.Acting.{eventOf, Does, taken-does, arrivesAt, eventsAt, protectedAt}
+use Rattle.demands.proofs.Acting.{Does, taken-does, protectedAt}
 
 -- ---- images that arrive at an address
 
@@ -180,7 +181,7 @@ module _ (s : List ℕ) (a : ℕ) (v : Serves s a) where
   unfolding endAnswer
   end-zero = state-rest s [] (v .size) (each-good s (v .all)) ∙ refusal-none
 
-  aged-here : viewOf (older (slotAt (find s a) s)) ≡ one.aged (view s a)
+  aged-here : seenIn (older (slotAt (find s a) s)) ≡ one.aged (view s a)
   unfolding view
   aged-here = view-aged (slotAt (find s a) s) (here-size s a v) (here-good s a v)
 
@@ -235,5 +236,5 @@ follow-serves s a p l e =
         pos = leb-true 1 a (and-left (leb 1 a) (leb a 1022) (f .address));
         found = subst (λ (n : ℕ). n < slots) (sym at) (f .room);
       };
-      seen = ap (λ (n : ℕ). viewOf (slotAt n t)) at ∙ ap viewOf (slot-same s size k new (f .room) ln) ∙ view-new a p l (slotAt k s) lk gh;
+      seen = ap (λ (n : ℕ). seenIn (slotAt n t)) at ∙ ap seenIn (slot-same s size k new (f .room) ln) ∙ view-new a p l (slotAt k s) lk gh;
     })

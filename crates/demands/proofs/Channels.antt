@@ -27,10 +27,10 @@ use Rattle.history.specs.Followed as one
 use Rattle.history.specs.Sent as sent
 use Rattle.adapter.specs.Calls.{addressOf}
 use Rattle.demands.specs.Machine.{Call, start, follow, leave, packet, subframeEnd, ask, Bytes}
-use Rattle.demands.specs.Demand3.{Stays, AllStay, Carries, Lost, Happening, arrives, call, callOf, calls, Apart, Channel, ReadableIn}
-use Rattle.demands.proofs.Acting.{reasonOf, eventOf, event-read, event-refused, refused-not-zero, arrivesAt, eventsAt}
+use Rattle.demands.specs.Demand3.{Stays, AllStay, Carries, Lost, Happening, arrives, call, callOf, calls, Apart, Channel, ReadableIn, arrivalBy, passing, arrivals}
+use Rattle.demands.specs.Seen.{arrivesAt, reasonOf, eventOf, eventsAt, eventsOf}
+use Rattle.demands.proofs.Acting.{event-read, event-refused, refused-not-zero}
 use Rattle.demands.proofs.Calling.{Arrives, is-arrives, arrives-is}
-use Rattle.demands.proofs.Telling.{by, eventsOf}
 
 -- ---- one image that came of a sent packet
 
@@ -59,24 +59,6 @@ module _ (p : Bool) (a c : ℕ) (d image : List ℕ) (ha : a ≤ 1023) (hc : c <
       go (inr f) = absurd (refused-not-zero (received p image) f z)
 
 -- ---- arrivals
-
-unfoldable pub arrivalBy : ℕ → ℕ → ℕ → sent.Arrival
-arrivalBy zero i c = sent.came i c
-arrivalBy (suc n) i c = sent.damaged i c (reasonOf (suc n))
-
--- of the other calls a subframe's end alone is one
-unfoldable pub passing : Call → List sent.Arrival
-passing start = []
-passing (follow b p l) = []
-passing (leave b) = []
-passing (packet image) = []
-passing subframeEnd = sent.subframeEnd ∷ []
-passing (ask b) = []
-
-unfoldable pub arrivals : Bool → List Happening → List sent.Arrival
-arrivals p [] = []
-arrivals p (arrives i c image ∷ h) = arrivalBy (received p image .number) i c ∷ arrivals p h
-arrivals p (call x ∷ h) = passing x ++ arrivals p h
 
 next-by : (m n i c : ℕ) (h : List sent.Arrival) → sent.Next 3 n i c → sent.InOrder 3 (suc (4 * i + c)) h
     → sent.InOrder 3 n (arrivalBy m i c ∷ h)

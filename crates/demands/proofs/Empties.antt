@@ -29,20 +29,20 @@ use Rattle.asking.specs.declared.Asked.{Asked}
 use Rattle.asking.proofs.Laws.{asked-refused}
 use Rattle.history.specs.Followed as one
 use Rattle.history.specs.Sent.{group, groups, In, Exactly}
-use Rattle.history.specs.Transcript.{Entry, subframe, isWhole, anyWhole, sinceWhole, ends, marked, called}
+use Rattle.history.specs.Transcript.{entry, told, isWhole, anyWhole, sinceWhole, ends, marked, called}
 use Rattle.adapter.specs.Calls.{addressOf, packetAnswer, packetAfter, writeAfter}
 use Rattle.adapter.proofs.Laws.{both-followed}
 use Rattle.demands.specs.Machine.{Call, follow, packet, subframeEnd, ask, Machine, ours, ourAnswer, run}
-use Rattle.demands.specs.Demand2.{Follows, imageAt, Sound, answersTo, packets, Demand2}
-use Rattle.demands.specs.Demand3.{AllStay, Stays, Arrived, calls, callOf, handsOut, handedOut, noted, tells, Demand3}
+use Rattle.demands.specs.Demand2.{Follows, Writable, imageAt, Sound, answersTo, packets, Demand2}
+use Rattle.demands.specs.Demand3.{AllStay, Stays, Arrived, calls, callOf, handsOut, handedOut, Demand3}
 use Rattle.demands.specs.Empty.{fixed, answerTo, leaving, deaf, untouching, nods, leaves, indexIn, nodding, still, aging}
+use Rattle.demands.specs.Seen.{eventsAt, eventsOf, seenIn}
 use Rattle.demands.proofs.Serving.{view}
-use Rattle.demands.proofs.View.{viewOf}
 use Rattle.demands.proofs.Calling.{follow-serves}
 use Rattle.demands.proofs.Second.{sent-sound}
 use Rattle.demands.proofs.Parts.{shown-here}
 use Rattle.demands.proofs.Examples.{bytes-zero, empty-state, empty-passed, empty-absent, accepted, zeros, zeros-carried, clean, whole-group, whole-channel, whole-arrived, clean-arrives, clean-index, end-step}
-use Rattle.demands.proofs.Turns.{begun-at, first-step, four, asks, tells-four}
+use Rattle.demands.proofs.Turns.{begun-at, first-step, four, four-events, four-then, asks}
 
 -- ---- what any machine that meets the demand hands out of the group of zeros
 
@@ -94,15 +94,15 @@ module _ (m : Machine) (d : Demand3 m) where
 -- ---- one fixed answer
 
 pub fixed-fails : (n : ℕ) (m : Machine) → Demand3 (fixed n m) → ⊥
-unfolding called anyWhole tells run AllStay
+unfolding called anyWhole told run AllStay eventsOf
 fixed-fails n m d =
     let done : n ≡ 0 = d .accepted empty-state 17 0 2 yes-2 in
-    let nothing-yet : n ≡ 4 = d .fresh empty-state 17 0 2 yes-2 [] tt in
+    let nothing-yet : n ≡ 4 = d .follows empty-state 17 0 2 yes-2 .asks [] tt in
     omega arith
 
 -- by demand 2 too: it must write, and the packets of what it wrote are answered 1, 2, 2 and 3
 pub fixed-unread : (n : ℕ) → Demand2 (fixed n ours) → ⊥
-unfolding answersTo one.followed view viewOf
+unfolding answersTo one.followed view seenIn
 fixed-unread n d =
     let k = follow-serves empty-state 17 0 2 yes-2 in
     let t = followAfter empty-state 17 0 2 in
@@ -112,11 +112,18 @@ fixed-unread n d =
       found = both-followed t 17 (k .serves .pos) (k .serves .found);
       protection = ap (λ (f : one.Followed). f .head .protection) (k .seen);
     } in
+    let writable : Writable 17 0 (blank 360) (blank 376) = record {
+      address-from = lit≤ tt;
+      address-to = lit≤ tt;
+      protection = lit≤ tt;
+      message = blank-length 360;
+      output = blank-length 376;
+    } in
     let sound : (i : ℕ) → i < 4 → Sound false (writeAfter 17 0 (blank 360) (blank 376)) i (imageAt (writeAfter 17 0 (blank 360) (blank 376)) i) =
-    λ i h. sent-sound 17 0 (blank 360) (blank 376) (lit≤ tt) (lit≤ tt) (lit≤ tt) (blank-length 360) (bytes-zero 360) (blank-length 376) i h in
+    λ i h. sent-sound 17 0 (blank 360) (blank 376) writable (bytes-zero 360) i h in
     let back = d .back t 17 0 (blank 360) (blank 376) _ _ _ _ follows (blank-length 360) (bytes-zero 360) (blank-length 376)
     (sound 0 (lit< tt)) (sound 1 (lit< tt)) (sound 2 (lit< tt)) (sound 3 (lit< tt)) in
-    let done : n ≡ 0 = d .writes 17 0 (blank 360) (blank 376) (lit≤ tt) (lit≤ tt) (lit≤ tt) (blank-length 360) (blank-length 376) in
+    let done : n ≡ 0 = d .writes 17 0 (blank 360) (blank 376) writable in
     let started : n ≡ 1 = ap (λ (ns : List ℕ). getD ns 0 0) (back .answers) in
     omega arith
 
@@ -160,12 +167,12 @@ deaf-fails n d = go (ℕ-discrete n 3)
 -- ---- nothing touched
 
 pub untouching-fails : Demand3 untouching → ⊥
-unfolding called anyWhole tells run AllStay ourAnswer
+unfolding called anyWhole told run AllStay ourAnswer eventsOf
 untouching-fails d =
     let q : 27 ≡ asked empty-state 17 .number =
     ap (λ (x : Asked). x .number) (asked-refused empty-state 17 27
     (sym (leave-27 empty-state 17 empty-passed refl (find empty-state 17) refl (empty-absent 17 (lit< tt)))) (λ z. omega (arith, z))) in
-    let nothing-yet : asked empty-state 17 .number ≡ 4 = d .fresh empty-state 17 0 2 yes-2 [] tt in
+    let nothing-yet : asked empty-state 17 .number ≡ 4 = d .follows empty-state 17 0 2 yes-2 .asks [] tt in
     omega arith
 
 -- ---- the first packet truly, and nods at the rest
@@ -207,24 +214,29 @@ nodding-fails d =
 
 -- ---- an age that stands still, and one that is invented
 
+-- ask after the four packets and calls behind them, by the demand
+module _ (m : Machine) (d : Demand3 m) (h : List Call) (st : AllStay 17 (four ++ h)) where
+  after-four : m .answer (ask 17) (run m (four ++ h) (m .after (follow 17 0 1) empty-state))
+      ≡ called 1 (told (four-events ++ eventsOf 17 false h) (one.followed 17 0 1) [])
+  unfolding one.followed
+  after-four =
+      d .follows empty-state 17 0 1 yes-1 .asks (four ++ h) st
+      ∙ ap (λ (es : List one.Event). called 1 (told es (one.followed 17 0 1) [])) (four-then h)
+
 pub still-fails : Demand3 still → ⊥
-unfolding tells run leaving AllStay Stays ourAnswer noted one.followed one.after one.answer one.moved one.joined one.lastOf moveOf moveNumber movedHead shown called anyWhole isWhole sinceWhole ends marked
+unfolding told entry run leaving AllStay Stays ourAnswer eventsOf eventsAt one.followed one.after one.answer one.moved one.joined one.lastOf one.aged moveOf moveNumber movedHead shown called anyWhole isWhole sinceWhole ends marked
 still-fails d =
     let same : (f : one.Followed) → f .head .protection ≡ f .head .protection = λ f. refl in
-    let stays : AllStay 17 (four ++ (subframeEnd ∷ [])) = (tt, (tt, (tt, (tt, (tt, tt))))) in
     let fresh : asked _ 17 .number ≡ 5 = asks 1 yes-1 (λ s. s) (λ f. f) (λ s f k. k) same in
-    let told = tells-four 1 yes-1 (λ s. s) (λ f. f) (λ s f k. k) same refl refl refl refl in
-    let stale = d .fresh empty-state 17 0 1 yes-1 (four ++ (subframeEnd ∷ [])) stays ∙ ap (λ (t : List Entry). called 1 (subframe ∷ t)) told in
+    let stale = after-four still d (subframeEnd ∷ []) (tt, (tt, (tt, (tt, (tt, tt))))) in
     let clash : _≡_ {A = ℕ} 5 7 = sym fresh ∙ stale in
     omega arith
 
 pub aging-fails : Demand3 aging → ⊥
-unfolding tells run leaving AllStay Stays ourAnswer one.followed one.after one.answer one.moved one.joined one.lastOf one.aged moveOf moveNumber movedHead shown called anyWhole isWhole sinceWhole ends marked
+unfolding told entry run leaving AllStay Stays ourAnswer eventsOf one.followed one.after one.answer one.moved one.joined one.lastOf one.aged moveOf moveNumber movedHead shown called anyWhole isWhole sinceWhole ends marked
 aging-fails d =
     let same : (f : one.Followed) → one.aged f .head .protection ≡ f .head .protection = λ f. refl in
-    let stays : AllStay 17 four = (tt, (tt, (tt, (tt, tt)))) in
     let stale : asked _ 17 .number ≡ 7 = asks 1 yes-1 endAfter one.aged end-step same in
-    let told = tells-four 1 yes-1 endAfter one.aged end-step same refl refl refl refl in
-    let fresh = d .fresh empty-state 17 0 1 yes-1 four stays ∙ ap (called 1) told in
+    let fresh = after-four aging d [] (tt, (tt, (tt, (tt, tt)))) in
     let clash : _≡_ {A = ℕ} 7 5 = sym stale ∙ fresh in
     omega arith

@@ -40,10 +40,10 @@ use Rattle.history.specs.Sent.{Sent}
 use Rattle.adapter.specs.Calls.{packetAnswer, packetAfter}
 use Rattle.demands.specs.Machine.{packet, ourAfter, Bytes}
 use Rattle.demands.specs.Demand3.{Stays, Carries, Happening, arrives, Comes, Channel, ReadableIn, Arrived}
-use Rattle.demands.proofs.Acting.{eventOf, eventsAt}
+use Rattle.demands.specs.Seen.{eventOf, eventsAt, by}
 use Rattle.demands.proofs.Calling.{Arrives, is-arrives, end-acts}
 use Rattle.demands.proofs.Serving.{view, Kept}
-use Rattle.demands.proofs.Telling.{by, next, answer-by}
+use Rattle.demands.proofs.Telling.{next, answer-by}
 use Rattle.demands.proofs.Channels.{came-arrives, came-event}
 
 abbrev pub empty-state : List ℕ

@@ -2,6 +2,7 @@
 -- its image is placed.
 --
 --   ask-here, shown-here     ask says what the view's head says, and shows its group; asked-number: so of any head
+--   part-none                a part of no bytes
 --   followed-serves          a good state that follows an address
 --   by-place                 an image is refused before its slot is asked, or it is placed
 --   placed-serves            then its address is followed
@@ -34,7 +35,7 @@ use Rattle.asking.proofs.Laws.{asked-group, asked-none, asked-found}
 use Rattle.group.specs.Group.{takenNumber, takenAfter}
 use Rattle.adapter.specs.Calls.{addressOf, followed, unplaced, readingAt, slotAnswer, slotAfter, packetAnswer, packetAfter}
 use Rattle.adapter.proofs.Laws.{followed-both, Placed, placed, placed-zero, packet-placed}
-use Rattle.demands.proofs.View.{viewOf, lastIn}
+use Rattle.demands.specs.Seen.{lastIn, seenIn}
 use Rattle.demands.proofs.Serving.{Serves, view, here-size, here-address, here-good, here-bounds}
 use Rattle.demands.proofs.Acting.{taken-does}
 use Rattle.demands.proofs.Calling.{passed}
@@ -61,7 +62,7 @@ group-le h = go (eqb (h .protection) 1)
     go true = omega arith
     go false = omega arith
 
-part-none : (s : List ℕ) → part 0 0 s ≡ []
+pub part-none : (s : List ℕ) → part 0 0 s ≡ []
 unfolding part
 part-none s = refl
 
@@ -100,11 +101,11 @@ module _ (s : List ℕ) (a : ℕ) (v : Serves s a) where
       sym (asked-found s a (find s a) _ _ (leave-0 s a (passed s a v) inside (find s a) refl (v .found)) refl refl refl)
 
   pub ask-here : asked s a .number ≡ shown (view s a .head)
-  unfolding view viewOf
+  unfolding view seenIn
   ask-here = ap (λ (x : Asked). x .number) asked-here ∙ asked-number (find s a) (headOf (slotAt (find s a) s))
 
   pub shown-here : askPart s a ≡ view s a .last
-  unfolding askPart view viewOf
+  unfolding askPart view seenIn
   shown-here = ap (λ (x : Asked). part (x .at) (x .len) s) asked-here ∙ asked-shows (find s a) s
 
 -- ---- a packet call

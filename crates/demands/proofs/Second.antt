@@ -17,7 +17,7 @@ use native.Mathlib.Decide.{ℕ-discrete}
 use native.Mathlib.Nat.{mul-le-mul-right}
 use borrow.Author.Tests.{le-ltb, ne-eqb}
 use lib.Dec.{ltb, eqb}
-use lib.ListN.{length, take, drop}
+use lib.ListN.{length, take, drop, length-append}
 use lib.Seq.{take-at, drop-at, take-all, drop-drop}
 use Rattle.bits.proofs.Rows.{done-passed}
 use Rattle.bits.proofs.Runs.{below-take, below-drop}
@@ -41,10 +41,10 @@ use Rattle.history.specs.Followed as one
 use Rattle.adapter.specs.Calls.{addressOf, groupSize, imagesSize, packetOf, groupImages, packetAnswer, packetAfter, writeAnswer, writeAfter}
 use Rattle.adapter.proofs.Writing.{packet-length, write-0}
 use Rattle.demands.specs.Machine.{packet, ours, ourAnswer, ourAfter, Bytes, run}
-use Rattle.demands.specs.Demand2.{Follows, imageAt, Sound, answersTo, packets, ReadBack, Demand2}
-use Rattle.demands.proofs.View.{viewOf}
+use Rattle.demands.specs.Demand2.{Follows, Writable, imageAt, Sound, answersTo, packets, ReadBack, Demand2}
+use Rattle.demands.specs.Seen.{eventOf, seenIn}
 use Rattle.demands.proofs.Serving.{Serves, view, Kept, here-bounds, here-address}
-use Rattle.demands.proofs.Acting.{eventOf, event-read, protectedAt}
+use Rattle.demands.proofs.Acting.{event-read, protectedAt}
 use Rattle.demands.proofs.Calling.{Arrives, arrives-placed, answer-here, packet-here}
 use Rattle.demands.proofs.Parts.{ask-here, shown-here, followed-serves, placed-others}
 
@@ -78,6 +78,13 @@ module _ (p : Bool) (a : ℕ) (m : List ℕ) where
       behind 188 0 from-1 ∙ behind 94 1 from-2 ∙ behind 0 2 (x 3) ∙ take-all 94 (x 3) (omega (arith, packet-length p a m 3))
   images-at (suc (suc (suc (suc i)))) h = absurd (omega arith)
 
+  images-length : length (groupImages p a m) ≡ 376
+  unfolding groupImages
+  images-length =
+      let l = packet-length p a m in
+      length-append (x 0) from-1 ∙ ap₂ (λ (j k : ℕ). j + k) (l 0)
+      (length-append (x 1) from-2 ∙ ap₂ (λ (j k : ℕ). j + k) (l 1) (length-append (x 2) (x 3) ∙ ap₂ (λ (j k : ℕ). j + k) (l 2) (l 3)))
+
 -- a fourth of the message
 abbrev fourth : Bool → List ℕ → ℕ → List ℕ
 fourth q m i = part (i * dataSize q) (dataSize q) m
@@ -104,29 +111,33 @@ fourths-whole false m l =
     ∙ ap (λ (x : List ℕ). x ++ part 180 90 m) (part-cat 0 90 90 m)))
     ∙ take-all 360 m (omega arith)
 
-module _ (a p : ℕ) (m o : List ℕ) (from : 1 ≤ a) (to : a ≤ 1022) (hp : p ≤ 1) (lm : length m ≡ groupSize (eqb p 1)) (lo : length o ≡ imagesSize) where
+module _ (a p : ℕ) (m o : List ℕ) (w : Writable a p m o) where
   write-zero : writeAnswer a p (length m) (length o) ≡ 0
   write-zero =
-      let inside : (ltb a 1 || ltb 1022 a) ≡ false = ap₂ (λ (x y : Bool). x || y) (le-ltb a 1 from) (le-ltb 1022 a to) in
-      sym (write-0 a p (length m) (length o) inside hp (groupSize (eqb p 1)) refl lm lo)
+      let inside : (ltb a 1 || ltb 1022 a) ≡ false = ap₂ (λ (x y : Bool). x || y) (le-ltb a 1 (w .address-from)) (le-ltb 1022 a (w .address-to)) in
+      sym (write-0 a p (length m) (length o) inside (w .protection) (groupSize (eqb p 1)) refl (w .message) (w .output))
+
+  pub written-images : writeAfter a p m o ≡ groupImages (eqb p 1) a m
+  unfolding writeAfter
+  written-images = done-passed (writeAnswer a p (length m) (length o)) (groupImages (eqb p 1) a m) o write-zero
+
+  written-length : length (writeAfter a p m o) ≡ 376
+  written-length = ap length written-images ∙ images-length (eqb p 1) a m
 
   written-at : (i : ℕ) → i < 4 → imageAt (writeAfter a p m o) i ≡ sentImage (eqb p 1) a i (fourth (eqb p 1) m i)
-  unfolding writeAfter packetOf
-  written-at i h =
-      ap (λ (x : List ℕ). imageAt x i) (done-passed (writeAnswer a p (length m) (length o)) (groupImages (eqb p 1) a m) o write-zero)
-      ∙ images-at (eqb p 1) a m i h
+  unfolding packetOf
+  written-at i h = ap (λ (x : List ℕ). imageAt x i) written-images ∙ images-at (eqb p 1) a m i h
 
 -- ---- no damage is no more than the codes correct
 
-pub sent-sound : (a p : ℕ) (message output : List ℕ) → 1 ≤ a → a ≤ 1022 → p ≤ 1 → length message ≡ groupSize (eqb p 1) → Bytes message
-    → length output ≡ imagesSize → (i : ℕ) → i < 4
+pub sent-sound : (a p : ℕ) (message output : List ℕ) → Writable a p message output → Bytes message → (i : ℕ) → i < 4
     → Sound (eqb p 1) (writeAfter a p message output) i (imageAt (writeAfter a p message output) i)
-sent-sound a p m o from to hp lm b lo i h =
+sent-sound a p m o w b i h =
     let q = eqb p 1 in
-    let e = written-at a p m o from to hp lm lo i h in
+    let e = written-at a p m o w i h in
     record {
       corrected = subst (λ (x : List ℕ). Corrected q x x) (sym e) (sent-corrected q a i (fourth q m i));
-      spare = ap spareOf e ∙ sent-spare q a i (fourth q m i) (omega arith) (omega arith) (fourth-length q m i h lm) (fourth-bytes q m i b);
+      spare = ap spareOf e ∙ sent-spare q a i (fourth q m i) (omega (arith, w .address-to)) (omega arith) (fourth-length q m i h (w .message)) (fourth-bytes q m i b);
     }
 
 -- ---- one image arrives
@@ -164,7 +175,7 @@ unfolding after moved
 after-protection i d f = moved-protection (moveOf (f .head .awaited) i) (f .head)
 
 seen-protection : (s : List ℕ) (a : ℕ) (f : Followed) → view s a ≡ f → protectedAt s a ≡ eqb (f .head .protection) 1
-unfolding view viewOf
+unfolding view seenIn
 seen-protection s a f e = ap (λ (g : Followed). eqb (g .head .protection) 1) e
 
 -- what was filled up to 90 bytes begins with what was sent
@@ -281,20 +292,25 @@ module _ (s : List ℕ) (a p : ℕ) (m o t0 t1 t2 t3 : List ℕ) (w : Follows s 
   serves = followed-serves s a (w .size) (w .good) (w .found)
 
   limit-from : 1 ≤ f .head .limit
-  unfolding view viewOf
+  unfolding view seenIn
   limit-from = here-bounds s a serves .limit-from
 
   brings : (i : ℕ) (t : List ℕ) → i < 4 → Sound q (writeAfter a p m o) i t → Brings q a i (d i) t
   brings i t h sound =
       let b = here-bounds s a serves in
       let e = here-address s a serves in
-      let within : (1 ≤ a) × (a ≤ 1022) × (p ≤ 1) =
-      (omega (arith, b .address-from, e), omega (arith, b .address-to, e), omega (arith, b .protection-to, w .protection)) in
+      let writable : Writable a p m o = record {
+        address-from = omega (arith, b .address-from, e);
+        address-to = omega (arith, b .address-to, e);
+        protection = omega (arith, b .protection-to, w .protection);
+        message = lm;
+        output = lo;
+      } in
       record {
         index = omega arith;
         size = fourth-length q m i h lm;
         bytes = fourth-bytes q m i bm;
-        corrected = subst (λ (x : List ℕ). Corrected q x t) (written-at a p m o (within .0) (within .1) (within .2) lm lo i h) (sound .corrected);
+        corrected = subst (λ (x : List ℕ). Corrected q x t) (written-at a p m o writable i h) (sound .corrected);
         spare = sound .spare;
       }
 
@@ -339,4 +355,12 @@ module _ (s : List ℕ) (a p : ℕ) (m o t0 t1 t2 t3 : List ℕ) (w : Follows s 
         }
 
 pub demand-2 : Demand2 ours
-demand-2 = record { writes = write-zero; back = read-back }
+demand-2 = record {
+  numbers = λ x. refl;
+  values = λ x. refl;
+  writes = write-zero;
+  images = written-images;
+  size = written-length;
+  sound = sent-sound;
+  back = read-back;
+}

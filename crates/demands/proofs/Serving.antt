@@ -26,7 +26,7 @@ use Rattle.table.specs.State.{stateSize, slots, slotAt, withSlot, addressAt, fi
 use Rattle.table.specs.Calls.{ages}
 use Rattle.table.proofs.States.{Good, slot-length, with-length, slot-same, slot-other, address-same, address-other, address-is, find-has, find-agree, good-change}
 use Rattle.history.specs.Followed.{Followed}
-use Rattle.demands.proofs.View.{viewOf}
+use Rattle.demands.specs.Seen.{seenIn}
 
 pub record Serves (s : List ℕ) (a : ℕ) : Type 0 where
   pub size : length s ≡ stateSize
@@ -35,7 +35,7 @@ pub record Serves (s : List ℕ) (a : ℕ) : Type 0 where
   pub found : find s a < slots
 
 unfoldable pub view : List ℕ → ℕ → Followed
-view s a = viewOf (slotAt (find s a) s)
+view s a = seenIn (slotAt (find s a) s)
 
 pub record Kept (t : List ℕ) (a : ℕ) (f : Followed) : Type 0 where
   pub serves : Serves t a
@@ -65,16 +65,16 @@ module _ (s : List ℕ) (a : ℕ) (v : Serves s a) where
 
   -- a state in which the same slots have the address, and its own slot is b
   pub kept-by : (t b : List ℕ) → length t ≡ stateSize → Good t → ((k : ℕ) → k < slots → eqb (addressAt t k) a ≡ eqb (addressAt s k) a)
-      → slotAt (find s a) t ≡ b → Kept t a (viewOf b)
+      → slotAt (find s a) t ≡ b → Kept t a (seenIn b)
   unfolding view
   kept-by t b lt gt same here =
       let e : find t a ≡ find s a = find-agree t s a same in
       record {
         serves = record { size = lt; all = gt; pos = v .pos; found = subst (λ (k : ℕ). k < slots) (sym e) (v .found) };
-        seen = ap (λ (k : ℕ). viewOf (slotAt k t)) e ∙ ap viewOf here;
+        seen = ap (λ (k : ℕ). seenIn (slotAt k t)) e ∙ ap seenIn here;
       }
 
-  pub change-here : (b : List ℕ) → length b ≡ 736 → goodSlot b ≡ true → headOf b .address ≡ a → Kept (withSlot (find s a) b s) a (viewOf b)
+  pub change-here : (b : List ℕ) → length b ≡ 736 → goodSlot b ≡ true → headOf b .address ≡ a → Kept (withSlot (find s a) b s) a (seenIn b)
   change-here b lb gb e =
       let k = find s a in
       let at : headOf b .address ≡ addressAt s k = e ∙ sym (find-has s a (v .found)) in

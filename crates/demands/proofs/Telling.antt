@@ -1,11 +1,8 @@
--- A list of our calls, as the list of events that it means at a followed address: what is left, what is told, what is handed
--- out.
+-- A list of our calls, as the list of events that it means at a followed address: what is left and what is handed out.
 --
---   eventsOf a p h       the events of a list of calls
 --   run-acts             the address after the calls is the address after their events
 --   lost-answer, answer-by     what a packet at the address is answered that does not arrive, and one that does
 --   readable-answered, unreadable-answered     readable: 1, 2, 3 or 32; otherwise 28 to 31
---   tells-told           the transcript of the answers is the events' own
 --   handed-same          what is handed out is what the events hand out
 --
 -- Assumes nothing.
@@ -27,22 +24,17 @@ use Rattle.slot.specs.Move.{Move, started, held, whole, outOfStep, moveOf, move
 use Rattle.slot.specs.declared.Head.{Head}
 use Rattle.asking.specs.Asking.{askPart}
 use Rattle.history.specs.Followed as one
-use Rattle.history.specs.Transcript.{Entry, answered, subframe, entry, told}
 use Rattle.history.proofs.Laws.{run-app}
 use Rattle.history.specs.Sent.{In}
 use Rattle.adapter.specs.Calls.{addressOf, unplaced, packetAnswer}
 use Rattle.adapter.proofs.Laws.{size-refused, spare-refused, packet-refused}
 use Rattle.demands.specs.Machine.{Call, start, follow, leave, packet, subframeEnd, ask, ours, ourAnswer, ourAfter, run}
-use Rattle.demands.specs.Demand3.{Stays, AllStay, handsOut, handedOut, noted, tells}
-use Rattle.demands.proofs.View.{viewOf}
+use Rattle.demands.specs.Demand3.{Stays, AllStay, handsOut, handedOut}
+use Rattle.demands.specs.Seen.{arrivesAt, eventBy, eventOf, eventsAt, eventsOf, by, seenIn}
 use Rattle.demands.proofs.Serving.{Serves, view, Kept}
-use Rattle.demands.proofs.Acting.{eventOf, eventBy, arrivesAt, eventsAt, protectedAt, event-read, event-refused, refused-not-zero, reason-number}
+use Rattle.demands.proofs.Acting.{protectedAt, event-read, event-refused, refused-not-zero, reason-number}
 use Rattle.demands.proofs.Calling.{Arrives, arrives-is, is-arrives, passed, answer-here, acts}
 use Rattle.demands.proofs.Parts.{shown-here}
-
-unfoldable pub eventsOf : ℕ → Bool → List Call → List one.Event
-eventsOf a p [] = []
-eventsOf a p (x ∷ h) = eventsAt a p x ++ eventsOf a p h
 
 -- ---- the protection stays
 
@@ -59,17 +51,26 @@ after-protection (one.packet c b) f = moved-protection (moveOf (f .head .awaited
 after-protection (one.refused r) f = refl
 after-protection one.ended f = refl
 
-run-protection : (es : List one.Event) (f : one.Followed) → one.run es f .head .protection ≡ f .head .protection
+pub run-protection : (es : List one.Event) (f : one.Followed) → one.run es f .head .protection ≡ f .head .protection
 unfolding one.run
 run-protection [] f = refl
 run-protection (e ∷ es) f = run-protection es (one.after e f) ∙ after-protection e f
 
--- the protection that an address is followed with
-abbrev pub by : one.Followed → Bool
-by f = eqb (f .head .protection) 1
+-- no event but one that is answered 3 changes the group that is shown
+pub last-kept : (e : one.Event) (f : one.Followed) → eqb (one.answer e f) 3 ≡ false → one.after e f .last ≡ f .last
+unfolding one.after one.answer one.moved one.dropped one.aged one.lastOf moveNumber
+last-kept (one.packet c b) f q = go (moveOf (f .head .awaited) c) q
+  where
+    go : (mv : Move) → eqb (moveNumber mv) 3 ≡ false → one.lastOf mv (f .unfinished) b (f .last) ≡ f .last
+    go started z = refl
+    go held z = refl
+    go whole z = absurd (subst T z tt)
+    go outOfStep z = refl
+last-kept (one.refused r) f q = refl
+last-kept one.ended f q = refl
 
 view-protected : (s : List ℕ) (a : ℕ) → by (view s a) ≡ protectedAt s a
-unfolding view viewOf
+unfolding view seenIn
 view-protected s a = refl
 
 module _ (s : List ℕ) (a : ℕ) (v : Serves s a) (x : Call) (st : Stays a x) where
@@ -113,42 +114,12 @@ lost-answer s a v image e at = go (ℕ-discrete (length image) 94) (ℕ-discrete
     go (yes l) (no q) =
         absurd (subst T (sym (is-arrives a image (record { size = l; spare = ne-eqb (spareOf image) 1 q; address = at })) ∙ e) tt)
 
-lost-number : (image : List ℕ) → ((eqb (lostNumber image) 20 || eqb (lostNumber image) 21) ≡ true) × (eqb (lostNumber image) 3 ≡ false)
+lost-number : (image : List ℕ) → eqb (lostNumber image) 3 ≡ false
 lost-number image = go (eqb (length image) 94)
   where
-    go : (b : Bool) → ((eqb (cond b 21 20) 20 || eqb (cond b 21 20) 21) ≡ true) × (eqb (cond b 21 20) 3 ≡ false)
-    go true = (refl, refl)
-    go false = (refl, refl)
-
--- an event at the address is answered otherwise
-not-lost : (e : one.Event) (f : one.Followed) → (eqb (one.answer e f) 20 || eqb (one.answer e f) 21) ≡ false
-unfolding one.answer one.number moveNumber
-not-lost (one.packet c b) f = go (moveOf (f .head .awaited) c)
-  where
-    go : (mv : Move) → (eqb (moveNumber mv) 20 || eqb (moveNumber mv) 21) ≡ false
-    go started = refl
-    go held = refl
-    go whole = refl
-    go outOfStep = refl
-not-lost (one.refused r) f = go r
-  where
-    go : (q : one.Reason) → (eqb (one.number q) 20 || eqb (one.number q) 21) ≡ false
-    go one.typeUnreadable = refl
-    go one.typeReserved = refl
-    go one.typeScrambled = refl
-    go one.wordUnreadable = refl
-not-lost one.ended f = refl
-
--- an image's event is told by its answer
-entry-answered : (p : Bool) (image : List ℕ) (f : one.Followed) → entry (eventOf p image) f ≡ answered (one.answer (eventOf p image) f)
-unfolding eventOf eventBy entry
-entry-answered p image f = go (received p image .number)
-  where
-    go : (n : ℕ)
-        → entry (eventBy n (received p image .index) (take (dataSize p) (received p image .bytes))) f
-        ≡ answered (one.answer (eventBy n (received p image .index) (take (dataSize p) (received p image .bytes))) f)
-    go zero = refl
-    go (suc n) = refl
+    go : (b : Bool) → eqb (cond b 21 20) 3 ≡ false
+    go true = refl
+    go false = refl
 
 -- one that arrives
 pub answer-by : (s : List ℕ) (a : ℕ) → Serves s a → (image : List ℕ) → Arrives a image
@@ -181,58 +152,6 @@ module _ (s : List ℕ) (a : ℕ) (v : Serves s a) (image : List ℕ) (r : Arriv
       answer-by s a v image r
       ∙ ap (λ (e : one.Event). one.answer e (view s a)) (event-refused (by (view s a)) image (refused-not-zero came-as f)) ∙ reason-number came-as f
 
--- ---- the transcript
-
-module _ (s : List ℕ) (a : ℕ) (v : Serves s a) (t : List Entry) where
-  packet-told : (image : List ℕ) (b : Bool) → arrivesAt a image ≡ b
-      → noted a (packet image) (packetAnswer s image) t ≡ told (cond b (eventOf (by (view s a)) image ∷ []) []) (view s a) t
-  unfolding noted told
-  packet-told image true e =
-      let r = arrives-is a image e in
-      let ev = eventOf (by (view s a)) image in
-      let n : packetAnswer s image ≡ one.answer ev (view s a) = answer-by s a v image r in
-      ap (λ (k : ℕ). cond (eqb (addressOf image) a && not (eqb k 20 || eqb k 21)) (answered k ∷ t) t) n
-      ∙ ap₂ (λ (x y : Bool). cond (x && not y) (answered (one.answer ev (view s a)) ∷ t) t) (eq-eqb (addressOf image) a (r .address)) (not-lost ev (view s a))
-      ∙ ap (λ (x : Entry). x ∷ t) (sym (entry-answered (by (view s a)) image (view s a)))
-  packet-told image false e = go (ℕ-discrete (addressOf image) a)
-    where
-      skipped : (n : ℕ) → (eqb n 20 || eqb n 21) ≡ true → cond (eqb (addressOf image) a && not (eqb n 20 || eqb n 21)) (answered n ∷ t) t ≡ t
-      skipped n q = by-first (eqb (addressOf image) a)
-        where
-          by-first : (x : Bool) → cond (x && not (eqb n 20 || eqb n 21)) (answered n ∷ t) t ≡ t
-          by-first true = ap (λ (y : Bool). cond (not y) (answered n ∷ t) t) q
-          by-first false = refl
-
-      go : Dec (addressOf image ≡ a) → cond (eqb (addressOf image) a && not (eqb (packetAnswer s image) 20 || eqb (packetAnswer s image) 21)) (answered (packetAnswer s image) ∷ t) t ≡ t
-      go (yes q) = skipped (packetAnswer s image) (ap (λ (n : ℕ). eqb n 20 || eqb n 21) (lost-answer s a v image e q) ∙ lost-number image .0)
-      go (no q) = ap (λ (x : Bool). cond (x && not (eqb (packetAnswer s image) 20 || eqb (packetAnswer s image) 21)) (answered (packetAnswer s image) ∷ t) t) (ne-eqb (addressOf image) a q)
-
-  noted-told : (x : Call) → Stays a x → noted a x (ourAnswer x s) t ≡ told (eventsAt a (by (view s a)) x) (view s a) t
-  unfolding noted told eventsAt ourAnswer Stays entry
-  noted-told start st = absurd st
-  noted-told (follow b p l) st = refl
-  noted-told (leave b) st = refl
-  noted-told (packet image) st = packet-told image (arrivesAt a image) refl
-  noted-told subframeEnd st = refl
-  noted-told (ask b) st = refl
-
-told-app : (xs ys : List one.Event) (f : one.Followed) (t : List Entry) → told (xs ++ ys) f t ≡ told ys (one.run xs f) (told xs f t)
-unfolding told one.run
-told-app [] ys f t = refl
-told-app (e ∷ xs) ys f t = told-app xs ys (one.after e f) (entry e f ∷ t)
-
-pub tells-told : (h : List Call) (s : List ℕ) (a : ℕ) → Serves s a → AllStay a h → (t : List Entry)
-    → tells ours a h s t ≡ told (eventsOf a (by (view s a)) h) (view s a) t
-unfolding tells told eventsOf AllStay
-tells-told [] s a v st t = refl
-tells-told (x ∷ h) s a v st t =
-    let p = by (view s a) in
-    let n = next s a v x (st .0) in
-    ap (tells ours a h (ourAfter x s)) (noted-told s a v t x (st .0))
-    ∙ tells-told h (ourAfter x s) a (n .serves) (st .1) (told (eventsAt a p x) (view s a) t)
-    ∙ ap₂ (λ (q : Bool) (f : one.Followed). told (eventsOf a q h) f (told (eventsAt a p x) (view s a) t)) (next-by s a v x (st .0)) (n .seen)
-    ∙ sym (told-app (eventsAt a p x) (eventsOf a p h) (view s a) t)
-
 -- ---- what is handed out
 
 -- nothing by a call that means no event, and by an event as its answer says
@@ -242,7 +161,7 @@ unfolding handsOut
 hands-none s a v image e = go (ℕ-discrete (addressOf image) a)
   where
     go : Dec (addressOf image ≡ a) → (eqb (addressOf image) a && eqb (packetAnswer s image) 3) ≡ false
-    go (yes q) = ap₂ (λ (x y : Bool). x && y) (eq-eqb (addressOf image) a q) (ap (λ (n : ℕ). eqb n 3) (lost-answer s a v image e q) ∙ lost-number image .1)
+    go (yes q) = ap₂ (λ (x y : Bool). x && y) (eq-eqb (addressOf image) a q) (ap (λ (n : ℕ). eqb n 3) (lost-answer s a v image e q) ∙ lost-number image)
     go (no q) = ap (λ (x : Bool). x && eqb (packetAnswer s image) 3) (ne-eqb (addressOf image) a q)
 
 hands-here : (s : List ℕ) (a : ℕ) → Serves s a → (image : List ℕ) → Arrives a image

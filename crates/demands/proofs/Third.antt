@@ -1,7 +1,10 @@
 -- Demand 3, of our calls.
 --
---   alike            two states in which the address is the same answer all that concerns it alike
---   demand-3         ours
+--   goes-as, goes-from     at every moment, from any state that follows the address
+--   begun-goes             so from an accepted follow on
+--   exact, missed          what is handed out, and what ask says, where the channel is as supposed
+--   alike                  two states in which the address is the same answer all that concerns it alike
+--   demand-3               ours
 --
 -- Assumes nothing.
 use mathlib.Core.Path.{_≡_, refl, sym, ap, ap₂, _∙_, subst}
@@ -14,26 +17,78 @@ use lib.Dec.{T, leb, ltb, eqb}
 use Rattle.bits.specs.Rows.{row, refusal}
 use Rattle.bits.proofs.Search.{and-left, and-right}
 use Rattle.slot.specs.Head.{within, shown}
-use Rattle.table.specs.State.{slots, find}
+use Rattle.slot.specs.Slot.{headOf}
+use Rattle.table.specs.State.{slots, slotAt, find}
 use Rattle.table.specs.Calls.{followAnswer}
 use Rattle.table.proofs.Looking.{state-rest}
 use Rattle.table.proofs.States.{each-good}
 use Rattle.table.proofs.Kept.{follow-passed}
-use Rattle.asking.specs.Asking.{asked, askPart}
+use Rattle.asking.specs.Asking.{asked, askPart, boardText}
 use Rattle.history.specs.Followed as one
-use Rattle.history.specs.Sent.{Readable, Exactly}
-use Rattle.history.specs.Transcript.{called, told}
+use Rattle.history.specs.Sent.{Readable, Exactly, events}
+use Rattle.history.specs.Transcript.{Entry}
+use Rattle.history.specs.Missing.{Judged}
 use Rattle.history.proofs.Exactness.{exactly}
-use Rattle.history.proofs.Freshness.{freshness}
+use Rattle.history.proofs.Freshness.{Tells, tells-new, tells-run}
+use Rattle.history.proofs.Missing.{nothing-missed}
 use Rattle.adapter.specs.Calls.{addressOf, packetAnswer}
-use Rattle.demands.specs.Machine.{Call, start, follow, leave, packet, subframeEnd, ask, ours, ourAnswer, ourAfter, run}
-use Rattle.demands.specs.Demand3.{Stays, AllStay, Carries, Happening, calls, Channel, Arrived, handedOut, tells, concerns, only, answersAt, Demand3}
-use Rattle.demands.proofs.Serving.{Serves, view, Kept}
-use Rattle.demands.proofs.Acting.{eventOf, arrivesAt, eventsAt}
+use Rattle.demands.specs.Machine.{Call, start, follow, leave, packet, subframeEnd, ask, ours, ourAnswer, ourAfter, ourBoard, run}
+use Rattle.demands.specs.Demand3.{Stays, AllStay, Carries, Happening, calls, Channel, Arrived, handedOut, arrivals, Goes, concerns, only, answersAt, Demand3, arrivals}
+use Rattle.demands.specs.Seen.{arrivesAt, eventOf, eventsAt, eventsOf, by, seenIn, marksOf, latest}
+use Rattle.demands.proofs.Serving.{Serves, view, Kept, here-bounds}
 use Rattle.demands.proofs.Calling.{arrives-is, end-zero, follow-serves}
-use Rattle.demands.proofs.Parts.{ask-here, shown-here}
-use Rattle.demands.proofs.Telling.{by, eventsOf, next, run-acts, lost-answer, answer-by, tells-told, handed-same}
-use Rattle.demands.proofs.Channels.{arrivals, channel-order, channel-stays, channel-events, readable-came, came-readable}
+use Rattle.demands.proofs.Parts.{ask-here, shown-here, followed-serves}
+use Rattle.demands.proofs.Marks.{tells-marks}
+use Rattle.demands.proofs.Telling.{next, run-acts, lost-answer, answer-by, handed-same, run-protection, last-kept}
+use Rattle.demands.proofs.Channels.{channel-order, channel-stays, channel-events, readable-came, came-readable}
+
+-- ---- at every moment
+
+-- what the address shows is the last group handed out
+latest-last : (es : List one.Event) (f : one.Followed) → one.run es f .last ≡ latest (f .last) (one.handedOut es f)
+unfolding one.run one.handedOut latest
+latest-last [] f = refl
+latest-last (e ∷ es) f = latest-last es (one.after e f) ∙ go (eqb (one.answer e f) 3) refl
+  where
+    rest : List (List ℕ)
+    rest = one.handedOut es (one.after e f)
+
+    go : (b : Bool) → eqb (one.answer e f) 3 ≡ b → latest (one.after e f .last) rest ≡ latest (f .last) (cond b (one.after e f .last ∷ rest) rest)
+    go true q = refl
+    go false q = ap (λ (g : List ℕ). latest g rest) (last-kept e f q)
+
+module _ (s : List ℕ) (a : ℕ) (v : Serves s a) (f : one.Followed) (seen : view s a ≡ f) where
+  abbrev p : Bool
+  p = by f
+
+  ran : (h : List Call) → AllStay a h → Kept (run ours h s) a (one.run (eventsOf a p h) f)
+  ran h st =
+      let r = run-acts h s a v st in
+      record { serves = r .serves; seen = r .seen ∙ ap (λ (g : one.Followed). one.run (eventsOf a (by g) h) g) seen }
+
+  pub goes-as : (t : List Entry) → f .head .limit ≤ 1500 → Tells (f .head .limit) (f .head) t → Goes ours a f t s
+  unfolding ourAnswer
+  goes-as t k tells = record {
+    answers = λ h st image e.
+        let r = ran h st in
+        answer-by (run ours h s) a (r .serves) image (arrives-is a image e)
+        ∙ ap (λ (g : one.Followed). one.answer (eventOf (by g) image) g) (r .seen)
+        ∙ ap (λ (q : Bool). one.answer (eventOf q image) (one.run (eventsOf a p h) f)) (ap (λ (n : ℕ). eqb n 1) (run-protection (eventsOf a p h) f));
+    asks = λ h st.
+        let r = ran h st in
+        ask-here (run ours h s) a (r .serves) ∙ ap (λ (g : one.Followed). shown (g .head)) (r .seen)
+        ∙ tells-run (f .head .limit) k (eventsOf a p h) f t tells;
+    shows = λ h st.
+        let r = ran h st in
+        shown-here (run ours h s) a (r .serves) ∙ ap (λ (g : one.Followed). g .last) (r .seen) ∙ latest-last (eventsOf a p h) f;
+  }
+
+-- from any good state, by the slot's own marks
+goes-from : (s : List ℕ) (a : ℕ) → Serves s a → Goes ours a (view s a) (marksOf (headOf (slotAt (find s a) s))) s
+unfolding view seenIn
+goes-from s a v =
+    let b = here-bounds s a v in
+    goes-as s a v (view s a) refl (marksOf (headOf (slotAt (find s a) s))) (b .limit-to) (tells-marks (headOf (slotAt (find s a) s)) b)
 
 -- ---- from an accepted follow on
 
@@ -49,25 +104,24 @@ module _ (s : List ℕ) (a p l : ℕ) (e : followAnswer s a p l ≡ 0) where
   unfolding one.followed
   begun-by = ap by (begun .seen)
 
-  limits : (1 ≤ l) × (l ≤ 1500)
-  limits =
+  limit-to : l ≤ 1500
+  limit-to =
       let f = follow-passed s a p l e in
-      (leb-true 1 l (and-left (leb 1 l) (leb l 1500) (f .limit)), leb-true l 1500 (and-right (leb 1 l) (leb l 1500) (f .limit)))
+      leb-true l 1500 (and-right (leb 1 l) (leb l 1500) (f .limit))
+
+  limit-from : 1 ≤ l
+  limit-from =
+      let f = follow-passed s a p l e in
+      leb-true 1 l (and-left (leb 1 l) (leb l 1500) (f .limit))
 
   low : a ≤ 1023
   low =
       let f = follow-passed s a p l e in
       omega (arith, leb-true a 1022 (and-right (leb 1 a) (leb a 1022) (f .address)))
 
-  fresh : (h : List Call) → AllStay a h → ourAnswer (ask a) (run ours h t) ≡ called l (tells ours a h t [])
-  unfolding ourAnswer
-  fresh h st =
-      let r = run-acts h t a (begun .serves) st in
-      let es = eventsOf a (by (view t a)) h in
-      ask-here (run ours h t) a (r .serves)
-      ∙ ap (λ (f : one.Followed). shown (f .head)) (r .seen ∙ ap (one.run es) (begun .seen))
-      ∙ freshness a p l (limits .0) (limits .1) es
-      ∙ ap (called l) (ap (λ (f : one.Followed). told es f []) (sym (begun .seen)) ∙ sym (tells-told h t a (begun .serves) st []))
+  begun-goes : Goes ours a (one.followed a p l) [] t
+  unfolding one.followed
+  begun-goes = goes-as t a (begun .serves) (one.followed a p l) (begun .seen) [] limit-to (tells-new a p l)
 
   exact : (sent : ℕ → ℕ → List ℕ) → Carries (eqb p 1) sent → (n : ℕ) (h : List Happening) → Channel (eqb p 1) a sent n h
       → Exactly sent (Arrived (eqb p 1) h) (handedOut ours a (calls h) t)
@@ -86,6 +140,18 @@ module _ (s : List ℕ) (a p l : ℕ) (e : followAnswer s a p l ≡ 0) where
         those = λ i q. x .those i (λ c hc. readable-came (eqb p 1) i c h (q c hc));
         others = λ i q c hc. came-readable (eqb p 1) i c h (x .others i q c hc);
       }
+
+  missed : (sent : ℕ → ℕ → List ℕ) → Carries (eqb p 1) sent → (n : ℕ) (h : List Happening) → Channel (eqb p 1) a sent n h
+      → Judged l (arrivals (eqb p 1) h) (ourAnswer (ask a) (run ours (calls h) t))
+  unfolding ourAnswer
+  missed sent k n h ch =
+      let r = run-acts (calls h) t a (begun .serves) (channel-stays (eqb p 1) a sent n h ch) in
+      let same : asked (run ours (calls h) t) a .number ≡ shown (one.run (events sent (arrivals (eqb p 1) h)) (one.followed a p l) .head) =
+      ask-here (run ours (calls h) t) a (r .serves) ∙ ap (λ (f : one.Followed). shown (f .head)) (r .seen)
+      ∙ ap₂ (λ (b : Bool) (f : one.Followed). shown (one.run (eventsOf a b (calls h)) f .head)) begun-by (begun .seen)
+      ∙ ap (λ (es : List one.Event). shown (one.run es (one.followed a p l) .head)) (sym (channel-events (eqb p 1) a sent low k n h ch)) in
+      subst (Judged l (arrivals (eqb p 1) h)) (sym same)
+      (nothing-missed a p l limit-from limit-to sent n (arrivals (eqb p 1) h) (channel-order (eqb p 1) a sent n h ch))
 
 -- ---- what concerns the address, in two states in which it is the same
 
@@ -186,11 +252,15 @@ alike a (x ∷ h) s u v w same st =
     either false f g = g refl
 
 pub demand-3 : Demand3 ours
-unfolding ourAnswer
+unfolding ourAnswer ourBoard boardText view
 demand-3 = record {
   accepted = λ s a p l e. e;
   exactly = exact;
-  fresh = fresh;
+  follows = begun-goes;
+  holds = λ s a p w. goes-from s a (followed-serves s a (w .size) (w .good) (w .found));
+  missing = missed;
+  boards = λ a notice s. refl;
+  texts = λ a notice s. refl;
   undisturbed = λ s a p l e h st.
       let b = begun s a p l e in
       let k = alike a h _ _ (b .serves) (b .serves) refl st in

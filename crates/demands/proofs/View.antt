@@ -1,7 +1,6 @@
 -- A slot's bytes as a followed address, and what a packet, a drop, a subframe's end and a follow make of it: what the
 -- crate history says.
 --
---   viewOf x         the address that a slot follows: its head, the bytes of the packets it holds, the group it shows
 --   view-moved       a readable data packet moves it by section 4's table
 --   view-dropped, view-aged, view-new
 --
@@ -24,21 +23,12 @@ use Rattle.history.specs.Followed.{Followed, moved, joined, lastOf, dropped, ag
 use Rattle.group.specs.Group.{blockOf, slotMoved, slotDropped}
 use Rattle.group.proofs.Laws.{Wants, Fits, moved-head, started-room, started-stored, held-room, held-stored, whole-group, dropped-head, dropped-stored}
 use Rattle.group.proofs.Doing.{out-drops}
-
--- the group that a slot shows: none before the first
-unfoldable pub lastIn : Head → List ℕ → List ℕ
-lastIn h room = cond (eqb (h .group) 0) [] (part 0 (groupLength h) room)
-
-unfoldable pub heldIn : Head → List ℕ → List ℕ
-heldIn h room = part 0 (h .awaited * blockOf h) room
-
-unfoldable pub viewOf : List ℕ → Followed
-viewOf x = record { head = headOf x; unfinished = heldIn (headOf x) (unfinished x); last = lastIn (headOf x) (stored x) }
+use Rattle.demands.specs.Seen.{lastIn, heldIn, seenIn}
 
 -- a view by its three parts
 view-is : (x : List ℕ) (h : Head) (u v : List ℕ) → headOf x ≡ h → heldIn h (unfinished x) ≡ u → lastIn h (stored x) ≡ v
-    → viewOf x ≡ record { head = h; unfinished = u; last = v }
-unfolding viewOf
+    → seenIn x ≡ record { head = h; unfinished = u; last = v }
+unfolding seenIn
 view-is x h u v eh eu ev =
     ap (λ (g : Head). record { head = g; unfinished = heldIn g (unfinished x); last = lastIn g (stored x) }) eh
     ∙ ap₂ (λ (y z : List ℕ). record { head = h; unfinished = y; last = z }) eu ev
@@ -78,17 +68,17 @@ last-by h room n e en =
     ap₂ (λ (m k : ℕ). cond (eqb m 0) [] (part 0 k room)) e (group-four h ∙ en)
 
 dropped-view : (x : List ℕ) → length x ≡ 736 → goodHead (headOf x) ≡ true
-    → viewOf (slotDropped x) ≡ record { head = droppedHead (headOf x); unfinished = []; last = lastIn (headOf x) (stored x) }
+    → seenIn (slotDropped x) ≡ record { head = droppedHead (headOf x); unfinished = []; last = lastIn (headOf x) (stored x) }
 dropped-view x l g =
     view-is (slotDropped x) (droppedHead (headOf x)) [] _ (dropped-head x l g) (held-none (droppedHead (headOf x)) _ refl)
     (last-same (droppedHead (headOf x)) (headOf x) _ _ refl refl (dropped-stored x l g))
 
-pub view-dropped : (x : List ℕ) → length x ≡ 736 → goodHead (headOf x) ≡ true → viewOf (slotDropped x) ≡ dropped (viewOf x)
-unfolding dropped viewOf
+pub view-dropped : (x : List ℕ) → length x ≡ 736 → goodHead (headOf x) ≡ true → seenIn (slotDropped x) ≡ dropped (seenIn x)
+unfolding dropped seenIn
 view-dropped x l g = dropped-view x l g
 
-pub view-moved : (mv : Move) (c : ℕ) (b x : List ℕ) → Fits mv c b x → viewOf (slotMoved mv c b x) ≡ moved mv b (viewOf x)
-unfolding moved joined lastOf viewOf movedHead Wants
+pub view-moved : (mv : Move) (c : ℕ) (b x : List ℕ) → Fits mv c b x → seenIn (slotMoved mv c b x) ≡ moved mv b (seenIn x)
+unfolding moved joined lastOf seenIn movedHead Wants
 view-moved started c b x f =
     let h = movedHead started (headOf x) in
     view-is (slotMoved started c b x) h b _ (moved-head started c b x f)
@@ -110,10 +100,10 @@ view-moved whole c b x f =
     view-is (slotMoved whole c b x) h [] _ (moved-head whole c b x f) (held-none h _ refl)
     (last-by h _ (4 * length b) refl (ap (λ (k : ℕ). 4 * k) (block-same h (headOf x) refl ∙ sym (f .block))) ∙ whole-group c b x f
     ∙ ap (λ (y : List ℕ). y ++ b) (sym (held-by (headOf x) (unfinished x) (c * length b) n)))
-view-moved outOfStep c b x f = ap viewOf (sym (out-drops c b x)) ∙ dropped-view x (f .size) (f .good)
+view-moved outOfStep c b x f = ap seenIn (sym (out-drops c b x)) ∙ dropped-view x (f .size) (f .good)
 
-pub view-aged : (x : List ℕ) → length x ≡ 736 → goodHead (headOf x) ≡ true → viewOf (withHead (agedHead (headOf x)) x) ≡ aged (viewOf x)
-unfolding aged viewOf
+pub view-aged : (x : List ℕ) → length x ≡ 736 → goodHead (headOf x) ≡ true → seenIn (withHead (agedHead (headOf x)) x) ≡ aged (seenIn x)
+unfolding aged seenIn
 view-aged x l g =
     let h = agedHead (headOf x) in
     view-is (withHead h x) h _ _ (good-load h (good-aged (headOf x) g) x l)
@@ -122,7 +112,7 @@ view-aged x l g =
     ∙ sym (held-by (headOf x) (unfinished x) (headOf x .awaited * blockOf (headOf x)) refl))
     (last-same h (headOf x) _ _ refl refl (store-stored h x l))
 
-pub view-new : (a p l : ℕ) (x : List ℕ) → length x ≡ 736 → goodHead (newHead a p l) ≡ true → viewOf (withHead (newHead a p l) x) ≡ followed a p l
+pub view-new : (a p l : ℕ) (x : List ℕ) → length x ≡ 736 → goodHead (newHead a p l) ≡ true → seenIn (withHead (newHead a p l) x) ≡ followed a p l
 unfolding followed lastIn
 view-new a p l x lx g =
     view-is (withHead (newHead a p l) x) (newHead a p l) [] [] (good-load (newHead a p l) g x lx) (held-none (newHead a p l) _ refl) refl

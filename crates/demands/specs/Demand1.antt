@@ -4,7 +4,6 @@
 --
 -- The calls are functions of every list of bytes and every number: that they take all and end is in their type.
 --
---   answers          the numbers of an answered call: 0 done; 1 to 3, section 4; 4 to 7, section 5
 --   unchanging       the refusals that change nothing: 20 to 27, 33 and 34
 --   dropping         those that drop an unfinished group: 28 to 32
 --   Dropped k s t    slot k's unfinished room is 0, its gap marked, its awaited index 0; all else of the state s is in t as it was
@@ -12,19 +11,17 @@
 --   Demand1 m
 use mathlib.Core.Path.{_≡_}
 use mathlib.Core.Bool.{true}
-use mathlib.Core.List.{List, [], _∷_, _++_}
+use mathlib.Core.List.{List, [], _∷_}
 use Prim.Native.Nat.{ℕ, _<_}
 use lib.ListN.{length}
 use Rattle.bits.specs.Bits.{blank}
 use Rattle.slot.specs.Slot.{roomSize, headOf, unfinished, stored}
 use Rattle.slot.specs.Head.{droppedHead}
-use Rattle.table.specs.State.{slots, slotAt, find}
+use Rattle.table.specs.State.{stateSize, slots, slotAt, find}
 use Rattle.history.specs.Sent.{In}
 use Rattle.adapter.specs.Calls.{addressOf, followed}
 use Rattle.demands.specs.Machine.{Call, start, follow, leave, packet, subframeEnd, ask, Bare, Machine}
-
-abbrev pub answers : List ℕ
-answers = 0 ∷ 1 ∷ 2 ∷ 3 ∷ 4 ∷ 5 ∷ 6 ∷ 7 ∷ []
+use Rattle.demands.specs.Rows.{rowsOf, ownNumbers, writeRows, bareRows, Answers}
 
 abbrev pub unchanging : List ℕ
 unchanging = 20 ∷ 21 ∷ 22 ∷ 23 ∷ 24 ∷ 25 ∷ 26 ∷ 27 ∷ 33 ∷ 34 ∷ []
@@ -53,11 +50,21 @@ DroppedBy subframeEnd s t = ⊥
 DroppedBy (ask a) s t = ⊥
 
 pub record Demand1 (m : Machine) : Type 0 where
-  pub numbered : (x : Call) (s : List ℕ) → In (m .answer x s) (answers ++ (unchanging ++ dropping))
+  -- "Bad input gets a numbered refusal": where a row of section 6 holds, the first of them; otherwise one of the call's own numbers
+  pub numbered : (x : Call) (s : List ℕ) → Answers (rowsOf x s) (ownNumbers x) (m .answer x s)
+  pub writes : (a p : ℕ) (message output : List ℕ)
+      → Answers (writeRows a p (length message) (length output)) (0 ∷ []) (m .writes a p message output)
+  pub bare : (x : Bare) → Answers (bareRows x) (0 ∷ []) (m .bare x)
+  -- "A refused call changes nothing, but for one case"
   pub unchanged : (x : Call) (s : List ℕ) → In (m .answer x s) unchanging → m .after x s ≡ s
   pub dropped : (x : Call) (s : List ℕ) → In (m .answer x s) dropping → DroppedBy x s (m .after x s)
-  pub writes : (a p : ℕ) (message output : List ℕ) → In (m .writes a p message output) (0 ∷ 22 ∷ 23 ∷ 20 ∷ [])
   pub unwritten : (a p : ℕ) (message output : List ℕ) → (m .writes a p message output ≡ 0 → ⊥) → m .written a p message output ≡ output
-  pub bare : (x : Bare) → In (m .bare x) (0 ∷ 33 ∷ 31 ∷ 28 ∷ [])
   -- "A refused bare reading or writing gives 0 as its value."
   pub valueless : (x : Bare) → (m .bare x ≡ 0 → ⊥) → AllZero (m .values x)
+  -- "Starting sets every byte to 0."
+  pub started : (s : List ℕ) → length s ≡ stateSize → m .after start s ≡ blank stateSize
+  -- "Answers 5 to 7 come with the part of the state that holds the group, [..] 4 and refusals come with an empty part."
+  pub empty : (a : ℕ) (s : List ℕ) → (In (m .answer (ask a) s) (5 ∷ 6 ∷ 7 ∷ []) → ⊥) → m .shown a s ≡ []
+  -- ask and board text change no byte that was lent
+  pub asks : (a : ℕ) (s : List ℕ) → m .after (ask a) s ≡ s
+  pub boards : (a : ℕ) (notice s : List ℕ) → (m .board a notice s .state ≡ s) × (m .board a notice s .notice ≡ notice)

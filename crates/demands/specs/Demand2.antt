@@ -1,10 +1,11 @@
--- Demand 2, the read-back: "A group that we write and then read in order, at its address followed with the same protection, is
--- the group that went in." With damage too: no more than the codes correct, three flips in each header, two in each type
--- byte, three in each protected word.
+-- Demand 2: "Headers, type bytes, Golay words and linked groups are those of ETS 300 352, reading and writing. A group that we write and
+-- then read in order, at its address followed with the same protection, is the group that went in." With damage too: no more than
+-- the codes correct, three flips in each header, two in each type byte, three in each protected word.
 --
---   Follows s a p     the state is good, and an address is followed with this protection
---   imageAt o i       image i of what was written
---   Sound p o i t     t came of image i with no more damage than that, its spare bit 0
+--   Follows s a p              the state is good, and an address is followed with this protection
+--   Writable a p m o           address, protection and both lengths are such that a group is written
+--   imageAt o i                image i of what was written
+--   Sound p o i t              t came of image i with no more damage than that, its spare bit 0
 --   Demand2 m
 use mathlib.Core.Path.{_≡_}
 use mathlib.Core.Bool.{Bool, true}
@@ -17,14 +18,21 @@ use Rattle.packet.specs.Damage.{Corrected}
 use Rattle.slot.specs.Part.{part}
 use Rattle.slot.specs.Slot.{headOf}
 use Rattle.table.specs.State.{stateSize, slots, slotAt, find, good}
-use Rattle.adapter.specs.Calls.{groupSize, imagesSize, followed}
-use Rattle.demands.specs.Machine.{Call, packet, ask, Machine, Bytes, run}
+use Rattle.adapter.specs.Calls.{groupSize, imagesSize, groupImages, followed}
+use Rattle.demands.specs.Machine.{Call, packet, ask, Machine, Bytes, run, Bare, bareNumber, bareValues}
 
 pub record Follows (s : List ℕ) (a p : ℕ) : Type 0 where
   pub size : length s ≡ stateSize
   pub good : good s ≡ true
   pub found : followed s a ≡ true
   pub protection : headOf (slotAt (find s a) s) .protection ≡ p
+
+pub record Writable (a p : ℕ) (m o : List ℕ) : Type 0 where
+  pub address-from : 1 ≤ a
+  pub address-to : a ≤ 1022
+  pub protection : p ≤ 1
+  pub message : length m ≡ groupSize (eqb p 1)
+  pub output : length o ≡ imagesSize
 
 abbrev pub imageAt : List ℕ → ℕ → List ℕ
 imageAt o i = part (i * 94) 94 o
@@ -50,8 +58,14 @@ pub record ReadBack (m : Machine) (s : List ℕ) (a : ℕ) (message : List ℕ) 
   pub others : (j : ℕ) → j < slots → (j ≡ find s a → ⊥) → slotAt j (run m (packets ts) s) ≡ slotAt j s
 
 pub record Demand2 (m : Machine) : Type 0 where
-  pub writes : (a p : ℕ) (message output : List ℕ) → 1 ≤ a → a ≤ 1022 → p ≤ 1 → length message ≡ groupSize (eqb p 1)
-      → length output ≡ imagesSize → m .writes a p message output ≡ 0
+  pub numbers : (x : Bare) → m .bare x ≡ bareNumber x
+  pub values : (x : Bare) → m .values x ≡ bareValues x
+  pub writes : (a p : ℕ) (message output : List ℕ) → Writable a p message output → m .writes a p message output ≡ 0
+  pub images : (a p : ℕ) (message output : List ℕ) → Writable a p message output → m .written a p message output ≡ groupImages (eqb p 1) a message
+  pub size : (a p : ℕ) (message output : List ℕ) → Writable a p message output → length (m .written a p message output) ≡ 376
+  -- each image is itself sound: no flip, and its spare bit is 0
+  pub sound : (a p : ℕ) (message output : List ℕ) → Writable a p message output → Bytes message → (i : ℕ) → i < 4
+      → Sound (eqb p 1) (m .written a p message output) i (imageAt (m .written a p message output) i)
   pub back : (s : List ℕ) (a p : ℕ) (message output t0 t1 t2 t3 : List ℕ) → Follows s a p → length message ≡ groupSize (eqb p 1)
       → Bytes message → length output ≡ imagesSize
       → Sound (eqb p 1) (m .written a p message output) 0 t0 → Sound (eqb p 1) (m .written a p message output) 1 t1

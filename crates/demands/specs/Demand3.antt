@@ -11,25 +11,35 @@
 --   Happening              what came of packet c of group i, or any other call
 --   Channel p a sent n h   the words of the demand up to "Then", over what happens from packet n on
 --   Arrived p h i          all four packets of group i arrived readable: not refused with 20, 21 or 28 to 31
+--   arrivals p h           what came of it, packet by packet, and the subframe ends between
 --   handedOut m a h s      what ask shows of the address after each answer 3 to a packet read as it
---   tells m a h s t        the transcript at the address: its answers and the subframe ends, the newest first
+--   Goes m a f t s         what the machine answers and shows at the address from state s on, where the address is there as f says, and
+--                          t is its transcript so far
 --   only a h               the calls that concern the address; answersAt: the answers to them
 --   Demand3 m
 use mathlib.Core.Path.{_≡_}
-use mathlib.Core.Bool.{Bool, true, false, cond, not, _&&_, _||_}
-use mathlib.Core.List.{List, [], _∷_}
+use mathlib.Core.Bool.{Bool, true, false, cond, _&&_}
+use mathlib.Core.List.{List, [], _∷_, _++_}
 use mathlib.Core.Logic.{_⊎_}
-use Prim.Native.Nat.{ℕ, suc, _+_, _*_, _<_}
+use Prim.Native.Nat.{ℕ, zero, suc, _+_, _*_, _<_}
 use lib.Dec.{eqb}
 use lib.ListN.{length}
 use Rattle.image.specs.Image.{spareOf}
 use Rattle.packet.specs.Received.{received}
 use Rattle.packet.specs.Damage.{dataSize, sentImage, Came}
+use Rattle.slot.specs.Slot.{headOf}
+use Rattle.table.specs.State.{slotAt, find}
 use Rattle.table.specs.Calls.{followAnswer}
-use Rattle.history.specs.Sent.{Sent, Next, Exactly}
-use Rattle.history.specs.Transcript.{Entry, answered, subframe, called}
+use Rattle.history.specs.Followed.{Followed, answer, followed}
+use Rattle.history.specs.Followed as one
+use Rattle.history.specs.Sent.{Sent, Arrival, came, damaged, Next, Exactly}
+use Rattle.history.specs.Sent as arriving
+use Rattle.history.specs.Transcript.{Entry, told, called}
+use Rattle.history.specs.Missing.{Judged}
 use Rattle.adapter.specs.Calls.{addressOf}
 use Rattle.demands.specs.Machine.{Call, start, follow, leave, packet, subframeEnd, ask, Machine, Bytes, run}
+use Rattle.demands.specs.Demand2.{Follows}
+use Rattle.demands.specs.Seen.{arrivesAt, reasonOf, eventOf, eventsOf, by, seenIn, marksOf, latest}
 
 -- ---- from follow to leave or start
 
@@ -95,7 +105,26 @@ ReadableIn p i c (call x ∷ h) = ReadableIn p i c h
 unfoldable pub Arrived : Bool → List Happening → ℕ → Type 0
 Arrived p h i = (c : ℕ) → c < 4 → ReadableIn p i c h
 
--- ---- what is handed out, and what the answers tell
+-- the same as arrivals of which the crate history speaks: a readable packet came, any other that arrived is damaged
+unfoldable pub arrivalBy : ℕ → ℕ → ℕ → Arrival
+arrivalBy zero i c = came i c
+arrivalBy (suc n) i c = damaged i c (reasonOf (suc n))
+
+-- of the other calls a subframe's end alone is one
+unfoldable pub passing : Call → List Arrival
+passing start = []
+passing (follow b p l) = []
+passing (leave b) = []
+passing (packet image) = []
+passing subframeEnd = arriving.subframeEnd ∷ []
+passing (ask b) = []
+
+unfoldable pub arrivals : Bool → List Happening → List Arrival
+arrivals p [] = []
+arrivals p (arrives i c image ∷ h) = arrivalBy (received p image .number) i c ∷ arrivals p h
+arrivals p (call x ∷ h) = passing x ++ arrivals p h
+
+-- ---- what is handed out
 
 unfoldable pub handsOut : ℕ → Call → ℕ → Bool
 handsOut a start n = false
@@ -111,18 +140,18 @@ handedOut m a (x ∷ h) s =
     let t = m .after x s in
     cond (handsOut a x (m .answer x s)) (m .shown a t ∷ handedOut m a h t) (handedOut m a h t)
 
--- a packet refused with 20 or 21 is at no address
-unfoldable pub noted : ℕ → Call → ℕ → List Entry → List Entry
-noted a start n t = t
-noted a (follow b p l) n t = t
-noted a (leave b) n t = t
-noted a (packet image) n t = cond (eqb (addressOf image) a && not (eqb n 20 || eqb n 21)) (answered n ∷ t) t
-noted a subframeEnd n t = subframe ∷ t
-noted a (ask b) n t = t
+-- ---- at every moment, from any state that follows the address
 
-unfoldable pub tells : Machine → ℕ → List Call → List ℕ → List Entry → List Entry
-tells m a [] s t = t
-tells m a (x ∷ h) s t = tells m a h (m .after x s) (noted a x (m .answer x s) t)
+-- The transcript is made of the images: what each is received as, and section 4's table; not of what the machine says it did.
+pub record Goes (m : Machine) (a : ℕ) (f : Followed) (t : List Entry) (s : List ℕ) : Type 0 where
+  -- the answer to each packet that is read as the address is the one in that transcript
+  pub answers : (h : List Call) → AllStay a h → (image : List ℕ) → arrivesAt a image ≡ true
+      → m .answer (packet image) (run m h s) ≡ answer (eventOf (by f) image) (one.run (eventsOf a (by f) h) f)
+  -- "fresh exactly while fewer subframes than its limit have ended since it was handed out and no gap has been marked since"
+  pub asks : (h : List Call) → AllStay a h
+      → m .answer (ask a) (run m h s) ≡ called (f .head .limit) (told (eventsOf a (by f) h) f t)
+  -- "A group is handed out by answer 3 and by nothing else; ask only shows it again."
+  pub shows : (h : List Call) → AllStay a h → m .shown a (run m h s) ≡ latest (f .last) (one.handedOut (eventsOf a (by f) h) f)
 
 -- ---- what other addresses alter: the calls that concern an address, and their answers
 
@@ -149,9 +178,15 @@ pub record Demand3 (m : Machine) : Type 0 where
   pub accepted : (s : List ℕ) (a p l : ℕ) → followAnswer s a p l ≡ 0 → m .answer (follow a p l) s ≡ 0
   pub exactly : (s : List ℕ) (a p l : ℕ) → followAnswer s a p l ≡ 0 → (sent : Sent) → Carries (eqb p 1) sent → (n : ℕ) (h : List Happening)
       → Channel (eqb p 1) a sent n h → Exactly sent (Arrived (eqb p 1) h) (handedOut m a (calls h) (m .after (follow a p l) s))
-  -- whatever the channel does
-  pub fresh : (s : List ℕ) (a p l : ℕ) → followAnswer s a p l ≡ 0 → (h : List Call) → AllStay a h
-      → let t = m .after (follow a p l) s in m .answer (ask a) (run m h t) ≡ called l (tells m a h t [])
+  -- whatever the channel does: from a follow on, and from every good state, one made by hand too, at every address that its slots hold
+  pub follows : (s : List ℕ) (a p l : ℕ) → followAnswer s a p l ≡ 0 → Goes m a (followed a p l) [] (m .after (follow a p l) s)
+  pub holds : (s : List ℕ) (a p : ℕ) → Follows s a p → let x = slotAt (find s a) s in Goes m a (seenIn x) (marksOf (headOf x)) s
+  -- fresh means that nothing was missed: by what was sent and what came
+  pub missing : (s : List ℕ) (a p l : ℕ) → followAnswer s a p l ≡ 0 → (sent : Sent) → Carries (eqb p 1) sent → (n : ℕ) (h : List Happening)
+      → Channel (eqb p 1) a sent n h → Judged l (arrivals (eqb p 1) h) (m .answer (ask a) (run m (calls h) (m .after (follow a p l) s)))
+  -- board text: in each case ask's number; the group exactly where it is 5, otherwise the whole notice
+  pub boards : (a : ℕ) (notice s : List ℕ) → m .board a notice s .number ≡ m .answer (ask a) s
+  pub texts : (a : ℕ) (notice s : List ℕ) → m .board a notice s .text ≡ cond (eqb (m .answer (ask a) s) 5) (m .shown a s) notice
   -- leaving out every call that does not concern the address changes no answer and no shown part of it
   pub undisturbed : (s : List ℕ) (a p l : ℕ) → followAnswer s a p l ≡ 0 → (h : List Call) → AllStay a h
       → let t = m .after (follow a p l) s in

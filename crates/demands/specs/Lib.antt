@@ -4,3 +4,6 @@ pub mod Demand2
 pub mod Demand3
 pub mod Empty
 pub mod Machine
+pub mod Rows
+pub mod Seen
+pub mod Table

@@ -3,8 +3,11 @@
 --
 --   Call            a call on a lent state
 --   Bare            a bare call, numbers in and numbers out
---   Machine         answer and state after each call; the part that ask shows of an address; the group writer; the bare calls
---   ours            the definitions that the contracts of the crates table and adapter cite
+--   bareNumber, bareValues     what a bare call gives by the definitions of the standard
+--   Board           what board text gives: number, text, and what was lent, afterwards
+--   Machine         answer and state after each call; the part that ask shows of an address; board text; the group writer; the bare
+--                   calls
+--   ours            the definitions that the contracts of the crates table, asking and adapter cite
 --   Bytes s         a list of bytes
 --   run m h s       the state after a list of calls, in order
 use mathlib.Core.List.{List, [], _∷_}
@@ -12,7 +15,7 @@ use Prim.Native.Nat.{ℕ, _<_}
 use lib.ListN.{length, getD}
 use Rattle.bare.specs.Bare.{headerRead, headerWritten, wordRead, wordWritten, typeRead, typeWritten}
 use Rattle.table.specs.Calls.{startAnswer, startAfter, followAnswer, followAfter, leaveAnswer, leaveAfter, endAnswer, endAfter}
-use Rattle.asking.specs.Asking.{asked, askPart}
+use Rattle.asking.specs.Asking.{asked, askPart, boardText}
 use Rattle.adapter.specs.Calls.{packetAnswer, packetAfter, writeAnswer, writeAfter}
 
 pub data Call : Type 0 where
@@ -23,7 +26,6 @@ pub data Call : Type 0 where
   -- an image
   packet : List ℕ → Call
   subframeEnd : Call
-  -- and board text, whose number is ask's
   ask : ℕ → Call
 
 -- the single readers and writers of sections 1 and 2
@@ -36,10 +38,19 @@ pub data Bare : Type 0 where
   readType : ℕ → Bare
   writeType : ℕ → Bare
 
+-- "Board text is lent a state and a notice."
+pub record Board : Type 0 where
+  pub number : ℕ
+  pub text : List ℕ
+  pub state : List ℕ
+  pub notice : List ℕ
+
 pub record Machine : Type 0 where
   pub answer : Call → List ℕ → ℕ
   pub after : Call → List ℕ → List ℕ
   pub shown : ℕ → List ℕ → List ℕ
+  -- address, notice, state
+  pub board : ℕ → List ℕ → List ℕ → Board
   -- address, protection, message, output
   pub writes : ℕ → ℕ → List ℕ → List ℕ → ℕ
   pub written : ℕ → ℕ → List ℕ → List ℕ → List ℕ
@@ -63,31 +74,37 @@ ourAfter (packet image) s = packetAfter s image
 ourAfter subframeEnd s = endAfter s
 ourAfter (ask a) s = s
 
-unfoldable pub ourBare : Bare → ℕ
-ourBare (readHeader n) = headerRead n .number
-ourBare (writeHeader a i) = headerWritten a i .number
-ourBare (readWord n) = wordRead n .number
-ourBare (writeWord i) = wordWritten i .number
-ourBare (readType b) = typeRead b .number
-ourBare (writeType b) = typeWritten b .number
+-- the bare calls by the standard's definitions: the number, and beside it
+unfoldable pub bareNumber : Bare → ℕ
+bareNumber (readHeader n) = headerRead n .number
+bareNumber (writeHeader a i) = headerWritten a i .number
+bareNumber (readWord n) = wordRead n .number
+bareNumber (writeWord i) = wordWritten i .number
+bareNumber (readType b) = typeRead b .number
+bareNumber (writeType b) = typeWritten b .number
 
-unfoldable pub ourValues : Bare → List ℕ
-ourValues (readHeader n) = headerRead n .address ∷ headerRead n .index ∷ headerRead n .flips ∷ []
-ourValues (writeHeader a i) = headerWritten a i .value ∷ []
-ourValues (readWord n) = wordRead n .information ∷ wordRead n .flips ∷ []
-ourValues (writeWord i) = wordWritten i .value ∷ []
-ourValues (readType b) = typeRead b .value ∷ typeRead b .flips ∷ []
-ourValues (writeType b) = typeWritten b .value ∷ []
+-- address, index and flips; the header; information and flips; the word; type and flips; the type
+unfoldable pub bareValues : Bare → List ℕ
+bareValues (readHeader n) = headerRead n .address ∷ headerRead n .index ∷ headerRead n .flips ∷ []
+bareValues (writeHeader a i) = headerWritten a i .value ∷ []
+bareValues (readWord n) = wordRead n .information ∷ wordRead n .flips ∷ []
+bareValues (writeWord i) = wordWritten i .value ∷ []
+bareValues (readType b) = typeRead b .value ∷ typeRead b .flips ∷ []
+bareValues (writeType b) = typeWritten b .value ∷ []
+
+unfoldable pub ourBoard : ℕ → List ℕ → List ℕ → Board
+ourBoard a notice s = record { number = asked s a .number; text = boardText s a notice; state = s; notice = notice }
 
 abbrev pub ours : Machine
 ours = record {
   answer = ourAnswer;
   after = ourAfter;
   shown = λ a s. askPart s a;
+  board = ourBoard;
   writes = λ a p m o. writeAnswer a p (length m) (length o);
   written = writeAfter;
-  bare = ourBare;
-  values = ourValues;
+  bare = bareNumber;
+  values = bareValues;
 }
 
 abbrev pub Bytes : List ℕ → Type 0

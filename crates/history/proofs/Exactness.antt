@@ -30,13 +30,13 @@ use Rattle.history.specs.Sent.{Sent, Arrival, came, damaged, subframeEnd
 
 -- ---- the table
 
-abbrev Row : ℕ → ℕ → Move → Type 0
+abbrev pub Row : ℕ → ℕ → Move → Type 0
 Row a c started = c ≡ 0
 Row a c held = (c ≡ a) × (0 < c) × (c < 3)
 Row a c whole = (c ≡ a) × (c ≡ 3)
 Row a c outOfStep = (0 < c) × (c ≡ a → ⊥)
 
-move-row : (a c : ℕ) → c < 4 → Row a c (moveOf a c)
+pub move-row : (a c : ℕ) → c < 4 → Row a c (moveOf a c)
 unfolding moveOf
 move-row a c l = go (eqb c 0) (eqb c a) (ltb c 3) (eqb c 3) refl refl refl refl
   where
@@ -62,32 +62,32 @@ begun-group : (sent : Sent) (q : ℕ) → begun sent q 4 ≡ group sent q
 unfolding begun group
 begun-group sent q = simp append-assoc
 
-record Holds (sent : Sent) (n q : ℕ) (f : Followed) : Type 0 where
+pub record Holds (sent : Sent) (n q : ℕ) (f : Followed) : Type 0 where
   most : f .head .awaited ≤ 3
   next : 0 < f .head .awaited → n ≡ 4 * q + f .head .awaited
   bytes : f .unfinished ≡ begun sent q (f .head .awaited)
 
-holds-none : (sent : Sent) (n q : ℕ) (f : Followed) → f .head .awaited ≡ 0 → f .unfinished ≡ [] → Holds sent n q f
+pub holds-none : (sent : Sent) (n q : ℕ) (f : Followed) → f .head .awaited ≡ 0 → f .unfinished ≡ [] → Holds sent n q f
 unfolding begun
 holds-none sent n q f w u =
     record { most = omega arith; next = λ l. absurd (omega arith); bytes = rw w u }
 
 -- ---- the groups that can be full
 
-Full : ℕ → ℕ → List Arrival → ℕ → Type 0
+pub Full : ℕ → ℕ → List Arrival → ℕ → Type 0
 Full a q h i = (c : ℕ) → c < 4 → ((i ≡ q) × (c < a)) ⊎ CameIn i c h
 
-damaged-other : (i c : ℕ) (r : Reason) (j d : ℕ) → damaged i c r ≡ came j d → ⊥
+pub damaged-other : (i c : ℕ) (r : Reason) (j d : ℕ) → damaged i c r ≡ came j d → ⊥
 damaged-other i c r j d e =
     let z : _≡_ {A = ℕ} 0 1 = cc in
     omega arith
 
-end-other : (j d : ℕ) → subframeEnd ≡ came j d → ⊥
+pub end-other : (j d : ℕ) → subframeEnd ≡ came j d → ⊥
 end-other j d e =
     let z : _≡_ {A = ℕ} 0 1 = cc in
     omega arith
 
-came-later : (most n : ℕ) (h : List Arrival) → InOrder most n h → (i c : ℕ) → CameIn i c h → n ≤ 4 * i + c
+pub came-later : (most n : ℕ) (h : List Arrival) → InOrder most n h → (i c : ℕ) → CameIn i c h → n ≤ 4 * i + c
 unfolding InOrder CameIn
 came-later most n [] o i c x = absurd x
 came-later most n (came j d ∷ h) (o, os) i c (inl e) =
@@ -100,7 +100,7 @@ came-later most n (damaged j d r ∷ h) (o, os) i c (inr x) = omega (arith, o .o
 came-later most n (subframeEnd ∷ h) o i c (inl e) = absurd (end-other i c e)
 came-later most n (subframeEnd ∷ h) o i c (inr x) = came-later most n h o i c x
 
-readable-later : (most n : ℕ) (h : List Arrival) → InOrder most n h → (i : ℕ) → Readable h i → n ≤ 4 * i
+pub readable-later : (most n : ℕ) (h : List Arrival) → InOrder most n h → (i : ℕ) → Readable h i → n ≤ 4 * i
 unfolding Readable
 readable-later most n h o i w = omega (arith, came-later most n h o i 0 (w 0 (lit< tt)))
 
@@ -128,7 +128,7 @@ module _ (a q : ℕ) (h : List Arrival) (j : ℕ) where
       go (inr x) r = inr (inr x)
 
   -- where the next packet of the unfinished group does not come, that group will not be full
-  full-lost : a ≤ 3 → (0 < a → CameIn q a h → ⊥) → Full a q h j → Readable h j
+  pub full-lost : a ≤ 3 → (0 < a → CameIn q a h → ⊥) → Full a q h j → Readable h j
   unfolding Full Readable
   full-lost m none w c l = go (w c l)
     where
@@ -309,7 +309,7 @@ module _ (sent : Sent) (h : List Arrival)
   exactly-packet outOfStep (l, e) =
       exactly-dropped (came i c) (λ k y. e cc) (λ j d y. behind 3 i c h j l os y d) (moved outOfStep (sent i c) f) refl refl
 
-refused-hands-none : (r : Reason) → eqb (number r) 3 ≡ false
+pub refused-hands-none : (r : Reason) → eqb (number r) 3 ≡ false
 unfolding number
 refused-hands-none typeUnreadable = refl
 refused-hands-none typeReserved = refl
@@ -330,7 +330,7 @@ exactly-end sent a q m = record {
     none i (inl (e, l)) = omega arith
     none i (inr x) = x
 
-exactly-from : (sent : Sent) (h : List Arrival) (n q : ℕ) (f : Followed) → InOrder 3 n h → Holds sent n q f
+pub exactly-from : (sent : Sent) (h : List Arrival) (n q : ℕ) (f : Followed) → InOrder 3 n h → Holds sent n q f
     → Exactly sent (Full (f .head .awaited) q h) (handedOut (events sent h) f)
 unfolding InOrder handedOut events event after answer dropped aged
 exactly-from sent [] n q f o s = exactly-end sent (f .head .awaited) q (s .most)

@@ -22,14 +22,14 @@ use Rattle.slot.specs.declared.Head.{Head}
 use Rattle.history.specs.Followed.{Followed, Reason, typeUnreadable, typeReserved, typeScrambled, wordUnreadable, number, Event, packet, refused, ended, moved, dropped, aged, after, answer, followed, run}
 use Rattle.history.specs.Transcript.{Entry, answered, subframe, entry, told, isWhole, anyWhole, sinceWhole, ends, before, drops, marks, marked, called}
 
-abbrev Aged : ℕ → ℕ → Type 0
+abbrev pub Aged : ℕ → ℕ → Type 0
 Aged age n = (age ≡ n) ⊎ ((1500 ≤ age) × (age ≤ n))
 
-aged-limit : (limit age n : ℕ) → limit ≤ 1500 → Aged age n → leb limit age ≡ leb limit n
+pub aged-limit : (limit age n : ℕ) → limit ≤ 1500 → Aged age n → leb limit age ≡ leb limit n
 aged-limit limit age n k (inl e) = ap (leb limit) e
 aged-limit limit age n k (inr (p, q)) = le-leb limit age (omega arith) ∙ sym (le-leb limit n (omega arith))
 
-aged-next : (group age n : ℕ) → group ≡ 1 → Aged age n → Aged (cond (eqb group 1 && ltb age 1500) (age + 1) age) (suc n)
+pub aged-next : (group age n : ℕ) → group ≡ 1 → Aged age n → Aged (cond (eqb group 1 && ltb age 1500) (age + 1) age) (suc n)
 aged-next group age n g a = rw g (go (ltb age 1500) refl a)
   where
     go : (b : Bool) → ltb age 1500 ≡ b → Aged age n → Aged (cond b (age + 1) age) (suc n)
@@ -38,14 +38,14 @@ aged-next group age n g a = rw g (go (ltb age 1500) refl a)
     go false e (inl p) = inr (ltb-false age 1500 e, omega arith)
     go false e (inr (p, q)) = inr (p, omega arith)
 
-record Tells (limit : ℕ) (h : Head) (t : List Entry) : Type 0 where
-  limited : h .limit ≡ limit
-  grouped : h .group ≡ cond (anyWhole t) 1 0
-  gapped : h .gap ≡ cond (marked (sinceWhole t)) 1 0
-  awaits : ltb 0 (h .awaited) ≡ (eqb (before (sinceWhole t)) 1 || eqb (before (sinceWhole t)) 2)
-  age : anyWhole t ≡ true → Aged (h .age) (ends (sinceWhole t))
+pub record Tells (limit : ℕ) (h : Head) (t : List Entry) : Type 0 where
+  pub limited : h .limit ≡ limit
+  pub grouped : h .group ≡ cond (anyWhole t) 1 0
+  pub gapped : h .gap ≡ cond (marked (sinceWhole t)) 1 0
+  pub awaits : ltb 0 (h .awaited) ≡ (eqb (before (sinceWhole t)) 1 || eqb (before (sinceWhole t)) 2)
+  pub age : anyWhole t ≡ true → Aged (h .age) (ends (sinceWhole t))
 
-tells-new : (a p limit : ℕ) → Tells limit (newHead a p limit) []
+pub tells-new : (a p limit : ℕ) → Tells limit (newHead a p limit) []
 unfolding anyWhole sinceWhole marked before ends
 tells-new a p limit = record { limited = refl; grouped = refl; gapped = refl; awaits = refl; age = λ e. inl refl }
 
@@ -118,7 +118,7 @@ tells-after limit f t s (packet c bytes) = tells-moved limit (f .head) t s (move
 tells-after limit f t s (refused r) = tells-refused limit (f .head) t s r
 tells-after limit f t s ended = tells-aged limit (f .head) t s
 
-tells-run : (limit : ℕ) → limit ≤ 1500 → (es : List Event) (f : Followed) (t : List Entry) → Tells limit (f .head) t
+pub tells-run : (limit : ℕ) → limit ≤ 1500 → (es : List Event) (f : Followed) (t : List Entry) → Tells limit (f .head) t
     → shown (run es f .head) ≡ called limit (told es f t)
 unfolding run told
 tells-run limit k [] f t s = tells-shown limit (f .head) t s k

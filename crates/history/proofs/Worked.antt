@@ -9,6 +9,8 @@
 --   silence-shows               a whole group, then only ends of subframes: fresh after one, stale after two
 --   damage-shows                a damaged packet: doubtful until the next whole group, then fresh
 --   early-start-shows           a group begun before the last was whole: doubtful until it is whole, then fresh
+--   lost-shows                  a lost packet shows when the next one arrives: fresh before, doubtful after
+--   partial-shows               three packets of the next group, and none missing: fresh
 --   no-group-shows              nothing yet, though more subframes end than the limit
 --
 -- Assumes nothing.
@@ -73,6 +75,16 @@ early-start-shows : shownAlong (wholeGroup 0 ++ (came 1 0 ∷ came 1 1 ∷ whole
     ≡ 4 ∷ 4 ∷ 4 ∷ 5 ∷ 5 ∷ 5 ∷ 6 ∷ 6 ∷ 6 ∷ 5 ∷ []
 unfolding wholeGroup shownAlong event followed after moved moveOf movedHead shown
 early-start-shows = refl
+
+lost-shows : shownAlong (wholeGroup 0 ++ (came 1 0 ∷ subframeEnd ∷ came 1 2 ∷ [])) (followed 17 0 2)
+    ≡ 4 ∷ 4 ∷ 4 ∷ 5 ∷ 5 ∷ 5 ∷ 6 ∷ []
+unfolding wholeGroup shownAlong event followed after moved aged moveOf movedHead shown
+lost-shows = refl
+
+partial-shows : shownAlong (wholeGroup 0 ++ (came 1 0 ∷ came 1 1 ∷ subframeEnd ∷ came 1 2 ∷ [])) (followed 17 0 2)
+    ≡ 4 ∷ 4 ∷ 4 ∷ 5 ∷ 5 ∷ 5 ∷ 5 ∷ 5 ∷ []
+unfolding wholeGroup shownAlong event followed after moved aged moveOf movedHead shown
+partial-shows = refl
 
 no-group-shows : shownAlong (came 0 0 ∷ subframeEnd ∷ subframeEnd ∷ subframeEnd ∷ []) (followed 17 0 2) ≡ 4 ∷ 4 ∷ 4 ∷ 4 ∷ []
 unfolding shownAlong event followed after moved aged moveOf movedHead shown

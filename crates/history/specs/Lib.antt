@@ -1,3 +1,4 @@
 pub mod Followed
+pub mod Missing
 pub mod Sent
 pub mod Transcript

@@ -1,0 +1,390 @@
+-- From a start on the table of followed addresses is the history's: what each call answers follows from the calls alone.
+--
+--   used s             how many slots have an address
+--   Lists l s          the addresses of l, none of them twice, are those that a good state follows
+--   lists-now          each call keeps that; lists-run: and so do any calls
+--   by-history         what the calls answer then
+--   keeps-table        ours
+--
+-- Assumes nothing.
+use mathlib.Core.Path.{_≡_, refl, sym, ap, ap₂, _∙_, subst}
+use mathlib.Core.Bool.{Bool, true, false, cond, not, _&&_, _||_}
+use mathlib.Core.List.{List, [], _∷_}
+use Prim.Native.Nat.{ℕ, zero, suc, _≤_, _<_}
+use native.Mathlib.Omega.{arith}
+use native.Mathlib.Decide.{ℕ-discrete, decLt}
+use borrow.Author.Tests.{eq-eqb, ne-eqb, eqb-true, eqb-false, lt-ltb, le-ltb, ltb-true, ltb-false, le-leb, leb-true, lt-leb}
+use lib.Dec.{T, leb, ltb, eqb}
+use lib.ListN.{length}
+use Rattle.bits.specs.Bits.{blank}
+use Rattle.bits.specs.Rows.{Row, row, refusal}
+use Rattle.bits.proofs.Rows.{refusal-hit, refusal-miss}
+use Rattle.bits.proofs.Search.{and-left, and-right}
+use Rattle.image.specs.Image.{spareOf}
+use Rattle.slot.specs.Head.{within}
+use Rattle.slot.specs.Slot.{headOf}
+use Rattle.table.specs.State.{stateSize, slots, slotAt, addressAt, find, good}
+use Rattle.table.specs.Calls.{startAnswer, followAnswer, leaveAnswer}
+use Rattle.table.proofs.Looking.{state-rest}
+use Rattle.table.proofs.States.{good-each, find-has, find-only, find-agree, find-none, used-one}
+use Rattle.table.proofs.Kept.{Followed, follow-passed, leave-passed}
+use Rattle.history.specs.Sent.{In}
+use Rattle.adapter.specs.Calls.{addressOf, followed, unplaced, packetAnswer}
+use Rattle.adapter.proofs.Laws.{packet-refused}
+use Rattle.demands.specs.Machine.{Call, start, follow, leave, packet, subframeEnd, ask, ours, ourAnswer, ourAfter, run}
+use Rattle.demands.specs.Rows.{wishRows, addressRows, rowsOf}
+use Rattle.demands.specs.Table.{Good, addressAfter, member, without, taken, followNow, followedAfter, ByHistory, KeepsTable}
+use Rattle.demands.proofs.Numbers.{among, in-among, rows-in}
+use Rattle.demands.proofs.Numbered.{ask-answers}
+use Rattle.demands.proofs.Counting.{count, count-le, count-agree, count-one, count-none, count-all, count-some, Distinct, without-none, without-other, without-gone, without-length, without-distinct}
+use Rattle.demands.proofs.Serving.{Serves, here-bounds, here-address}
+use Rattle.demands.proofs.Parts.{by-place}
+use Rattle.demands.proofs.First.{begins, placed-in}
+use Rattle.demands.proofs.Tables.{blank-state, end-passed, either, keeps-good, keeps-addresses}
+use Rattle.demands.proofs.Examples.{empty-address, empty-absent}
+
+-- ---- how many slots are used
+
+abbrev isUsed : List ℕ → ℕ → Bool
+isUsed s k = ltb 0 (addressAt s k)
+
+unfoldable pub used : List ℕ → ℕ
+used s = count (isUsed s) slots 0
+
+used-le : (s : List ℕ) → used s ≤ slots
+unfolding used
+used-le s = count-le (isUsed s) slots 0
+
+-- all are, exactly if none is free
+used-full : (s : List ℕ) → not (ltb (find s 0) 16) ≡ eqb (used s) 16
+unfolding used
+used-full s = go (decLt (find s 0) slots)
+  where
+    free : addressAt s (find s 0) ≡ 0 → isUsed s (find s 0) ≡ false
+    free e = le-ltb 0 (addressAt s (find s 0)) (omega (arith, e))
+
+    go : Dec (find s 0 < slots) → not (ltb (find s 0) 16) ≡ eqb (count (isUsed s) slots 0) 16
+    go (yes h) =
+        let less = count-some (isUsed s) slots 0 (find s 0) (omega arith) h (free (find-has s 0 h)) in
+        ap not (lt-ltb (find s 0) 16 h) ∙ sym (ne-eqb (count (isUsed s) slots 0) 16 (λ e. omega (arith, e, less)))
+    go (no h) =
+        let none : (k : ℕ) → k < slots → isUsed s k ≡ true = λ k hk. lt-ltb 0 (addressAt s k) (pos k (find-none s 0 (omega arith) k hk)) in
+        ap not (le-ltb (find s 0) 16 (omega arith)) ∙ sym (eq-eqb _ 16 (count-all (isUsed s) slots 0 (λ k l m. none k m)))
+      where
+        pos : (k : ℕ) → (addressAt s k ≡ 0 → ⊥) → 0 < addressAt s k
+        pos k ne = omega (arith, ne)
+
+-- ---- the list and the state
+
+pub record Lists (l s : List ℕ) : Type 0 where
+  pub state : Good s
+  pub same : (a : ℕ) → 0 < a → member a l ≡ ltb (find s a) 16
+  pub zero : member 0 l ≡ false
+  pub size : length l ≡ used s
+  pub distinct : Distinct l
+
+lists-empty : Lists [] (blank stateSize)
+unfolding member used Distinct
+lists-empty = record {
+  state = blank-state;
+  same = λ a h. sym (le-ltb (find (blank stateSize) a) 16 (empty-absent a h));
+  zero = refl;
+  size = sym (count-none (isUsed (blank stateSize)) slots 0 (λ k l h. le-ltb 0 (addressAt (blank stateSize) k) (omega (arith, empty-address k h))));
+  distinct = tt;
+}
+
+-- a state with the same addresses
+module _ (l s t : List ℕ) (k : Lists l s) (g : Good t) where
+  lists-same : ((j : ℕ) → j < slots → addressAt t j ≡ addressAt s j) → Lists l t
+  unfolding used
+  lists-same e = record {
+    state = g;
+    same = λ a h. k .same a h ∙ ap (λ (n : ℕ). ltb n 16) (find-agree s t a (λ j hj. ap (λ (n : ℕ). eqb n a) (sym (e j hj))));
+    zero = k .zero;
+    size = k .size ∙ count-agree (isUsed s) (isUsed t) slots 0 (λ j m h. ap (ltb 0) (sym (e j h)));
+    distinct = k .distinct;
+  }
+
+-- an address more, in a slot that was free
+module _ (l s t : List ℕ) (k : Lists l s) (g : Good t) (a : ℕ) (pos : 0 < a) (absent : slots ≤ find s a) (room : find s 0 < slots)
+    (e : (j : ℕ) → j < slots → addressAt t j ≡ cond (eqb j (find s 0)) a (addressAt s j)) where
+  abbrev place : ℕ
+  place = find s 0
+
+  here : addressAt t place ≡ a
+  here = e place room ∙ ap (λ (b : Bool). cond b a (addressAt s place)) (eq-eqb place place refl)
+
+  there : (j : ℕ) → j < slots → (j ≡ place → ⊥) → addressAt t j ≡ addressAt s j
+  there j hj ne = e j hj ∙ ap (λ (b : Bool). cond b a (addressAt s j)) (ne-eqb j place ne)
+
+  found : find t a ≡ place
+  found = find-only t a place room here (λ j hj q. only j hj q (ℕ-discrete j place))
+    where
+      only : (j : ℕ) → j < slots → addressAt t j ≡ a → Dec (j ≡ place) → j ≡ place
+      only j hj q (yes z) = z
+      only j hj q (no z) = absurd (find-none s a absent j hj (sym (there j hj z) ∙ q))
+
+  find-other : (b : ℕ) → 0 < b → (b ≡ a → ⊥) → find s b ≡ find t b
+  find-other b hb ne = find-agree s t b (λ j hj. at j hj (ℕ-discrete j place))
+    where
+      at : (j : ℕ) → j < slots → Dec (j ≡ place) → eqb (addressAt s j) b ≡ eqb (addressAt t j) b
+      at j hj (yes z) =
+          ne-eqb (addressAt s j) b (λ q. omega (arith, hb, sym q ∙ ap (addressAt s) z ∙ find-has s 0 room))
+          ∙ sym (ne-eqb (addressAt t j) b (λ q. ne (sym q ∙ ap (addressAt t) z ∙ here)))
+      at j hj (no z) = ap (λ (n : ℕ). eqb n b) (sym (there j hj z))
+
+  new : member a l ≡ false
+  new = k .same a pos ∙ le-ltb (find s a) 16 absent
+
+  lists-add : Lists (a ∷ l) t
+  unfolding member used Distinct
+  lists-add = record {
+    state = g;
+    same = λ b hb. member-is b hb (ℕ-discrete b a);
+    zero = ap₂ (λ (x y : Bool). x || y) (ne-eqb 0 a (λ q. omega (arith, q, pos))) (k .zero);
+    size = ap suc (k .size) ∙ sym (count-one (isUsed s) (isUsed t) slots 0 place (omega arith) room
+        (le-ltb 0 (addressAt s place) (omega (arith, find-has s 0 room))) (lt-ltb 0 (addressAt t place) (omega (arith, here, pos)))
+        (λ j hj ne. ap (ltb 0) (sym (there j hj ne))));
+    distinct = (new, k .distinct);
+  }
+    where
+      member-is : (b : ℕ) → 0 < b → Dec (b ≡ a) → (eqb b a || member b l) ≡ ltb (find t b) 16
+      member-is b hb (yes q) =
+          ap (λ (x : Bool). x || member b l) (eq-eqb b a q)
+          ∙ sym (lt-ltb (find t b) 16 (subst (λ (n : ℕ). n < slots) (sym (ap (find t) q ∙ found)) room))
+      member-is b hb (no q) =
+          ap (λ (x : Bool). x || member b l) (ne-eqb b a q) ∙ k .same b hb ∙ ap (λ (n : ℕ). ltb n 16) (find-other b hb q)
+
+-- an address less
+module _ (l s t : List ℕ) (k : Lists l s) (g : Good t) (a : ℕ) (pos : 0 < a) (room : find s a < slots)
+    (e : (j : ℕ) → j < slots → addressAt t j ≡ cond (eqb j (find s a)) 0 (addressAt s j)) where
+  abbrev left : ℕ
+  left = find s a
+
+  gone : addressAt t left ≡ 0
+  gone = e left room ∙ ap (λ (b : Bool). cond b 0 (addressAt s left)) (eq-eqb left left refl)
+
+  stay : (j : ℕ) → j < slots → (j ≡ left → ⊥) → addressAt t j ≡ addressAt s j
+  stay j hj ne = e j hj ∙ ap (λ (b : Bool). cond b 0 (addressAt s j)) (ne-eqb j left ne)
+
+  find-left : (b : ℕ) → 0 < b → (b ≡ a → ⊥) → find s b ≡ find t b
+  find-left b hb ne = find-agree s t b (λ j hj. at j hj (ℕ-discrete j left))
+    where
+      at : (j : ℕ) → j < slots → Dec (j ≡ left) → eqb (addressAt s j) b ≡ eqb (addressAt t j) b
+      at j hj (yes z) =
+          ne-eqb (addressAt s j) b (λ q. ne (sym q ∙ ap (addressAt s) z ∙ find-has s a room))
+          ∙ sym (ne-eqb (addressAt t j) b (λ q. omega (arith, hb, sym q ∙ ap (addressAt t) z ∙ gone)))
+      at j hj (no z) = ap (λ (n : ℕ). eqb n b) (sym (stay j hj z))
+
+  no-more : slots ≤ find t a
+  no-more = go (decLt (find t a) slots)
+    where
+      other : (h : find t a < slots) → find t a ≡ left → ⊥
+      other h q = omega (arith, pos, sym (find-has t a h) ∙ ap (addressAt t) q ∙ gone)
+
+      go : Dec (find t a < slots) → slots ≤ find t a
+      go (no h) = omega arith
+      go (yes h) =
+          let there : addressAt s (find t a) ≡ a = sym (stay (find t a) h (other h)) ∙ find-has t a h in
+          absurd (other h (used-one s (good-each s (k .state .good)) (find t a) left h room (there ∙ sym (find-has s a room))
+          (subst (λ (n : ℕ). 0 < n) (sym (find-has s a room)) pos)))
+
+  lists-drop : Lists (without a l) t
+  unfolding used
+  lists-drop = record {
+    state = g;
+    same = λ b hb. member-is b hb (ℕ-discrete b a);
+    zero = without-other a 0 l (λ q. omega (arith, q, pos)) ∙ k .zero;
+    size = fewer (without-length a l (k .same a pos ∙ lt-ltb left 16 room)) (k .size)
+        (count-one (isUsed t) (isUsed s) slots 0 left (omega arith) room
+        (le-ltb 0 (addressAt t left) (omega (arith, gone))) (lt-ltb 0 (addressAt s left) (omega (arith, find-has s a room, pos)))
+        (λ j hj ne. ap (ltb 0) (stay j hj ne)));
+    distinct = without-distinct a l (k .distinct);
+  }
+    where
+      fewer : {m n u v : ℕ} → suc m ≡ n → n ≡ u → u ≡ suc v → m ≡ v
+      fewer p q r = omega (arith, p, q, r)
+
+      member-is : (b : ℕ) → 0 < b → Dec (b ≡ a) → member b (without a l) ≡ ltb (find t b) 16
+      member-is b hb (yes q) =
+          ap (λ (n : ℕ). member n (without a l)) q ∙ without-gone a l (k .distinct)
+          ∙ sym (ap (λ (n : ℕ). ltb (find t n) 16) q ∙ le-ltb (find t a) 16 no-more)
+      member-is b hb (no q) = without-other a b l q ∙ k .same b hb ∙ ap (λ (n : ℕ). ltb n 16) (find-left b hb q)
+
+-- ---- what the calls answer
+
+module _ (l s : List ℕ) (k : Lists l s) where
+  full : not (ltb (find s 0) 16) ≡ eqb (length l) 16
+  full = used-full s ∙ ap (λ (n : ℕ). eqb n 16) (sym (k .size))
+
+  follow-by : (a p limit : ℕ) → followAnswer s a p limit ≡ refusal (wishRows a p limit (member a l) (eqb (length l) 16))
+  unfolding followAnswer refusal
+  follow-by a p limit =
+      state-rest s (wishRows a p limit (ltb (find s a) 16) (not (ltb (find s 0) 16))) (k .state .size) (k .state .good)
+      ∙ ap (λ (b : Bool). refusal (wishRows a p limit (ltb (find s a) 16) b)) full ∙ at a
+    where
+      at : (a : ℕ) → refusal (wishRows a p limit (ltb (find s a) 16) (eqb (length l) 16)) ≡ refusal (wishRows a p limit (member a l) (eqb (length l) 16))
+      at zero = refl
+      at (suc n) = ap (λ (b : Bool). refusal (wishRows (suc n) p limit b (eqb (length l) 16))) (sym (k .same (suc n) (omega arith)))
+
+  leave-by : (a : ℕ) → leaveAnswer s a ≡ refusal (addressRows a (not (member a l)))
+  unfolding leaveAnswer refusal
+  leave-by a = state-rest s (addressRows a (not (ltb (find s a) 16))) (k .state .size) (k .state .good) ∙ at a
+    where
+      at : (a : ℕ) → refusal (addressRows a (not (ltb (find s a) 16))) ≡ refusal (addressRows a (not (member a l)))
+      at zero = refl
+      at (suc n) = ap (λ (b : Bool). refusal (addressRows (suc n) (not b))) (sym (k .same (suc n) (omega arith)))
+
+  -- the rows of a packet that need no slot
+  placed-by : (image : List ℕ)
+      → unplaced s image ≡ refusal (row (not (eqb (length image) 94)) 20 ∷ row (eqb (spareOf image) 1) 21 ∷ row (not (followed s (addressOf image))) 27 ∷ [])
+  unfolding unplaced refusal
+  placed-by image =
+      ap₂ (λ (x y : Bool). refusal (row (not (eqb (length image) 94)) 20 ∷ row (not x) 20 ∷ row (not y) 34 ∷ row (eqb (spareOf image) 1) 21
+      ∷ row (not (followed s (addressOf image))) 27 ∷ [])) (eq-eqb (length s) stateSize (k .state .size)) (k .state .good)
+
+  absent-followed : (a : ℕ) → member a l ≡ false → followed s a ≡ false
+  unfolding followed
+  absent-followed zero e = refl
+  absent-followed (suc n) e =
+      ap₂ (λ (x y : Bool). x && y) (lt-ltb 0 (suc n) (omega arith)) (sym (k .same (suc n) (omega arith)) ∙ e)
+
+  packet-27 : (image : List ℕ) → length image ≡ 94 → spareOf image ≡ 0 → member (addressOf image) l ≡ false → packetAnswer s image ≡ 27
+  unfolding refusal
+  packet-27 image li z e =
+      let u : unplaced s image ≡ 27 = placed-by image ∙ (λ i. refusal (row (not (eq-eqb (length image) 94 li i)) 20
+      ∷ row (ne-eqb (spareOf image) 1 (λ q. omega (arith, z, q)) i) 21 ∷ row (not (absent-followed (addressOf image) e i)) 27 ∷ [])) in
+      packet-refused s image (λ q. omega (arith, u, q)) .0 ∙ u
+
+  -- 34 is none of a list that has the answer
+  not-34 : (n : ℕ) (ns : List ℕ) → In n ns → (T (among 34 ns) → ⊥) → n ≡ 34 → ⊥
+  not-34 n ns h none e = none (in-among 34 ns (subst (λ (m : ℕ). In m ns) e h))
+
+  never-34 : (x : Call) → ourAnswer x s ≡ 34 → ⊥
+  unfolding ourAnswer startAnswer
+  never-34 start e = not-34 _ (0 ∷ 20 ∷ []) (rows-in _ _ tt) (λ z. z) e
+  never-34 (follow a p m) e = not-34 _ (0 ∷ 22 ∷ 23 ∷ 24 ∷ 25 ∷ 26 ∷ []) (rows-in _ _ tt) (λ z. z) (sym (follow-by a p m) ∙ e)
+  never-34 (leave a) e = not-34 _ (0 ∷ 22 ∷ 27 ∷ []) (rows-in _ _ tt) (λ z. z) (sym (leave-by a) ∙ e)
+  never-34 (packet image) e =
+      by-place s image
+      (λ ne. not-34 _ (0 ∷ 20 ∷ 21 ∷ 27 ∷ []) (rows-in _ _ tt) (λ z. z) (sym (packet-refused s image ne .0 ∙ placed-by image) ∙ e))
+      (λ p. not-34 _ _ (placed-in s image p) (λ z. z) e)
+  never-34 subframeEnd e = omega (arith, end-passed s (k .state), e)
+  never-34 (ask a) e =
+      let rows = addressRows a (not (member a l)) in
+      let w = ask-answers rows s a (leave-by a) in
+      either (refusal rows) (λ z. not-34 _ (4 ∷ 5 ∷ 6 ∷ 7 ∷ []) (w .accepted z) (λ q. q) e)
+      (λ ne. not-34 _ (0 ∷ 22 ∷ 27 ∷ []) (rows-in rows _ tt) (λ q. q) (sym (w .refused ne) ∙ e))
+
+  by-history : ByHistory ours l s
+  unfolding ourAnswer
+  by-history = record {
+    follows = follow-by;
+    leaves = leave-by;
+    asks = λ a. ask-answers (addressRows a (not (member a l))) s a (leave-by a);
+    packets = packet-27;
+    ends = end-passed s (k .state);
+    never = never-34;
+  }
+
+-- ---- each call keeps it
+
+-- a follow that the list takes is accepted
+wish-taken : (a p limit : ℕ) (l : List ℕ) → taken a p limit l ≡ true → refusal (wishRows a p limit (member a l) (eqb (length l) 16)) ≡ 0
+unfolding taken refusal
+wish-taken a p limit l e =
+    let r1 = and-right (within 1 1022 a) _ e in
+    let r2 = and-right (leb p 1) _ r1 in
+    let r3 = and-right (within 1 1500 limit) _ r2 in
+    λ i. refusal (row (not (and-left (within 1 1022 a) _ e i)) 22 ∷ row (low (and-left (leb p 1) _ r1) i) 23
+    ∷ row (not (and-left (within 1 1500 limit) _ r2 i)) 24 ∷ row (flipped (member a l) (and-left (not (member a l)) _ r3) i) 25
+    ∷ row (ne-eqb (length l) 16 (λ q. omega (arith, q, ltb-true (length l) 16 (and-right (not (member a l)) _ r3))) i) 26 ∷ [])
+  where
+    low : leb p 1 ≡ true → ltb 1 p ≡ false
+    low q = le-ltb 1 p (leb-true p 1 q)
+
+    flipped : (b : Bool) → not b ≡ true → b ≡ false
+    flipped true q = sym q
+    flipped false q = refl
+
+module _ (l s : List ℕ) (k : Lists l s) where
+  keeps : (x : Call) → ((j : ℕ) → j < slots → addressAfter x s j ≡ addressAt s j) → Lists l (ourAfter x s)
+  keeps x e = lists-same l s (ourAfter x s) k (keeps-good x s (k .state)) (λ j h. keeps-addresses x s (k .state) j h ∙ e j h)
+
+  is-taken : (a p m : ℕ) → Followed s a p m → taken a p m l ≡ true
+  unfolding taken
+  is-taken a p m f =
+      let pos = leb-true 1 a (and-left (leb 1 a) (leb a 1022) (f .address)) in
+      let less : length l < 16 = room (eqb-false (length l) 16 (sym (full l s k) ∙ ap not (lt-ltb (find s 0) 16 (f .room)))) in
+      λ i. f .address i && (le-leb p 1 (f .protection) i && (f .limit i
+      && (not ((k .same a pos ∙ le-ltb (find s a) 16 (f .absent)) i) && lt-ltb (length l) 16 less i)))
+    where
+      room : (length l ≡ 16 → ⊥) → length l < 16
+      room ne = omega (arith, ne, k .size, used-le s)
+
+  follow-now : (a p m : ℕ) → Lists (followNow (follow a p m) l) (ourAfter (follow a p m) s)
+  unfolding followNow addressAfter rowsOf followAnswer
+  follow-now a p m =
+      either (followAnswer s a p m)
+      (λ z. let f = follow-passed s a p m z in
+      subst (λ (b : Bool). Lists (cond b (a ∷ l) l) (ourAfter (follow a p m) s)) (sym (is-taken a p m f))
+      (lists-add l s (ourAfter (follow a p m) s) k (keeps-good (follow a p m) s (k .state)) a
+      (leb-true 1 a (and-left (leb 1 a) (leb a 1022) (f .address))) (f .absent) (f .room)
+      (λ j h. keeps-addresses (follow a p m) s (k .state) j h
+      ∙ ap (λ (b : Bool). cond (b && eqb j (find s 0)) a (addressAt s j)) (eq-eqb (followAnswer s a p m) 0 z))))
+      (λ ne. subst (λ (b : Bool). Lists (cond b (a ∷ l) l) (ourAfter (follow a p m) s)) (sym (untaken (taken a p m l) refl ne))
+      (keeps (follow a p m) (λ j h. ap (λ (b : Bool). cond (b && eqb j (find s 0)) a (addressAt s j)) (ne-eqb (followAnswer s a p m) 0 ne))))
+    where
+      untaken : (b : Bool) → taken a p m l ≡ b → (followAnswer s a p m ≡ 0 → ⊥) → taken a p m l ≡ false
+      untaken true e ne = absurd (ne (follow-by l s k a p m ∙ wish-taken a p m l e))
+      untaken false e ne = e
+
+  -- a member is an address that can be left
+  member-left : (a : ℕ) → member a l ≡ true → leaveAnswer s a ≡ 0
+  unfolding refusal
+  member-left zero e = absurd (subst T (sym e ∙ k .zero) tt)
+  member-left (suc n) e =
+      let a = suc n in
+      let at : find s a < slots = ltb-true (find s a) 16 (sym (k .same a (omega arith)) ∙ e) in
+      let v : Serves s a = record { size = k .state .size; all = good-each s (k .state .good); pos = omega arith; found = at } in
+      let b = here-bounds s a v in
+      let q = here-address s a v in
+      let w : within 1 1022 a ≡ true = ap₂ (λ (x y : Bool). x && y) (le-leb 1 a (omega arith)) (le-leb a 1022 (omega (arith, b .address-to, q))) in
+      leave-by l s k a ∙ ap₂ (λ (x y : Bool). refusal (row (not x) 22 ∷ row (not y) 27 ∷ [])) w e
+
+  leave-now : (a : ℕ) → Lists (followNow (leave a) l) (ourAfter (leave a) s)
+  unfolding followNow addressAfter rowsOf leaveAnswer
+  leave-now a =
+      either (leaveAnswer s a)
+      (λ z. let q = leave-passed s a z in
+      lists-drop l s (ourAfter (leave a) s) k (keeps-good (leave a) s (k .state)) a (leb-true 1 a (and-left (leb 1 a) (leb a 1022) (q .1))) (q .2)
+      (λ j h. keeps-addresses (leave a) s (k .state) j h
+      ∙ ap (λ (b : Bool). cond (b && eqb j (find s a)) 0 (addressAt s j)) (eq-eqb (leaveAnswer s a) 0 z)))
+      (λ ne. subst (λ (m : List ℕ). Lists m (ourAfter (leave a) s)) (sym (without-none a l (absent (member a l) refl ne)))
+      (keeps (leave a) (λ j h. ap (λ (b : Bool). cond (b && eqb j (find s a)) 0 (addressAt s j)) (ne-eqb (leaveAnswer s a) 0 ne))))
+    where
+      absent : (b : Bool) → member a l ≡ b → (leaveAnswer s a ≡ 0 → ⊥) → member a l ≡ false
+      absent true e ne = absurd (ne (member-left a e))
+      absent false e ne = e
+
+  lists-now : (x : Call) → Lists (followNow x l) (ourAfter x s)
+  unfolding followNow addressAfter ourAfter
+  lists-now start = subst (Lists []) (sym (begins s (k .state .size))) lists-empty
+  lists-now (follow a p m) = follow-now a p m
+  lists-now (leave a) = leave-now a
+  lists-now (packet image) = keeps (packet image) (λ j h. refl)
+  lists-now subframeEnd = keeps subframeEnd (λ j h. refl)
+  lists-now (ask a) = k
+
+pub lists-run : (h : List Call) (l s : List ℕ) → Lists l s → Lists (followedAfter h l) (run ours h s)
+unfolding followedAfter run
+lists-run [] l s k = k
+lists-run (x ∷ h) l s k = lists-run h (followNow x l) (ourAfter x s) (lists-now l s k x)
+
+pub keeps-table : KeepsTable ours
+unfolding ourAfter
+keeps-table = record {
+  good = keeps-good;
+  addresses = keeps-addresses;
+  history = λ s e h. by-history _ _ (lists-run h [] _ (subst (Lists []) (sym (begins s e)) lists-empty));
+}

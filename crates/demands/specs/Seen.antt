@@ -1,0 +1,86 @@
+-- What calls are to one followed address: which images reach it and what they are received as, and what its slot's own marks say. Nothing
+-- here looks at a machine's answers.
+--
+--   arrivesAt a image     the image has 94 bytes, its spare bit is 0, and it is read as the address
+--   eventOf p image       what it is there: a readable data packet, or refused with 28 to 31
+--   eventsOf a p h        the events that a list of calls means at the address: those images, and the subframe ends
+--   seenIn x              the address that a slot's bytes follow: its head, the bytes of the packets it holds, the group it shows
+--   marksOf h             the transcript that a slot's marks stand for: group and age, gap, awaited index
+--   latest g out          the last group handed out; g where there is none
+use mathlib.Core.Bool.{Bool, cond, not, _&&_}
+use mathlib.Core.List.{List, [], _∷_, _++_}
+use Prim.Native.Nat.{ℕ, zero, suc, _*_}
+use lib.Dec.{ltb, eqb}
+use lib.ListN.{length, take, replicate}
+use Rattle.image.specs.Image.{spareOf}
+use Rattle.packet.specs.Received.{received}
+use Rattle.packet.specs.Damage.{dataSize}
+use Rattle.slot.specs.Part.{part}
+use Rattle.slot.specs.Slot.{headOf, unfinished, stored}
+use Rattle.slot.specs.declared.Head.{Head}
+use Rattle.asking.specs.Asking.{groupLength}
+use Rattle.group.specs.Group.{blockOf}
+use Rattle.history.specs.Followed.{Followed, Reason, typeUnreadable, typeReserved, typeScrambled, wordUnreadable, Event, ended}
+use Rattle.history.specs.Followed as one
+use Rattle.history.specs.Transcript.{Entry, answered, subframe}
+use Rattle.adapter.specs.Calls.{addressOf}
+use Rattle.demands.specs.Machine.{Call, start, follow, leave, packet, subframeEnd, ask}
+
+-- ---- what a call is at an address
+
+unfoldable pub arrivesAt : ℕ → List ℕ → Bool
+arrivesAt a image = eqb (length image) 94 && (not (eqb (spareOf image) 1) && eqb (addressOf image) a)
+
+unfoldable pub reasonOf : ℕ → Reason
+reasonOf n = cond (eqb n 28) typeUnreadable (cond (eqb n 29) typeReserved (cond (eqb n 30) typeScrambled wordUnreadable))
+
+-- by the number, index and bytes of what was received
+unfoldable pub eventBy : ℕ → ℕ → List ℕ → Event
+eventBy zero c b = one.packet c b
+eventBy (suc n) c b = one.refused (reasonOf (suc n))
+
+unfoldable pub eventOf : Bool → List ℕ → Event
+eventOf p image = eventBy (received p image .number) (received p image .index) (take (dataSize p) (received p image .bytes))
+
+unfoldable pub eventsAt : ℕ → Bool → Call → List Event
+eventsAt a p start = []
+eventsAt a p (follow b q l) = []
+eventsAt a p (leave b) = []
+eventsAt a p (packet image) = cond (arrivesAt a image) (eventOf p image ∷ []) []
+eventsAt a p subframeEnd = ended ∷ []
+eventsAt a p (ask b) = []
+
+unfoldable pub eventsOf : ℕ → Bool → List Call → List Event
+eventsOf a p [] = []
+eventsOf a p (x ∷ h) = eventsAt a p x ++ eventsOf a p h
+
+-- the protection that an address is followed with
+abbrev pub by : Followed → Bool
+by f = eqb (f .head .protection) 1
+
+-- ---- what a slot's bytes say
+
+-- the group that a slot shows: none before the first
+unfoldable pub lastIn : Head → List ℕ → List ℕ
+lastIn h room = cond (eqb (h .group) 0) [] (part 0 (groupLength h) room)
+
+-- the packets that it holds
+unfoldable pub heldIn : Head → List ℕ → List ℕ
+heldIn h room = part 0 (h .awaited * blockOf h) room
+
+unfoldable pub seenIn : List ℕ → Followed
+seenIn x = record { head = headOf x; unfinished = heldIn (headOf x) (unfinished x); last = lastIn (headOf x) (stored x) }
+
+-- the newest first: a packet held where an index above 0 is awaited, a refusal where the gap is marked, as many subframe ends as its
+-- age, and the 3 that handed its group out
+unfoldable pub marksOf : Head → List Entry
+marksOf h =
+    cond (ltb 0 (h .awaited)) (answered 1 ∷ []) []
+    ++ (cond (eqb (h .gap) 1) (answered 32 ∷ []) []
+    ++ cond (eqb (h .group) 0) [] (replicate (h .age) subframe ++ (answered 3 ∷ [])))
+
+-- ---- what is shown
+
+unfoldable pub latest : List ℕ → List (List ℕ) → List ℕ
+latest g [] = g
+latest g (x ∷ out) = latest x out

@@ -1,0 +1,81 @@
+-- The table of followed addresses is the history's: what follow and leave made of it and nothing else (document 01, sections 3 and 6).
+--
+--   Good s                  a good state of the right length
+--   addressAfter x s k      the address of slot k after a call: "Follow takes the lowest free slot", "Leave sets the slot to 0"
+--   member a l              an address is one of a list
+--   followNow x l           the addresses that are followed after a call, where those of l were before it
+--   followedAfter h l       and after a list of calls; from a start on l is []
+--   ByHistory m l t         what the calls answer on a state t in which the addresses of l are followed
+--   KeepsTable m
+use mathlib.Core.Path.{_≡_}
+use mathlib.Core.Bool.{Bool, true, false, cond, not, _&&_, _||_}
+use mathlib.Core.List.{List, [], _∷_}
+use Prim.Native.Nat.{ℕ, _<_}
+use lib.Dec.{leb, ltb, eqb}
+use lib.ListN.{length}
+use Rattle.bits.specs.Rows.{refusal}
+use Rattle.image.specs.Image.{spareOf}
+use Rattle.slot.specs.Head.{within}
+use Rattle.table.specs.State.{stateSize, slots, addressAt, find, good}
+use Rattle.adapter.specs.Calls.{addressOf}
+use Rattle.demands.specs.Machine.{Call, start, follow, leave, packet, subframeEnd, ask, Machine, run}
+use Rattle.demands.specs.Rows.{wishRows, addressRows, rowsOf, Answers}
+
+pub record Good (s : List ℕ) : Type 0 where
+  pub size : length s ≡ stateSize
+  pub good : good s ≡ true
+
+-- ---- on every good state
+
+abbrev pub accepted : Call → List ℕ → Bool
+accepted x s = eqb (refusal (rowsOf x s)) 0
+
+unfoldable pub addressAfter : Call → List ℕ → ℕ → ℕ
+addressAfter start s k = 0
+addressAfter (follow a p l) s k = cond (accepted (follow a p l) s && eqb k (find s 0)) a (addressAt s k)
+addressAfter (leave a) s k = cond (accepted (leave a) s && eqb k (find s a)) 0 (addressAt s k)
+addressAfter (packet image) s k = addressAt s k
+addressAfter subframeEnd s k = addressAt s k
+addressAfter (ask a) s k = addressAt s k
+
+-- ---- from a start on, by the calls alone
+
+unfoldable pub member : ℕ → List ℕ → Bool
+member a [] = false
+member a (b ∷ l) = eqb a b || member a l
+
+unfoldable pub without : ℕ → List ℕ → List ℕ
+without a [] = []
+without a (b ∷ l) = cond (eqb a b) l (b ∷ without a l)
+
+-- a follow that is accepted
+unfoldable pub taken : ℕ → ℕ → ℕ → List ℕ → Bool
+taken a p limit l = within 1 1022 a && (leb p 1 && (within 1 1500 limit && (not (member a l) && ltb (length l) 16)))
+
+unfoldable pub followNow : Call → List ℕ → List ℕ
+followNow start l = []
+followNow (follow a p limit) l = cond (taken a p limit l) (a ∷ l) l
+followNow (leave a) l = without a l
+followNow (packet image) l = l
+followNow subframeEnd l = l
+followNow (ask a) l = l
+
+unfoldable pub followedAfter : List Call → List ℕ → List ℕ
+followedAfter [] l = l
+followedAfter (x ∷ h) l = followedAfter h (followNow x l)
+
+pub record ByHistory (m : Machine) (l t : List ℕ) : Type 0 where
+  -- with good wishes 25 exactly if it is followed, otherwise 26 exactly if sixteen are, otherwise 0
+  pub follows : (a p limit : ℕ) → m .answer (follow a p limit) t ≡ refusal (wishRows a p limit (member a l) (eqb (length l) 16))
+  -- from 1 to 1,022: 27 exactly if it is not followed
+  pub leaves : (a : ℕ) → m .answer (leave a) t ≡ refusal (addressRows a (not (member a l)))
+  pub asks : (a : ℕ) → Answers (addressRows a (not (member a l))) (4 ∷ 5 ∷ 6 ∷ 7 ∷ []) (m .answer (ask a) t)
+  pub packets : (image : List ℕ) → length image ≡ 94 → spareOf image ≡ 0 → member (addressOf image) l ≡ false → m .answer (packet image) t ≡ 27
+  pub ends : m .answer subframeEnd t ≡ 0
+  pub never : (x : Call) → m .answer x t ≡ 34 → ⊥
+
+pub record KeepsTable (m : Machine) : Type 0 where
+  pub good : (x : Call) (s : List ℕ) → Good s → Good (m .after x s)
+  pub addresses : (x : Call) (s : List ℕ) → Good s → (k : ℕ) → k < slots → addressAt (m .after x s) k ≡ addressAfter x s k
+  pub history : (s : List ℕ) → length s ≡ stateSize → (h : List Call)
+      → ByHistory m (followedAfter h []) (run m h (m .after start s))
