@@ -131,7 +131,7 @@ clean-arrives c h =
 pub clean-index : (c : ℕ) → c < 4 → headerRead (headerOf (clean c)) .index ≡ c
 clean-index c h = header-came false 17 c (blank 90) (lit≤ tt) (omega arith) (blank-length 90) (bytes-zero 90) (clean c) (comes c h .came .header) .1
 
-clean-read-event : (c : ℕ) → c < 4 → eventOf false (clean c) ≡ one.packet c (blank 90)
+pub clean-read-event : (c : ℕ) → c < 4 → eventOf false (clean c) ≡ one.packet c (blank 90)
 clean-read-event c h =
     came-event false 17 c (blank 90) (clean c) (lit≤ tt) h (blank-length 90) (bytes-zero 90) (comes c h .came) (clean-number c h)
 

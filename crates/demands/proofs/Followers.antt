@@ -83,7 +83,7 @@ pub record Lists (l s : List ℕ) : Type 0 where
   pub size : length l ≡ used s
   pub distinct : Distinct l
 
-lists-empty : Lists [] (blank stateSize)
+pub lists-empty : Lists [] (blank stateSize)
 unfolding member used Distinct
 lists-empty = record {
   state = blank-state;
@@ -276,7 +276,7 @@ module _ (l s : List ℕ) (k : Lists l s) where
       either (refusal rows) (λ z. not-34 _ (4 ∷ 5 ∷ 6 ∷ 7 ∷ []) (w .accepted z) (λ q. q) e)
       (λ ne. not-34 _ (0 ∷ 22 ∷ 27 ∷ []) (rows-in rows _ tt) (λ q. q) (sym (w .refused ne) ∙ e))
 
-  by-history : ByHistory ours l s
+  pub by-history : ByHistory ours l s
   unfolding ourAnswer
   by-history = record {
     follows = follow-by;

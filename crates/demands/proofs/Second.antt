@@ -121,7 +121,7 @@ module _ (a p : ℕ) (m o : List ℕ) (w : Writable a p m o) where
   unfolding writeAfter
   written-images = done-passed (writeAnswer a p (length m) (length o)) (groupImages (eqb p 1) a m) o write-zero
 
-  written-length : length (writeAfter a p m o) ≡ 376
+  pub written-length : length (writeAfter a p m o) ≡ 376
   written-length = ap length written-images ∙ images-length (eqb p 1) a m
 
   written-at : (i : ℕ) → i < 4 → imageAt (writeAfter a p m o) i ≡ sentImage (eqb p 1) a i (fourth (eqb p 1) m i)

@@ -2,7 +2,9 @@ pub mod Clean
 pub mod Demand1
 pub mod Demand2
 pub mod Demand3
+pub mod Demands
 pub mod Empty
+pub mod Harmful
 pub mod Machine
 pub mod Rows
 pub mod Seen

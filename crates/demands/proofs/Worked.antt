@@ -1,0 +1,209 @@
+-- What the worked channel (`Channel`) comes to: which packets arrive readable, and what is handed out.
+--
+--   worked-came, worked-arrivals       what arrives: all readable but packet 1 of group 3 and packet 0 of group 4
+--   worked-whole, worked-only          groups 1 and 5 arrived readable, and no others
+--   worked-out                         these two are handed out by the events
+--   worked-accepted, worked-handed     and by our calls, on the state of 0 alone
+--
+-- Assumes nothing.
+use mathlib.Core.Path.{_≡_, refl, sym, ap, ap₂, _∙_, subst}
+use mathlib.Core.Bool.{Bool, true, false, cond}
+use mathlib.Core.List.{List, [], _∷_, _++_}
+use mathlib.Core.Logic.{_⊎_, inl, inr}
+use Prim.Native.Nat.{ℕ, zero, suc, _≤_, _<_}
+use native.Mathlib.Omega.{arith}
+use lib.Dec.{eqb, lit<, lit≤}
+use borrow.Author.Tests.{eq-eqb, eqb-true}
+use Rattle.slot.specs.Move.{moveOf, moveNumber, movedHead}
+use Rattle.table.specs.State.{find}
+use Rattle.table.specs.Calls.{followAnswer, followAfter}
+use Rattle.table.proofs.Looking.{follow-0}
+use Rattle.table.proofs.Kept.{follow-passed}
+use Rattle.history.specs.Followed as one
+use Rattle.history.specs.Sent.{Arrival, came, damaged, subframeEnd, event, events, group, CameIn, In}
+use Rattle.demands.specs.Machine.{Call, follow, leave, packet, ask, ours}
+use Rattle.demands.specs.Machine as machine
+use Rattle.demands.specs.Seen.{reasonOf, by, eventsOf}
+use Rattle.demands.specs.Demand3.{Happening, arrives, call, calls, Arrived, arrivalBy, passing, arrivals, handedOut}
+use Rattle.demands.proofs.Calling.{follow-serves}
+use Rattle.demands.proofs.Telling.{handed-same}
+use Rattle.demands.proofs.Channels.{channel-stays, channel-events, readable-came, came-readable}
+use Rattle.demands.proofs.Examples.{empty-state, empty-passed, empty-absent, accepted}
+use Rattle.demands.proofs.Damaged.{worked-sent, worked-carried, as-sent, Receives, sent-receives, header-receives, word-three-receives, word-four-receives, type-receives, other, spare-one, cut}
+use Rattle.demands.proofs.Channel.{from-1, from-2, from-3, from-4, from-5, worked, worked-channel}
+
+-- ---- the arrivals, from each group on
+
+unfoldable pub came-5 : List Arrival
+came-5 = came 5 0 ∷ came 5 1 ∷ came 5 2 ∷ came 5 3 ∷ []
+
+unfoldable pub came-4 : List Arrival
+came-4 = damaged 4 0 one.typeReserved ∷ came 4 1 ∷ came 4 2 ∷ came 4 3 ∷ subframeEnd ∷ came-5
+
+unfoldable pub came-3 : List Arrival
+came-3 = came 3 0 ∷ damaged 3 1 one.wordUnreadable ∷ came 3 2 ∷ came 3 3 ∷ came-4
+
+unfoldable pub came-2 : List Arrival
+came-2 = came 2 0 ∷ came-3
+
+unfoldable pub came-1 : List Arrival
+came-1 = came 1 0 ∷ came 1 1 ∷ came 1 2 ∷ subframeEnd ∷ came 1 3 ∷ came-2
+
+unfoldable pub worked-came : List Arrival
+worked-came = came 0 2 ∷ came 0 3 ∷ came-1
+
+record Becomes (h : List Happening) (es : List Arrival) : Type 0 where
+  same : arrivals true h ≡ es
+
+none : Becomes [] []
+unfolding arrivals
+none = record { same = refl }
+
+-- an image that is received with the number m
+read : (i c m : ℕ) {image : List ℕ} {h : List Happening} {es : List Arrival} → Receives i c image m → Becomes h es
+    → Becomes (arrives i c image ∷ h) (arrivalBy m i c ∷ es)
+unfolding arrivals
+read i c m r rest = record { same = ap₂ (λ (n : ℕ) (xs : List Arrival). arrivalBy n i c ∷ xs) (r .number) (rest .same) }
+
+-- one that comes as it was sent
+clean : (i c : ℕ) {h : List Happening} {es : List Arrival} → c < 4 → Becomes h es → Becomes (arrives i c (as-sent i c) ∷ h) (came i c ∷ es)
+unfolding arrivalBy
+clean i c l rest = read i c 0 (sent-receives i c l) rest
+
+pass : (x : Call) {h : List Happening} {es : List Arrival} → Becomes h es → Becomes (call x ∷ h) (passing x ++ es)
+unfolding arrivals
+pass x rest = record { same = ap (λ (xs : List Arrival). passing x ++ xs) (rest .same) }
+
+becomes-5 : Becomes from-5 came-5
+unfolding from-5 came-5
+becomes-5 = clean 5 0 (lit< tt) (clean 5 1 (lit< tt) (clean 5 2 (lit< tt) (clean 5 3 (lit< tt) none)))
+
+becomes-4 : Becomes from-4 came-4
+unfolding from-4 came-4 arrivalBy reasonOf passing
+becomes-4 =
+    read 4 0 29 (type-receives 4 0 (lit< tt)) (clean 4 1 (lit< tt) (clean 4 2 (lit< tt) (clean 4 3 (lit< tt)
+    (pass machine.subframeEnd (pass (ask 17) becomes-5)))))
+
+becomes-3 : Becomes from-3 came-3
+unfolding from-3 came-3 arrivalBy reasonOf
+becomes-3 =
+    clean 3 0 (lit< tt) (read 3 1 31 (word-four-receives 3 1 (lit< tt)) (clean 3 2 (lit< tt) (clean 3 3 (lit< tt) becomes-4)))
+
+becomes-2 : Becomes from-2 came-2
+unfolding from-2 came-2 passing
+becomes-2 = clean 2 0 (lit< tt) (pass (packet spare-one) (pass (packet cut) becomes-3))
+
+becomes-1 : Becomes from-1 came-1
+unfolding from-1 came-1 arrivalBy passing
+becomes-1 =
+    read 1 0 0 (header-receives 1 0 (lit< tt)) (read 1 1 0 (word-three-receives 1 1 (lit< tt))
+    (pass (follow 18 1 2) (pass (packet other) (pass (leave 18)
+    (clean 1 2 (lit< tt) (pass machine.subframeEnd (clean 1 3 (lit< tt) becomes-2)))))))
+
+pub worked-arrivals : arrivals true worked ≡ worked-came
+unfolding worked worked-came
+worked-arrivals = clean 0 2 (lit< tt) (clean 0 3 (lit< tt) becomes-1) .same
+
+-- ---- the groups that arrived readable
+
+-- the groups whose packet c came
+unfoldable groupsAt : ℕ → List Arrival → List ℕ
+groupsAt c [] = []
+groupsAt c (came i d ∷ h) = cond (eqb d c) (i ∷ groupsAt c h) (groupsAt c h)
+groupsAt c (damaged i d r ∷ h) = groupsAt c h
+groupsAt c (subframeEnd ∷ h) = groupsAt c h
+
+in-came : (i c : ℕ) (h : List Arrival) → In i (groupsAt c h) → CameIn i c h
+unfolding groupsAt In CameIn
+in-came i c [] q = q
+in-came i c (came j d ∷ h) q = go (eqb d c) refl q (in-came i c h)
+  where
+    go : (b : Bool) → eqb d c ≡ b → In i (cond b (j ∷ groupsAt c h) (groupsAt c h)) → (In i (groupsAt c h) → CameIn i c h) → CameIn i c (came j d ∷ h)
+    go true e (inl p) rest = inl (ap₂ came (sym p) (eqb-true d c e))
+    go true e (inr p) rest = inr (rest p)
+    go false e p rest = inr (rest p)
+in-came i c (damaged j d r ∷ h) q = inr (in-came i c h q)
+in-came i c (subframeEnd ∷ h) q = inr (in-came i c h q)
+
+came-in : (i c : ℕ) (h : List Arrival) → CameIn i c h → In i (groupsAt c h)
+unfolding groupsAt In CameIn
+came-in i c [] q = q
+came-in i c (came j d ∷ h) (inl e) =
+    let p : i ≡ j = cc in
+    let q : d ≡ c = cc in
+    subst (λ (b : Bool). In i (cond b (j ∷ groupsAt c h) (groupsAt c h))) (sym (eq-eqb d c q)) (inl p)
+came-in i c (came j d ∷ h) (inr q) = go (eqb d c) (came-in i c h q)
+  where
+    go : (b : Bool) → In i (groupsAt c h) → In i (cond b (j ∷ groupsAt c h) (groupsAt c h))
+    go true p = inr p
+    go false p = p
+came-in i c (damaged j d r ∷ h) (inl e) = let z : _≡_ {A = ℕ} 0 1 = cc in absurd (omega (arith, z))
+came-in i c (damaged j d r ∷ h) (inr q) = came-in i c h q
+came-in i c (subframeEnd ∷ h) (inl e) = let z : _≡_ {A = ℕ} 0 1 = cc in absurd (omega (arith, z))
+came-in i c (subframeEnd ∷ h) (inr q) = came-in i c h q
+
+worked-in : (i : ℕ) → ((c : ℕ) → c < 4 → In i (groupsAt c worked-came)) → Arrived true worked i
+unfolding Arrived
+worked-in i q c h = came-readable true i c worked (subst (CameIn i c) (sym worked-arrivals) (in-came i c worked-came (q c h)))
+
+worked-has : (i : ℕ) → Arrived true worked i → (c : ℕ) → c < 4 → In i (groupsAt c worked-came)
+unfolding Arrived
+worked-has i q c h = came-in i c worked-came (subst (CameIn i c) worked-arrivals (readable-came true i c worked (q c h)))
+
+each-index : (P : ℕ → Type 0) → P 0 → P 1 → P 2 → P 3 → (c : ℕ) → c < 4 → P c
+each-index P a b c d zero h = a
+each-index P a b c d (suc zero) h = b
+each-index P a b c d (suc (suc zero)) h = c
+each-index P a b c d (suc (suc (suc zero))) h = d
+each-index P a b c d (suc (suc (suc (suc k)))) h = absurd (omega arith)
+
+pub worked-whole : Arrived true worked 1 × Arrived true worked 5
+unfolding groupsAt In worked-came came-1 came-2 came-3 came-4 came-5
+worked-whole = (
+  worked-in 1 (each-index (λ (c : ℕ). In 1 (groupsAt c worked-came)) (inl refl) (inl refl) (inr (inl refl)) (inr (inl refl))),
+  worked-in 5 (each-index (λ (c : ℕ). In 5 (groupsAt c worked-came)) (inr (inr (inr (inl refl)))) (inr (inr (inl refl)))
+      (inr (inr (inr (inr (inl refl))))) (inr (inr (inr (inr (inl refl)))))),
+)
+
+-- packet 0 came readable of groups 1, 2, 3 and 5 alone, and packet 1 of 1, 4 and 5
+pub worked-only : (i : ℕ) → Arrived true worked i → (i ≡ 1) ⊎ (i ≡ 5)
+unfolding groupsAt In worked-came came-1 came-2 came-3 came-4 came-5
+worked-only i q = go (worked-has i q 0 (lit< tt)) (second (worked-has i q 1 (lit< tt)))
+  where
+    second : In i (1 ∷ 4 ∷ 5 ∷ []) → (i ≡ 1) ⊎ (4 ≤ i)
+    second (inl e) = inl e
+    second (inr (inl e)) = inr (omega (arith, e))
+    second (inr (inr (inl e))) = inr (omega (arith, e))
+    second (inr (inr (inr e))) = absurd e
+
+    go : In i (1 ∷ 2 ∷ 3 ∷ 5 ∷ []) → (i ≡ 1) ⊎ (4 ≤ i) → (i ≡ 1) ⊎ (i ≡ 5)
+    go (inl e) s = inl e
+    go (inr (inl e)) (inl f) = inl f
+    go (inr (inl e)) (inr f) = absurd (omega (arith, e, f))
+    go (inr (inr (inl e))) (inl f) = inl f
+    go (inr (inr (inl e))) (inr f) = absurd (omega (arith, e, f))
+    go (inr (inr (inr (inl e)))) s = inr e
+    go (inr (inr (inr (inr e)))) s = absurd e
+
+-- ---- what is handed out
+
+pub worked-out : one.handedOut (events worked-sent worked-came) (one.followed 17 1 2) ≡ group worked-sent 1 ∷ group worked-sent 5 ∷ []
+unfolding worked-came came-1 came-2 came-3 came-4 came-5 worked-sent events event group one.followed one.handedOut one.after one.answer one.number one.moved one.joined one.lastOf one.dropped one.aged moveOf moveNumber movedHead
+worked-out = refl
+
+pub worked-accepted : followAnswer empty-state 17 1 2 ≡ 0
+worked-accepted =
+    follow-0 empty-state 17 1 2 empty-passed refl (lit≤ tt) refl (find empty-state 17) refl (empty-absent 17 (lit< tt)) (find empty-state 0) refl
+    (follow-passed empty-state 17 0 2 (accepted 2 refl) .room)
+
+-- the same of our calls, on bytes
+pub worked-handed : handedOut ours 17 (calls worked) (followAfter empty-state 17 1 2) ≡ group worked-sent 1 ∷ group worked-sent 5 ∷ []
+unfolding one.followed
+worked-handed =
+    let k = follow-serves empty-state 17 1 2 worked-accepted in
+    let f = one.followed 17 1 2 in
+    handed-same (calls worked) (followAfter empty-state 17 1 2) 17 (k .serves) (channel-stays true 17 worked-sent 2 worked worked-channel)
+    ∙ ap (λ (g : one.Followed). one.handedOut (eventsOf 17 (by g) (calls worked)) g) (k .seen)
+    ∙ ap (λ (es : List one.Event). one.handedOut es f)
+    (sym (channel-events true 17 worked-sent (lit≤ tt) worked-carried 2 worked worked-channel) ∙ ap (events worked-sent) worked-arrivals)
+    ∙ worked-out

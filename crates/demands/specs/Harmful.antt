@@ -1,0 +1,217 @@
+-- Machines that would harm a board, each ours but for one thing. Each is to be refuted by the demands themselves.
+--
+--   torn           while index 1 to 3 is awaited, ask shows 360 zeros and still answers 5
+--   silent         damage is answered 0, drops the open group and marks no gap
+--   lenient        a follow of address 0 is done; long: an image of 95 bytes is; misnumbered: a subframe's end is answered 3
+--   clinging       leave answers 0 and does nothing; halfStarted: start clears the rooms and keeps the heads
+--   knowing        ask of an address that is not followed answers 5
+--   bold           board text shows a doubtful group
+--   greedy         an accepted follow fills every other free slot with addresses that nobody asked for
+--   leaking        the slot that is left goes to another address
+--   brittle        a subframe's end while nothing is followed leaves a bad state
+--   trusting, hasty     right from a follow on: on a slot with dirt in its room, as only a hand makes it, ask answers 5 with the gap marked, and
+--                  index 1 is answered 3
+--   babbling       ask refused shows a byte; boasting: board text's number is always 5
+--   mute           every bare call gives 33 and 0
+--   sparing        the writer sets the spare bit of the first image
+use mathlib.Core.Bool.{Bool, cond, not, _&&_, _||_}
+use mathlib.Core.List.{List, [], _∷_}
+use Prim.Native.Nat.{ℕ, zero, suc, _+_}
+use lib.Dec.{ltb, eqb}
+use lib.ListN.{length, getD, set}
+use Rattle.bits.specs.Bits.{blank}
+use Rattle.bits.specs.Rows.{done}
+use Rattle.slot.specs.Slot.{roomSize, headOf, withHead, withUnfinished, withStored}
+use Rattle.slot.specs.Head.{free}
+use Rattle.slot.specs.declared.Head.{Head}
+use Rattle.table.specs.State.{slots, slotAt, withSlot, find}
+use Rattle.table.specs.Calls.{startAnswer, startAfter, followAnswer, followAfter, leaveAnswer, leaveAfter, endAnswer, endAfter}
+use Rattle.asking.specs.Asking.{asked, askPart}
+use Rattle.history.specs.Transcript.{drops}
+use Rattle.adapter.specs.Calls.{addressOf, packetAnswer, packetAfter, writeAfter}
+use Rattle.demands.specs.Machine.{Call, start, follow, leave, packet, subframeEnd, ask, Board, Machine, ours, ourAnswer, ourAfter, ourBoard, Bare, run}
+use Rattle.demands.specs.Rows.{indexOf}
+use Rattle.demands.specs.Empty.{but}
+
+-- ---- one thing by each call, and ours but for one part
+
+unfoldable pub byCall : {A : Type 0} → (List ℕ → A) → (ℕ → ℕ → ℕ → List ℕ → A) → (ℕ → List ℕ → A) → (List ℕ → List ℕ → A) → (List ℕ → A)
+    → (ℕ → List ℕ → A) → Call → List ℕ → A
+byCall st fo le pa en qu start s = st s
+byCall st fo le pa en qu (follow a p l) s = fo a p l s
+byCall st fo le pa en qu (leave a) s = le a s
+byCall st fo le pa en qu (packet image) s = pa image s
+byCall st fo le pa en qu subframeEnd s = en s
+byCall st fo le pa en qu (ask a) s = qu a s
+
+-- another answer to follow, packet, subframe end and ask
+abbrev answering : (ℕ → ℕ → ℕ → List ℕ → ℕ) → (List ℕ → List ℕ → ℕ) → (List ℕ → ℕ) → (ℕ → List ℕ → ℕ) → Call → List ℕ → ℕ
+answering fo pa en qu = byCall startAnswer fo (λ a s. leaveAnswer s a) pa en qu
+
+abbrev follows : ℕ → ℕ → ℕ → List ℕ → ℕ
+follows a p l s = followAnswer s a p l
+
+abbrev takes : List ℕ → List ℕ → ℕ
+takes image s = packetAnswer s image
+
+abbrev asks : ℕ → List ℕ → ℕ
+asks a s = asked s a .number
+
+-- another state after start, follow, leave, packet and subframe end
+abbrev leaving : (List ℕ → List ℕ) → (ℕ → ℕ → ℕ → List ℕ → List ℕ) → (ℕ → List ℕ → List ℕ) → (List ℕ → List ℕ → List ℕ) → (List ℕ → List ℕ)
+    → Call → List ℕ → List ℕ
+leaving st fo le pa en = byCall st fo le pa en (λ a s. s)
+
+abbrev followed : ℕ → ℕ → ℕ → List ℕ → List ℕ
+followed a p l s = followAfter s a p l
+
+abbrev left : ℕ → List ℕ → List ℕ
+left a s = leaveAfter s a
+
+abbrev taken : List ℕ → List ℕ → List ℕ
+taken image s = packetAfter s image
+
+abbrev showing : (ℕ → List ℕ → List ℕ) → (ℕ → List ℕ → List ℕ → Board) → Machine
+showing shown board =
+    record {
+      answer = ourAnswer;
+      after = ourAfter;
+      shown = shown;
+      board = board;
+      writes = ours .writes;
+      written = ours .written;
+      bare = ours .bare;
+      values = ours .values;
+    }
+
+-- the slot of an address
+abbrev slotOf : List ℕ → ℕ → List ℕ
+slotOf s a = slotAt (find s a) s
+
+-- ---- what is shown, and what is answered
+
+abbrev pub torn : Machine
+torn =
+    showing (λ a s. cond (ltb 0 (headOf (slotOf s a) .awaited) && eqb (asked s a .number) 5) (blank 360) (askPart s a)) ourBoard
+
+abbrev pub babbling : Machine
+babbling = showing (λ a s. cond (ltb 7 (asked s a .number)) (1 ∷ []) (askPart s a)) ourBoard
+
+abbrev pub bold : Machine
+bold =
+    showing (λ a s. askPart s a)
+    (λ a notice s. record {
+      number = asked s a .number;
+      text = cond (eqb (asked s a .number) 5 || eqb (asked s a .number) 6) (askPart s a) notice;
+      state = s;
+      notice = notice;
+    })
+
+abbrev pub boasting : Machine
+boasting = showing (λ a s. askPart s a) (λ a notice s. record { number = 5; text = ourBoard a notice s .text; state = s; notice = notice })
+
+-- a dropped group without a gap
+abbrev quietHead : Head → Head
+quietHead h = record {
+  address = h .address;
+  limit = h .limit;
+  age = h .age;
+  protection = h .protection;
+  awaited = 0;
+  group = h .group;
+  gap = h .gap;
+}
+
+abbrev quietly : List ℕ → List ℕ → List ℕ
+quietly image s =
+    let k = find s (addressOf image) in
+    cond (drops (packetAnswer s image))
+    (withSlot k (withHead (quietHead (headOf (slotAt k s))) (withUnfinished (blank roomSize) (slotAt k s))) s) (packetAfter s image)
+
+abbrev pub silent : Machine
+silent =
+    but (answering follows (λ image s. cond (drops (packetAnswer s image)) 0 (packetAnswer s image)) endAnswer asks)
+    (leaving startAfter followed left quietly endAfter)
+
+abbrev pub lenient : Machine
+lenient = but (answering (λ a p l s. cond (eqb a 0) 0 (followAnswer s a p l)) takes endAnswer asks) ourAfter
+
+abbrev pub long : Machine
+long = but (answering follows (λ image s. cond (eqb (length image) 95) 0 (packetAnswer s image)) endAnswer asks) ourAfter
+
+abbrev pub misnumbered : Machine
+misnumbered = but (answering follows takes (λ s. 3) asks) ourAfter
+
+abbrev pub knowing : Machine
+knowing = but (answering follows takes endAnswer (λ a s. cond (eqb (asked s a .number) 27) 5 (asked s a .number))) ourAfter
+
+-- ---- what is left
+
+abbrev pub clinging : Machine
+clinging = but ourAnswer (leaving startAfter followed (λ a s. s) taken endAfter)
+
+unfoldable pub roomless : ℕ → ℕ → List ℕ → List ℕ
+roomless zero k s = s
+roomless (suc n) k s = roomless n (suc k) (withSlot k (withStored (blank roomSize) (withUnfinished (blank roomSize) (slotAt k s))) s)
+
+abbrev pub halfStarted : Machine
+halfStarted = but ourAnswer (leaving (roomless slots 0) followed left taken endAfter)
+
+abbrev pub crowd : ℕ → ℕ → List Call
+crowd p l =
+    follow 501 p l ∷ follow 502 p l ∷ follow 503 p l ∷ follow 504 p l ∷ follow 505 p l ∷ follow 506 p l ∷ follow 507 p l ∷ follow 508 p l
+    ∷ follow 509 p l ∷ follow 510 p l ∷ follow 511 p l ∷ follow 512 p l ∷ follow 513 p l ∷ follow 514 p l ∷ follow 515 p l ∷ follow 516 p l
+    ∷ []
+
+abbrev pub greedy : Machine
+greedy =
+    but ourAnswer (leaving startAfter (λ a p l s. done (followAnswer s a p l) (run ours (crowd p l) (followAfter s a p l)) s) left taken endAfter)
+
+abbrev pub leaking : Machine
+leaking = but ourAnswer (leaving startAfter followed (λ a s. done (leaveAnswer s a) (followAfter (leaveAfter s a) 500 0 1) s) taken endAfter)
+
+abbrev pub brittle : Machine
+brittle = but ourAnswer (leaving startAfter followed left taken (λ s. cond (free s) (1 ∷ blank 11775) (endAfter s)))
+
+-- ---- right only from a follow on
+
+-- nothing is held, and yet the unfinished room is not 0
+abbrev pub dirty : List ℕ → Bool
+dirty x = not (eqb (getD x 0 0) 0) && eqb (headOf x .awaited) 0
+
+abbrev pub trusting : Machine
+trusting = but (answering follows takes endAnswer (λ a s. cond (dirty (slotOf s a)) 5 (asked s a .number))) ourAfter
+
+abbrev pub hasty : Machine
+hasty =
+    but
+    (answering follows (λ image s. cond (dirty (slotOf s (addressOf image)) && eqb (indexOf image) 1) 3 (packetAnswer s image)) endAnswer asks)
+    ourAfter
+
+-- ---- the bare calls, and the writer
+
+abbrev pub mute : Machine
+mute =
+    record {
+      answer = ourAnswer;
+      after = ourAfter;
+      shown = ours .shown;
+      board = ours .board;
+      writes = ours .writes;
+      written = ours .written;
+      bare = λ x. 33;
+      values = λ x. 0 ∷ [];
+    }
+
+abbrev pub sparing : Machine
+sparing =
+    record {
+      answer = ourAnswer;
+      after = ourAfter;
+      shown = ours .shown;
+      board = ours .board;
+      writes = ours .writes;
+      written = λ a p m o. let w = writeAfter a p m o in set w 93 (getD w 93 0 + 128);
+      bare = ours .bare;
+      values = ours .values;
+    }
