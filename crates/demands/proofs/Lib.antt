@@ -1,5 +1,4 @@
 pub mod Acting
-pub mod All
 pub mod Calling
 pub mod Channel
 pub mod Channels
@@ -15,6 +14,7 @@ pub mod Marks
 pub mod Numbered
 pub mod Numbering
 pub mod Numbers
+pub mod Ours
 pub mod Parts
 pub mod Second
 pub mod Serving

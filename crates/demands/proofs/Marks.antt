@@ -17,7 +17,7 @@ use Rattle.slot.specs.declared.Head.{Head}
 use Rattle.slot.proofs.Laws.{Bounds}
 use Rattle.history.specs.Transcript.{Entry, answered, subframe, isWhole, anyWhole, sinceWhole, ends, before, drops, marks, marked}
 use Rattle.history.proofs.Freshness.{Tells}
-use Rattle.demands.specs.Seen.{marksOf}
+use Rattle.demands.specs.Seen.{marksBy, marksOf}
 
 abbrev since : ℕ → List Entry
 since n = replicate n subframe
@@ -50,10 +50,6 @@ unfolding marked marks
 since-marked zero = refl
 since-marked (suc n) = since-marked n
 
--- the marks as three tests and an age: an index above 0 is awaited, the gap is marked, there is no group
-abbrev told : Bool → Bool → Bool → ℕ → List Entry
-told w g z n = cond w (answered 1 ∷ []) [] ++ (cond g (answered 32 ∷ []) [] ++ cond z [] (aged n))
-
 -- what is told of a mark, over what is told of the group: whole or not, and since then nothing but subframe ends
 record Plain (t : List Entry) (n : ℕ) (z : Bool) : Type 0 where
   whole : anyWhole t ≡ cond z false true
@@ -75,13 +71,13 @@ plain false n = record {
 }
 
 record Marked (w g z : Bool) (n : ℕ) : Type 0 where
-  whole : anyWhole (told w g z n) ≡ cond z false true
-  gap : marked (sinceWhole (told w g z n)) ≡ g
-  awaits : (eqb (before (sinceWhole (told w g z n))) 1 || eqb (before (sinceWhole (told w g z n))) 2) ≡ w
-  age : anyWhole (told w g z n) ≡ true → n ≡ ends (sinceWhole (told w g z n))
+  whole : anyWhole (marksBy w g z n) ≡ cond z false true
+  gap : marked (sinceWhole (marksBy w g z n)) ≡ g
+  awaits : (eqb (before (sinceWhole (marksBy w g z n))) 1 || eqb (before (sinceWhole (marksBy w g z n))) 2) ≡ w
+  age : anyWhole (marksBy w g z n) ≡ true → n ≡ ends (sinceWhole (marksBy w g z n))
 
 marked-as : (w g z : Bool) (n : ℕ) → Marked w g z n
-unfolding anyWhole isWhole sinceWhole marked marks drops before ends
+unfolding marksBy anyWhole isWhole sinceWhole marked marks drops before ends
 marked-as w g z n = go w g (plain z n)
   where
     go : (w g : Bool) → Plain (cond z [] (aged n)) n z → Marked w g z n

@@ -41,7 +41,7 @@ use Rattle.adapter.specs.Calls.{addressOf, followed, packetAnswer}
 use Rattle.adapter.proofs.Laws.{both-followed}
 use Rattle.demands.specs.Machine.{Call, follow, packet, ask, ours, ourAnswer, ourAfter, Bytes, run}
 use Rattle.demands.specs.Rows.{indexOf}
-use Rattle.demands.specs.Seen.{arrivesAt, eventOf, eventsAt, eventsOf, by, seenIn, marksOf, latest}
+use Rattle.demands.specs.Seen.{arrivesAt, eventOf, eventsAt, eventsOf, by, seenIn, marksBy, marksOf, latest}
 use Rattle.demands.specs.Demand2.{Follows}
 use Rattle.demands.specs.Demand3.{AllStay, Stays, Goes, Demand3}
 use Rattle.demands.specs.Harmful.{byCall, torn, silent, bold, dirty, trusting, hasty}
@@ -237,7 +237,7 @@ made-dirty : dirty (slotAt (find made 17) made) ≡ true
 made-dirty = ap dirty made-slot ∙ slot-dirty
 
 pub trusting-fails : Demand3 trusting → ⊥
-unfolding byCall run AllStay eventsOf told called anyWhole isWhole sinceWhole ends before drops marks marked marksOf seenIn
+unfolding byCall run AllStay eventsOf told called anyWhole isWhole sinceWhole ends before drops marks marked marksBy marksOf seenIn
 trusting-fails d =
     let said = d .holds made 17 0 made-follows .asks [] tt in
     let six : called (headOf slot .limit) (marksOf (headOf slot)) ≡ 6 = ap (λ (h : Head). called (h .limit) (marksOf h)) slot-head in

@@ -4,6 +4,7 @@
 --   worked-whole, worked-only          groups 1 and 5 arrived readable, and no others
 --   worked-out                         these two are handed out by the events
 --   worked-accepted, worked-handed     and by our calls, on the state of 0 alone
+--   worked-exactly, worked-fresh       so demand 3 says of it, from a follow in mid-stream on: exactly these, and the last is fresh
 --
 -- Assumes nothing.
 use mathlib.Core.Path.{_≡_, refl, sym, ap, ap₂, _∙_, subst}
@@ -20,14 +21,16 @@ use Rattle.table.specs.Calls.{followAnswer, followAfter}
 use Rattle.table.proofs.Looking.{follow-0}
 use Rattle.table.proofs.Kept.{follow-passed}
 use Rattle.history.specs.Followed as one
-use Rattle.history.specs.Sent.{Arrival, came, damaged, subframeEnd, event, events, group, CameIn, In}
-use Rattle.demands.specs.Machine.{Call, follow, leave, packet, ask, ours}
+use Rattle.history.specs.Sent.{Arrival, came, damaged, subframeEnd, event, events, group, CameIn, Readable, In, Exactly}
+use Rattle.history.specs.Missing.{Reached, endings, Last, Judged}
+use Rattle.demands.specs.Machine.{Call, follow, leave, packet, ask, ours, ourAnswer, ourAfter, run}
 use Rattle.demands.specs.Machine as machine
 use Rattle.demands.specs.Seen.{reasonOf, by, eventsOf}
 use Rattle.demands.specs.Demand3.{Happening, arrives, call, calls, Arrived, arrivalBy, passing, arrivals, handedOut}
 use Rattle.demands.proofs.Calling.{follow-serves}
 use Rattle.demands.proofs.Telling.{handed-same}
 use Rattle.demands.proofs.Channels.{channel-stays, channel-events, readable-came, came-readable}
+use Rattle.demands.proofs.Third.{demand-3}
 use Rattle.demands.proofs.Examples.{empty-state, empty-passed, empty-absent, accepted}
 use Rattle.demands.proofs.Damaged.{worked-sent, worked-carried, as-sent, Receives, sent-receives, header-receives, word-three-receives, word-four-receives, type-receives, other, spare-one, cut}
 use Rattle.demands.proofs.Channel.{from-1, from-2, from-3, from-4, from-5, worked, worked-channel}
@@ -207,3 +210,38 @@ worked-handed =
     ∙ ap (λ (es : List one.Event). one.handedOut es f)
     (sym (channel-events true 17 worked-sent (lit≤ tt) worked-carried 2 worked worked-channel) ∙ ap (events worked-sent) worked-arrivals)
     ∙ worked-out
+
+-- ---- by demand 3
+
+pub worked-exactly : Exactly worked-sent (Arrived true worked) (handedOut ours 17 (calls worked) (ourAfter (follow 17 1 2) empty-state))
+worked-exactly = demand-3 .exactly empty-state 17 1 2 worked-accepted worked-sent worked-carried 2 worked worked-channel
+
+came-readable-all : (i : ℕ) → Readable worked-came i → Arrived true worked i
+unfolding Readable Arrived
+came-readable-all i q c h = came-readable true i c worked (subst (CameIn i c) (sym worked-arrivals) (q c h))
+
+readable-all : (i : ℕ) → Arrived true worked i → Readable worked-came i
+unfolding Readable Arrived
+readable-all i q c h = subst (CameIn i c) worked-arrivals (readable-came true i c worked (q c h))
+
+-- group 5 is the last, and nothing came since
+worked-last : Last worked-came 5 []
+unfolding worked-came came-1 came-2 came-3 came-4 came-5
+worked-last = record {
+  before = came 0 2 ∷ came 0 3 ∷ came 1 0 ∷ came 1 1 ∷ came 1 2 ∷ subframeEnd ∷ came 1 3 ∷ came 2 0 ∷ came 3 0 ∷ damaged 3 1 one.wordUnreadable
+      ∷ came 3 2 ∷ came 3 3 ∷ damaged 4 0 one.typeReserved ∷ came 4 1 ∷ came 4 2 ∷ came 4 3 ∷ subframeEnd ∷ came 5 0 ∷ came 5 1 ∷ came 5 2 ∷ [];
+  split = refl;
+  whole = readable-all 5 (worked-whole .1);
+  none = λ j h q. later j h (worked-only j (came-readable-all j q));
+}
+  where
+    later : (j : ℕ) → 5 < j → (j ≡ 1) ⊎ (j ≡ 5) → ⊥
+    later j h (inl e) = omega (arith, h, e)
+    later j h (inr e) = omega (arith, h, e)
+
+pub worked-fresh : ourAnswer (ask 17) (run ours (calls worked) (ourAfter (follow 17 1 2) empty-state)) ≡ 5
+unfolding endings Reached
+worked-fresh =
+    let j = subst (λ (h : List Arrival). Judged 2 h (ourAnswer (ask 17) (run ours (calls worked) (ourAfter (follow 17 1 2) empty-state)))) worked-arrivals
+    (demand-3 .missing empty-state 17 1 2 worked-accepted worked-sent worked-carried 2 worked worked-channel) in
+    j .fresh 5 [] worked-last (lit< tt) (λ m. m .reached)

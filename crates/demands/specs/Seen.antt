@@ -5,7 +5,7 @@
 --   eventOf p image       what it is there: a readable data packet, or refused with 28 to 31
 --   eventsOf a p h        the events that a list of calls means at the address: those images, and the subframe ends
 --   seenIn x              the address that a slot's bytes follow: its head, the bytes of the packets it holds, the group it shows
---   marksOf h             the transcript that a slot's marks stand for: group and age, gap, awaited index
+--   marksOf h             the transcript that a slot's marks stand for: group and age, gap, awaited index; marksBy: by these
 --   latest g out          the last group handed out; g where there is none
 use mathlib.Core.Bool.{Bool, cond, not, _&&_}
 use mathlib.Core.List.{List, [], _∷_, _++_}
@@ -72,12 +72,15 @@ unfoldable pub seenIn : List ℕ → Followed
 seenIn x = record { head = headOf x; unfinished = heldIn (headOf x) (unfinished x); last = lastIn (headOf x) (stored x) }
 
 -- the newest first: a packet held where an index above 0 is awaited, a refusal where the gap is marked, as many subframe ends as its
--- age, and the 3 that handed its group out
+-- age, and the 3 that handed its group out, unless there is none
+unfoldable pub marksBy : Bool → Bool → Bool → ℕ → List Entry
+marksBy awaits gap none age =
+    cond awaits (answered 1 ∷ []) []
+    ++ (cond gap (answered 32 ∷ []) []
+    ++ cond none [] (replicate age subframe ++ (answered 3 ∷ [])))
+
 unfoldable pub marksOf : Head → List Entry
-marksOf h =
-    cond (ltb 0 (h .awaited)) (answered 1 ∷ []) []
-    ++ (cond (eqb (h .gap) 1) (answered 32 ∷ []) []
-    ++ cond (eqb (h .group) 0) [] (replicate (h .age) subframe ++ (answered 3 ∷ [])))
+marksOf h = marksBy (ltb 0 (h .awaited)) (eqb (h .gap) 1) (eqb (h .group) 0) (h .age)
 
 -- ---- what is shown
 
