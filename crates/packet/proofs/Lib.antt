@@ -2,3 +2,4 @@ pub mod Answers
 pub mod Copying
 pub mod Damages
 pub mod Determined
+pub mod Vectors
