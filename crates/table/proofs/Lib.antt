@@ -4,3 +4,4 @@ pub mod Kept
 pub mod Looking
 pub mod Shows
 pub mod States
+pub mod Vectors
