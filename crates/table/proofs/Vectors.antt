@@ -1,7 +1,8 @@
 -- The table's calls by number: section 6's rows on both sides, in their order, on the started state, on one that is not good, on one that
 -- follows 17, and on one that is full. The numbers are the paper's.
 --
---   started, followed, spoiled, filled n     the states; what they show
+--   spoiled, started, followed, filled n     the states, and what they show
+--   unknown, known, again, full, accepted    what is answered to an address, by its place
 --   starts, ends                  start 20 and 0; subframe end 20, 34 and 0
 --   leaves                        leave 20, 34, 22, 27 and 0
 --   follows-refused               follow 20 and 34, before any other row
@@ -85,28 +86,28 @@ spoiled-not = go (good spoiled) refl
 abbrev pub started : List ℕ
 started = blank stateSize
 
-ok : Passed started
+pub ok : Passed started
 ok = start-shows .passed
 
 -- what is answered to an address by its place
 module _ (s : List ℕ) (f : ℕ → ℕ) (v : Shows s f) (a : ℕ) (t22 : (ltb a 1 || ltb 1022 a) ≡ false) where
-  unknown : slots ≤ place f a → leaveAnswer s a ≡ 27
+  pub unknown : slots ≤ place f a → leaveAnswer s a ≡ 27
   unknown = leave-27 s a (v .passed) t22 (place f a) (find-place s f v a)
 
-  known : place f a < slots → leaveAnswer s a ≡ 0
+  pub known : place f a < slots → leaveAnswer s a ≡ 0
   known = leave-0 s a (v .passed) t22 (place f a) (find-place s f v a)
 
   module _ (p l : ℕ) (t23 : p ≤ 1) (t24 : (ltb l 1 || ltb 1500 l) ≡ false) where
-    again : place f a < slots → followAnswer s a p l ≡ 25
+    pub again : place f a < slots → followAnswer s a p l ≡ 25
     again = follow-25 s a p l (v .passed) t22 t23 t24 (place f a) (find-place s f v a)
 
-    full : slots ≤ place f a → slots ≤ place f 0 → followAnswer s a p l ≡ 26
+    pub full : slots ≤ place f a → slots ≤ place f 0 → followAnswer s a p l ≡ 26
     full absent = follow-26 s a p l (v .passed) t22 t23 t24 (place f a) (find-place s f v a) absent (place f 0) (find-place s f v 0)
 
-    accepted : slots ≤ place f a → place f 0 < slots → followAnswer s a p l ≡ 0
+    pub accepted : slots ≤ place f a → place f 0 < slots → followAnswer s a p l ≡ 0
     accepted absent = follow-0 s a p l (v .passed) t22 t23 t24 (place f a) (find-place s f v a) absent (place f 0) (find-place s f v 0)
 
-abbrev nobody : ℕ → ℕ
+abbrev pub nobody : ℕ → ℕ
 nobody k = 0
 
 pub followed-17 : followAnswer started 17 1 2 ≡ 0
@@ -132,11 +133,11 @@ ends = λ i.
     state-20 empty [] none i ∷ state-34 spoiled [] spoiled-length spoiled-not i ∷ end-done started nobody start-shows i
     ∷ end-done followed one followed-shows i ∷ []
 
-leave-20 : leaveAnswer (blank 11775) 0 ≡ 20
+pub leave-20 : leaveAnswer (blank 11775) 0 ≡ 20
 unfolding leaveAnswer
 leave-20 = state-20 (blank 11775) _ short
 
-leave-34 : leaveAnswer spoiled 0 ≡ 34
+pub leave-34 : leaveAnswer spoiled 0 ≡ 34
 unfolding leaveAnswer
 leave-34 = state-34 spoiled _ spoiled-length spoiled-not
 
