@@ -8,6 +8,7 @@
 --   suffixes        the eleven bits after each of the twelve unit informations
 --   headers-17      address 17, indices 0 to 3
 --   headers         at the edges of address and index
+--   table-entries   six entries of the table of patterns
 --   words           the words of 24 bits, odd parity
 --   words-counted   words of 24 bits in the form that computes, of informations that are small
 --
@@ -18,9 +19,11 @@ use mathlib.Core.List.{List, [], _∷_, map}
 use Prim.Native.Nat.{ℕ, suc, _+_, _*_, _/_, _%_, _^_, _<_}
 use lib.Count.{onesIn}
 use lib.Dec.{T, ltb, ltb→lt}
+use lib.ListN.{getD}
 use Rattle.bits.proofs.Every.{both, both-left, both-right}
 use Rattle.bits.proofs.Flips.{ones-in}
 use Rattle.golay.specs.Code.{less, line, divide, remainder, word23, word24}
+use Rattle.golay.proofs.Rule.{patterns}
 use Rattle.golay.proofs.Words.{word23-lt}
 
 -- ---- the (23,12) code: bits 0 to 9 address, 10 and 11 index, 12 to 22 suffix
@@ -41,6 +44,12 @@ pub headers : (header 1 0 ∷ header 1022 0 ∷ header 1023 0 ∷ header 1023 3 
     ≡ (0x2E3001 ∷ 0x7A43FE ∷ 0x5473FF ∷ 0x7FFFFF ∷ 0x2B8C00 ∷ [])
 unfolding word23 remainder divide line less
 headers = refl
+
+-- the table's pattern of a remainder, whose first bit is weight 1
+pub table-entries : map (λ (r : ℕ). getD patterns r 0) (1 ∷ 2 ∷ 7 ∷ 15 ∷ 0x400 ∷ 0x7FF ∷ [])
+    ≡ (0x001000 ∷ 0x002000 ∷ 0x007000 ∷ 0x200402 ∷ 0x400000 ∷ 0x0080A0 ∷ [])
+unfolding patterns
+table-entries = refl
 
 -- ---- the (24,12) code
 

@@ -8,22 +8,29 @@
 --   typed t             a packet with that type byte
 --   types-answered      00 and 03 are data; 55 is 28, 3F and C7 are 29, F8 is 30, each also with two flips
 --   lengths-answered    no bytes, 93 and 95 bytes are 20
+--   word-answered       a word with four flips is 31
 --
 -- Assumes nothing.
-use mathlib.Core.Path.{_≡_, refl, ap, _∙_}
-use mathlib.Core.Bool.{true, false}
+use mathlib.Core.Path.{_≡_, refl, ap}
+use mathlib.Core.Bool.{true, false, cond}
 use mathlib.Core.List.{List, [], _∷_, map}
-use Prim.Native.Nat.{ℕ}
+use Prim.Native.Nat.{ℕ, suc}
+use native.Mathlib.Omega.{arith}
 use lib.Count.{ones, onesIn}
+use lib.Dec.{leb, ltb, lit<}
 use lib.ListN.{drop}
-use Rattle.bits.specs.Bits.{flips, bitsOf, number, sent, taken}
+use Rattle.bits.specs.Bits.{flips, bitsOf, number, sent, taken, blank}
 use Rattle.bits.specs.Rows.{refusal}
-use Rattle.golay.specs.Code.{less, line, divide, remainder, word23}
+use Rattle.golay.specs.Code.{less, line, divide, remainder, word23, word24, nearest}
 use Rattle.bare.specs.Bare.{typeNear}
+use Rattle.bare.specs.declared.Word.{Word}
+use Rattle.bare.proofs.Theorems.{word-unreadable}
+use Rattle.bare.proofs.Vectors.{zero-far}
 use Rattle.image.specs.Image.{bytesOf, imageOf}
 use Rattle.image.proofs.Vectors as image
+use Rattle.words.specs.Protected.{wordsOf, informations, failed, wordsRead, dataRead}
 use Rattle.words.proofs.Vectors as words
-use Rattle.packet.specs.Received.{typeOf, unreadable, receivedNumber, written}
+use Rattle.packet.specs.Received.{typeOf, usefulOf, unreadable, receivedNumber, written}
 use Rattle.packet.specs.Damage.{sentImage}
 
 pub plain-sent : sentImage false 17 0 image.counting ≡ image.plain
@@ -56,3 +63,15 @@ types-answered = refl
 pub lengths-answered : map (receivedNumber false) ([] ∷ drop 1 image.plain ∷ (0 ∷ image.plain) ∷ image.plain ∷ []) ≡ (20 ∷ 20 ∷ 20 ∷ 0 ∷ [])
 unfolding receivedNumber refusal unreadable typeOf typeNear flips ones onesIn bytesOf taken number bitsOf sent
 lengths-answered = refl
+
+-- ---- 31: the first word is that of 0 with four flips
+
+far : nearest word24 0x80000F ≡ 4096
+far = word-unreadable 0x80000F (lit< tt) (λ e. omega (arith, e, ap (λ (w : Word). w .number) zero-far))
+
+abbrev fourfold : List ℕ
+fourfold = 0x0F ∷ 0x00 ∷ 0x80 ∷ blank 87
+
+pub word-answered : receivedNumber true (written 17 0 0x00 fourfold) ≡ 31
+unfolding receivedNumber refusal unreadable typeOf typeNear flips ones onesIn bytesOf usefulOf dataRead wordsRead wordsOf informations failed written imageOf taken number bitsOf sent blank word23 remainder divide line less
+word-answered = ap (λ (i : ℕ). cond (ltb (cond (leb 4096 i) 0 (suc (failed (informations (blank 29))))) 30) 31 0) far
