@@ -42,14 +42,18 @@ headers-written = refl
 
 -- and read: no flips
 
-abbrev clean : ℕ → ℕ → Header
+abbrev pub clean : ℕ → ℕ → Header
 clean address index = record { number = 0; address = address; index = index; flips = 0 }
+
+pub header-17 : headerRead 0x75F011 ≡ clean 17 0
+unfolding headerWritten refusal given word23 remainder divide line less
+header-17 = header-back 17 0 (lit≤ tt) (lit≤ tt)
 
 pub headers-read : map headerRead (0x75F011 ∷ 0x096411 ∷ 0x22E811 ∷ 0x5E7C11 ∷ 0x2E3001 ∷ 0x7A43FE ∷ 0x5473FF ∷ 0x7FFFFF ∷ 0x2B8C00 ∷ [])
     ≡ (clean 17 0 ∷ clean 17 1 ∷ clean 17 2 ∷ clean 17 3 ∷ clean 1 0 ∷ clean 1022 0 ∷ clean 1023 0 ∷ clean 1023 3 ∷ clean 0 3 ∷ [])
 unfolding headerWritten refusal given word23 remainder divide line less
 headers-read = λ i.
-    header-back 17 0 (lit≤ tt) (lit≤ tt) i ∷ header-back 17 1 (lit≤ tt) (lit≤ tt) i ∷ header-back 17 2 (lit≤ tt) (lit≤ tt) i ∷ header-back 17 3 (lit≤ tt) (lit≤ tt) i
+    header-17 i ∷ header-back 17 1 (lit≤ tt) (lit≤ tt) i ∷ header-back 17 2 (lit≤ tt) (lit≤ tt) i ∷ header-back 17 3 (lit≤ tt) (lit≤ tt) i
     ∷ header-back 1 0 (lit≤ tt) (lit≤ tt) i ∷ header-back 1022 0 (lit≤ tt) (lit≤ tt) i ∷ header-back 1023 0 (lit≤ tt) (lit≤ tt) i
     ∷ header-back 1023 3 (lit≤ tt) (lit≤ tt) i ∷ header-back 0 3 (lit≤ tt) (lit≤ tt) i ∷ []
 

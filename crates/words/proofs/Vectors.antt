@@ -5,21 +5,23 @@
 --   counting        the bytes 0, 1, .. 44
 --   useful          the ninety bytes that carry them
 --   counting-useful so they are protected
+--   protected-counted    protected bytes in the form that computes
 --   zeros-useful    and a packet of zeros is 00 00 80, 00 00 80, ..: odd parity
 --
 -- Assumes nothing.
 use mathlib.Core.Path.{_≡_, ap}
-use mathlib.Core.List.{List, [], _∷_}
+use mathlib.Core.List.{List, [], _∷_, map}
 use Prim.Native.Nat.{ℕ}
 use lib.Count.{onesIn}
+use lib.Dec.{T}
 use lib.ListN.{take}
 use Rattle.bits.specs.Bits.{bitsOf, number, sent, taken, blank}
 use Rattle.golay.specs.Code.{less, line, divide, remainder, word23}
-use Rattle.golay.proofs.Vectors.{words-counted}
+use Rattle.golay.proofs.Vectors.{counted, small, words-counted}
 use Rattle.words.specs.Protected.{protected}
 
 -- the thirty informations of 45 bytes
-abbrev segments : List ℕ → List ℕ
+abbrev pub segments : List ℕ → List ℕ
 segments bytes = taken 12 30 (sent 8 bytes)
 
 abbrev pub counting : List ℕ
@@ -36,10 +38,14 @@ useful =
     0x62 ∷ 0xC7 ∷ 0x21 ∷ 0xD2 ∷ 0x5E ∷ 0x32 ∷ 0x42 ∷ 0x77 ∷ 0x24 ∷ 0x65 ∷ 0x10 ∷ 0x62 ∷ 0xE2 ∷ 0x9F ∷ 0x27 ∷ 0x08 ∷
     0xAA ∷ 0x92 ∷ 0x32 ∷ 0x08 ∷ 0x2A ∷ 0xCB ∷ 0xB5 ∷ 0xC2 ∷ 0x92 ∷ 0xE0 ∷ []
 
+pub protected-counted : (bytes : List ℕ) → T (small (segments bytes)) → protected bytes ≡ taken 8 90 (sent 24 (map counted (segments bytes)))
+unfolding protected
+protected-counted bytes t = ap (λ (ns : List ℕ). taken 8 90 (sent 24 ns)) (words-counted (segments bytes) t)
+
 pub counting-useful : protected counting ≡ useful
-unfolding protected taken number bitsOf sent word23 remainder divide line less onesIn
-counting-useful = ap (λ (ns : List ℕ). taken 8 90 (sent 24 ns)) (words-counted (segments counting) tt)
+unfolding taken number bitsOf sent word23 remainder divide line less onesIn
+counting-useful = protected-counted counting tt
 
 pub zeros-useful : take 9 (protected (blank 45)) ≡ (0x00 ∷ 0x00 ∷ 0x80 ∷ 0x00 ∷ 0x00 ∷ 0x80 ∷ 0x00 ∷ 0x00 ∷ 0x80 ∷ [])
-unfolding protected taken number bitsOf sent blank word23 remainder divide line less onesIn
-zeros-useful = ap (λ (ns : List ℕ). take 9 (taken 8 90 (sent 24 ns))) (words-counted (segments (blank 45)) tt)
+unfolding taken number bitsOf sent blank word23 remainder divide line less onesIn
+zeros-useful = ap (take 9) (protected-counted (blank 45) tt)
