@@ -42,7 +42,7 @@ groups = refl
 
 -- ---- the rows
 
-refused : (s : List ℕ) (a r : ℕ) → leaveAnswer s a ≡ r → (r ≡ 0 → ⊥) → asked s a ≡ bare r
+pub refused : (s : List ℕ) (a r : ℕ) → leaveAnswer s a ≡ r → (r ≡ 0 → ⊥) → asked s a ≡ bare r
 refused s a r e ne = sym (asked-refused s a r (sym e) ne)
 
 -- followed, and no group yet
