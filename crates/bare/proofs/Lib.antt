@@ -3,3 +3,4 @@ pub mod Determined
 pub mod Edges
 pub mod Theorems
 pub mod Types
+pub mod Vectors

@@ -1,3 +1,4 @@
 pub mod Boards
+pub mod Determined
 pub mod Fed
 pub mod Fields

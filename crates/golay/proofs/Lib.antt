@@ -3,4 +3,5 @@ pub mod Division
 pub mod Nearest
 pub mod Reading
 pub mod Rule
+pub mod Vectors
 pub mod Words

@@ -3,3 +3,4 @@ pub mod Copying
 pub mod Damages
 pub mod Determined
 pub mod Flipped
+pub mod Vectors

@@ -3,6 +3,7 @@ ghost use mathlib.Core.Path.{_≡_};
 ghost use Prim.Native.Nat.{_+_, _≤_};
 ghost use lib.ListN.{length};
 ghost use Rattle.records.specs.Format.{twoAt, bodySize, goodHead, stepAt};
+use image::Packet;
 
 pub mod reading;
 
@@ -32,8 +33,6 @@ impl Format {
 
     pub const ASK: u8 = 5;
 
-    pub const LONGEST: usize = Self::HEAD + 94;
-
     pub const NONE: usize = 65536;
 }
 
@@ -50,7 +49,7 @@ pub fn body_size(kind: u8) -> usize
     ensures { λ r. ⌜ r ≡ bodySize kind ⌝ }
 {
     if kind == Format::PACKET {
-        return 94;
+        return Packet::IMAGE;
     }
     if kind == Format::SUBFRAME_END {
         return 0;

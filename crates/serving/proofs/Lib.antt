@@ -1,3 +1,4 @@
 pub mod Cutting
 pub mod Determined
 pub mod Laws
+pub mod Vectors

@@ -1,0 +1,171 @@
+-- The packet call and the group writer by number: section 6's rows on both sides, what a slot that follows 17 answers, and the writer's four
+-- images. The images' first bytes were made by two programs apart from this one; the answers are the paper's.
+--
+--   writes            22 before 23 before 20; addresses 1 and 1,022 pass; messages of 360 and 180 bytes, an output of 376
+--   message, images-begin     the message 0, 1, .. 179, and the first six bytes of its four images
+--   packets           20 before 34 before 21 before 27
+--   arrived           what a packet is answered that is read as 17 where 17 is followed, protected
+--   answers, starts   28, 29, 29, 30 by the type; 1 for a data packet with index 0
+--
+-- Assumes nothing.
+use mathlib.Core.Path.{_≡_, refl, sym, ap, _∙_, subst}
+use mathlib.Core.Bool.{true, not}
+use mathlib.Core.List.{List, [], _∷_, _++_, map}
+use Prim.Native.Nat.{ℕ, _<_}
+use native.Mathlib.Omega.{arith}
+use lib.Count.{ones, onesIn}
+use lib.Dec.{eqb, lit<, lit≤}
+use lib.ListN.{length, take, drop}
+use Rattle.bits.specs.Bits.{flips, bitsOf, number, sent, taken}
+use Rattle.bits.specs.Rows.{refusal, further}
+use Rattle.bits.specs.Search.{first}
+use Rattle.bits.proofs.Rows.{refusal-miss}
+use Rattle.bits.proofs.Runs.{Below, sent-below, taken-below}
+use Rattle.golay.specs.Code.{less, line, divide, remainder, word23}
+use Rattle.bare.specs.Bare.{headerRead, typeNear}
+use Rattle.bare.specs.declared.Header.{Header}
+use Rattle.bare.proofs.Vectors.{header-17}
+use Rattle.image.specs.Image.{headerOf, bytesOf, spareOf, imageOf}
+use Rattle.image.proofs.Vectors as image
+use Rattle.words.proofs.Vectors as words
+use Rattle.packet.specs.Received.{typeOf, receivedNumber, received, partAs, written}
+use Rattle.packet.specs.declared.Reading.{Reading}
+use Rattle.packet.proofs.Damages.{received-sent}
+use Rattle.packet.proofs.Vectors.{shielded, shielded-sent}
+use Rattle.slot.specs.Part.{part}
+use Rattle.slot.specs.Slot.{headOf}
+use Rattle.slot.specs.Head.{newHead}
+use Rattle.slot.specs.Move.{moveOf, moveNumber}
+use Rattle.slot.specs.declared.Head.{Head}
+use Rattle.table.specs.State.{slots, slotAt, find}
+use Rattle.table.proofs.Looking.{state-34}
+use Rattle.table.proofs.Shows.{start-shows, find-place, follow-head, end-done}
+use Rattle.table.proofs.Vectors.{spoiled, spoiled-length, spoiled-not, started, ok, nobody, followed, followed-17, followed-shows, one}
+use Rattle.group.specs.Group.{takenNumber}
+use Rattle.adapter.specs.Calls as calls
+use Rattle.adapter.proofs.Arriving.{image-0, image-placed, place-27}
+use Rattle.adapter.proofs.Laws.{both-followed, Placed, placed-zero, size-refused, spare-refused, packet-refused, packet-placed}
+
+-- ---- the writer, by the lengths of message and output
+
+pub writes : (calls.writeAnswer 0 2 0 0 ∷ calls.writeAnswer 1023 2 0 0 ∷ calls.writeAnswer 1 2 0 0 ∷ calls.writeAnswer 1022 2 0 0
+    ∷ calls.writeAnswer 17 0 359 376 ∷ calls.writeAnswer 17 0 361 376 ∷ calls.writeAnswer 17 0 180 376 ∷ calls.writeAnswer 17 1 179 376
+    ∷ calls.writeAnswer 17 1 181 376 ∷ calls.writeAnswer 17 1 360 376 ∷ calls.writeAnswer 17 1 180 375 ∷ calls.writeAnswer 17 1 180 377
+    ∷ calls.writeAnswer 1 0 360 376 ∷ calls.writeAnswer 1022 1 180 376 ∷ [])
+    ≡ (22 ∷ 22 ∷ 23 ∷ 23 ∷ 20 ∷ 20 ∷ 20 ∷ 20 ∷ 20 ∷ 20 ∷ 20 ∷ 20 ∷ 0 ∷ 0 ∷ [])
+unfolding calls.writeAnswer refusal
+writes = refl
+
+abbrev pub message : List ℕ
+message =
+    0 ∷ 1 ∷ 2 ∷ 3 ∷ 4 ∷ 5 ∷ 6 ∷ 7 ∷ 8 ∷ 9 ∷ 10 ∷ 11 ∷ 12 ∷ 13 ∷ 14 ∷ 15 ∷ 16 ∷ 17 ∷ 18 ∷ 19 ∷ 20 ∷ 21 ∷ 22 ∷ 23 ∷
+    24 ∷ 25 ∷ 26 ∷ 27 ∷ 28 ∷ 29 ∷ 30 ∷ 31 ∷ 32 ∷ 33 ∷ 34 ∷ 35 ∷ 36 ∷ 37 ∷ 38 ∷ 39 ∷ 40 ∷ 41 ∷ 42 ∷ 43 ∷ 44 ∷ 45 ∷
+    46 ∷ 47 ∷ 48 ∷ 49 ∷ 50 ∷ 51 ∷ 52 ∷ 53 ∷ 54 ∷ 55 ∷ 56 ∷ 57 ∷ 58 ∷ 59 ∷ 60 ∷ 61 ∷ 62 ∷ 63 ∷ 64 ∷ 65 ∷ 66 ∷ 67 ∷
+    68 ∷ 69 ∷ 70 ∷ 71 ∷ 72 ∷ 73 ∷ 74 ∷ 75 ∷ 76 ∷ 77 ∷ 78 ∷ 79 ∷ 80 ∷ 81 ∷ 82 ∷ 83 ∷ 84 ∷ 85 ∷ 86 ∷ 87 ∷ 88 ∷ 89 ∷
+    90 ∷ 91 ∷ 92 ∷ 93 ∷ 94 ∷ 95 ∷ 96 ∷ 97 ∷ 98 ∷ 99 ∷ 100 ∷ 101 ∷ 102 ∷ 103 ∷ 104 ∷ 105 ∷ 106 ∷ 107 ∷ 108 ∷ 109 ∷
+    110 ∷ 111 ∷ 112 ∷ 113 ∷ 114 ∷ 115 ∷ 116 ∷ 117 ∷ 118 ∷ 119 ∷ 120 ∷ 121 ∷ 122 ∷ 123 ∷ 124 ∷ 125 ∷ 126 ∷ 127 ∷ 128 ∷
+    129 ∷ 130 ∷ 131 ∷ 132 ∷ 133 ∷ 134 ∷ 135 ∷ 136 ∷ 137 ∷ 138 ∷ 139 ∷ 140 ∷ 141 ∷ 142 ∷ 143 ∷ 144 ∷ 145 ∷ 146 ∷ 147 ∷
+    148 ∷ 149 ∷ 150 ∷ 151 ∷ 152 ∷ 153 ∷ 154 ∷ 155 ∷ 156 ∷ 157 ∷ 158 ∷ 159 ∷ 160 ∷ 161 ∷ 162 ∷ 163 ∷ 164 ∷ 165 ∷ 166 ∷
+    167 ∷ 168 ∷ 169 ∷ 170 ∷ 171 ∷ 172 ∷ 173 ∷ 174 ∷ 175 ∷ 176 ∷ 177 ∷ 178 ∷ 179 ∷ []
+
+-- the first six bytes of the image of useful bytes
+abbrev computed : ℕ → List ℕ → List ℕ
+computed i useful = take 6 (written 17 i 0x00 useful)
+
+pub images-begin : map (λ (i : ℕ). take 6 (calls.packetOf true 17 message i)) (0 ∷ 1 ∷ 2 ∷ 3 ∷ [])
+    ≡ ((0x11 ∷ 0xF0 ∷ 0x75 ∷ 0x00 ∷ 0x80 ∷ 0xD8 ∷ [])
+    ∷ (0x11 ∷ 0x64 ∷ 0x09 ∷ 0x80 ∷ 0x16 ∷ 0x27 ∷ [])
+    ∷ (0x11 ∷ 0xE8 ∷ 0x22 ∷ 0x00 ∷ 0xAD ∷ 0x6D ∷ [])
+    ∷ (0x11 ∷ 0x7C ∷ 0x5E ∷ 0x80 ∷ 0x43 ∷ 0xBC ∷ [])
+    ∷ [])
+unfolding calls.packetOf part written imageOf taken number bitsOf sent word23 remainder divide line less onesIn
+images-begin = λ j.
+    computed 0 (words.protected-counted (part 0 45 message) tt j) ∷ computed 1 (words.protected-counted (part 45 45 message) tt j)
+    ∷ computed 2 (words.protected-counted (part 90 45 message) tt j) ∷ computed 3 (words.protected-counted (part 135 45 message) tt j) ∷ []
+
+-- ---- packets: the rows before a slot
+
+-- the plain image with its spare bit set
+abbrev marked : List ℕ
+marked = take 93 image.plain ++ (0xAC ∷ [])
+
+marked-spare : spareOf marked ≡ 1
+unfolding spareOf number sent bitsOf
+marked-spare = refl
+
+refused : (s image : List ℕ) (n : ℕ) → calls.unplaced s image ≡ n → (n ≡ 0 → ⊥) → calls.packetAnswer s image ≡ n
+refused s image n e ne = packet-refused s image (λ z. ne (sym e ∙ z)) .0 ∙ e
+
+spoiled-34 : calls.unplaced spoiled marked ≡ 34
+unfolding calls.unplaced
+spoiled-34 = refusal-miss (not (eqb (length marked) 94)) 20 _ refl ∙ state-34 spoiled _ spoiled-length spoiled-not
+
+-- read as 17
+address-17 : (image : List ℕ) → headerOf image ≡ 0x75F011 → calls.addressOf image ≡ 17
+unfolding calls.addressOf
+address-17 image e = ap (λ (n : ℕ). headerRead n .address) e ∙ ap (λ (h : Header). h .address) header-17
+
+unfollowed : calls.packetAnswer started image.plain ≡ 27
+unfolding first
+unfollowed =
+    let none = image-0 started image.plain refl 0 (sym (end-done started nobody start-shows)) refl 0 (sym image.plain-spare) (λ q. omega (arith, q)) in
+    let away = place-27 started image.plain 17 16 (sym (address-17 image.plain image.plain-header)) (find-place started nobody start-shows 17) refl in
+    sym (image-placed started image.plain 0 none 27 started refl away .0)
+
+pub packets : (calls.packetAnswer started [] ∷ calls.packetAnswer spoiled (drop 1 image.plain) ∷ calls.packetAnswer spoiled marked
+    ∷ calls.packetAnswer started marked ∷ calls.packetAnswer started image.plain ∷ [])
+    ≡ (20 ∷ 20 ∷ 34 ∷ 21 ∷ 27 ∷ [])
+packets = λ i.
+    refused started [] 20 (size-refused started [] (λ q. omega (arith, q))) (λ q. omega (arith, q)) i
+    ∷ refused spoiled (drop 1 image.plain) 20 (size-refused spoiled (drop 1 image.plain) (λ q. omega (arith, q))) (λ q. omega (arith, q)) i
+    ∷ refused spoiled marked 34 spoiled-34 (λ q. omega (arith, q)) i
+    ∷ refused started marked 21 (spare-refused started marked refl ok marked-spare) (λ q. omega (arith, q)) i
+    ∷ unfollowed i ∷ []
+
+-- ---- packets at the slot that follows 17, protected, and awaits 0
+
+module _ (image : List ℕ) (l : length image ≡ 94) (h : headerOf image ≡ 0x75F011) (spare : spareOf image ≡ 0) where
+  found : find followed (calls.addressOf image) ≡ 0
+  unfolding first
+  found = ap (find followed) (address-17 image h) ∙ sym (find-place followed one followed-shows 17)
+
+  here : Placed followed image
+  here = record {
+    size = l;
+    state = followed-shows .passed;
+    spare = ap (λ (n : ℕ). eqb n 1) spare;
+    place = both-followed followed (calls.addressOf image) (subst (λ (a : ℕ). 0 < a) (sym (address-17 image h)) (lit< tt))
+        (subst (λ (k : ℕ). k < slots) (sym found) (lit< tt));
+  }
+
+  head : headOf (slotAt (find followed (calls.addressOf image)) followed) ≡ newHead 17 1 2
+  unfolding first
+  head = ap (λ (k : ℕ). headOf (slotAt k followed)) found ∙ follow-head started nobody start-shows 17 1 2 followed-17
+
+  pub arrived : calls.packetAnswer followed image ≡ takenNumber (received true image) (newHead 17 1 2)
+  unfolding calls.slotAnswer calls.readingAt
+  arrived =
+      packet-placed followed image (placed-zero followed image here) .0
+      ∙ ap (λ (x : Head). takenNumber (received (eqb (x .protection) 1) image) x) head
+
+abbrev typed : ℕ → List ℕ
+typed t = written 17 0 t image.counting
+
+pub answers : map (λ (t : ℕ). calls.packetAnswer followed (typed t)) (0x55 ∷ 0x3F ∷ 0xC7 ∷ 0xF8 ∷ []) ≡ (28 ∷ 29 ∷ 29 ∷ 30 ∷ [])
+unfolding takenNumber received receivedNumber refusal further typeOf typeNear flips ones onesIn headerOf bytesOf spareOf written imageOf taken number bitsOf sent word23 remainder divide line less
+answers = λ i.
+    arrived (typed 0x55) refl refl refl i ∷ arrived (typed 0x3F) refl refl refl i ∷ arrived (typed 0xC7) refl refl refl i
+    ∷ arrived (typed 0xF8) refl refl refl i ∷ []
+
+-- ---- a data packet with index 0 starts a group
+
+bytes : Below 256 words.counting
+unfolding taken number bitsOf sent
+bytes = taken-below 8 45 (sent 8 words.counting) (sent-below 8 words.counting)
+
+shielded-read : received true shielded ≡ partAs 0 words.counting
+shielded-read = ap (received true) (sym shielded-sent) ∙ received-sent true 17 0 words.counting (lit≤ tt) (lit≤ tt) refl bytes
+
+pub starts : calls.packetAnswer followed shielded ≡ 1
+unfolding takenNumber further moveOf moveNumber headerOf spareOf number sent bitsOf
+starts = arrived shielded refl refl refl ∙ ap (λ (r : Reading). takenNumber r (newHead 17 1 2)) shielded-read

@@ -1,0 +1,258 @@
+-- The table's calls by number: section 6's rows on both sides, in their order, on the started state, on one that is not good, on one that
+-- follows 17, and on one that is full. The numbers are the paper's.
+--
+--   spoiled, started, followed, filled n     the states, and what they show
+--   unknown, known, again, full, accepted    what is answered to an address, by its place
+--   starts, ends                  start 20 and 0; subframe end 20, 34 and 0
+--   leaves                        leave 20, 34, 22, 27 and 0
+--   follows-refused               follow 20 and 34, before any other row
+--   follows                       22 before 23 before 24 where several hold; addresses 1 and 1,022, limits 1 and 1,500 pass
+--   follows-again                 24 before 25; another address passes
+--   follows-full                  the seventeenth: 26, and 25 before it; it passes after a leave
+--
+-- Assumes nothing.
+use mathlib.Core.Path.{_≡_, refl, sym, ap, ap₂, _∙_, subst}
+use mathlib.Core.Bool.{Bool, true, false, cond, _||_}
+use mathlib.Core.List.{List, [], _∷_}
+use Prim.Native.Nat.{ℕ, zero, suc, _≤_, _<_}
+use native.Mathlib.Omega.{arith}
+use native.Mathlib.Decide.{ℕ-discrete, decLt}
+use borrow.Author.Tests.{eq-eqb, ne-eqb, lt-ltb, le-ltb}
+use lib.Dec.{T, leb, ltb, eqb, leb→le, eqb→eq, lit<, lit≤}
+use lib.ListN.{length, take, drop}
+use Rattle.bits.specs.Bits.{blank}
+use Rattle.bits.specs.Rows.{refusal}
+use Rattle.bits.specs.Search.{first}
+use Rattle.bits.proofs.Every.{both, both-left, both-right, every, every-at}
+use Rattle.bits.proofs.Storing.{blank-length}
+use Rattle.slot.specs.Part.{part}
+use Rattle.slot.specs.Slot.{fourAt, headOf}
+use Rattle.slot.specs.Head.{free, goodHead, goodSlot}
+use Rattle.table.specs.State.{slots, stateSize, slotAt, find, good}
+use Rattle.table.specs.Calls.{startAnswer, followAnswer, followAfter, leaveAnswer, leaveAfter, endAnswer}
+use Rattle.table.proofs.Doing.{start-refused, start-passed}
+use Rattle.table.proofs.Kept.{part-blank}
+use Rattle.table.proofs.Looking.{Passed, state-20, state-34, leave-22, leave-27, leave-0, follow-22, follow-23, follow-24, follow-25, follow-26, follow-0}
+use Rattle.table.proofs.Shows.{Shows, place, with, find-place, start-shows, follow-shows, leave-shows, end-done}
+use Rattle.table.proofs.States.{good-each}
+
+-- ---- 20: a state of none, of 11,775 and of 11,777 bytes
+
+wrong : (n : ℕ) → (n ≡ stateSize → ⊥) → length (blank n) ≡ stateSize → ⊥
+wrong n ne e = ne (sym (blank-length n) ∙ e)
+
+abbrev empty : List ℕ
+empty = []
+
+none : length empty ≡ stateSize → ⊥
+none q = omega (arith, q)
+
+short : length (blank 11775) ≡ stateSize → ⊥
+short = wrong 11775 (λ q. omega (arith, q))
+
+long : length (blank 11777) ≡ stateSize → ⊥
+long = wrong 11777 (λ q. omega (arith, q))
+
+pub starts : (startAnswer empty ∷ startAnswer (blank 11775) ∷ startAnswer (blank 11777) ∷ startAnswer (blank 11776) ∷ []) ≡ (20 ∷ 20 ∷ 20 ∷ 0 ∷ [])
+starts = λ i.
+    sym (start-refused empty none) i ∷ sym (start-refused (blank 11775) short) i ∷ sym (start-refused (blank 11777) long) i
+    ∷ sym (start-passed (blank 11776) (blank-length 11776)) i ∷ []
+
+-- ---- 34: a byte that is not 0 in a slot without an address
+
+abbrev pub spoiled : List ℕ
+spoiled = 1 ∷ blank 11775
+
+pub spoiled-length : length spoiled ≡ stateSize
+spoiled-length = ap suc (blank-length 11775)
+
+spoiled-slot : slotAt 0 spoiled ≡ 1 ∷ blank 735
+unfolding slotAt part
+spoiled-slot = ap (λ (x : List ℕ). 1 ∷ x) (part-blank 0 735 11775 (lit≤ tt))
+
+spoiled-bad : goodSlot (1 ∷ blank 735) ≡ false
+unfolding goodSlot free goodHead headOf fourAt blank
+spoiled-bad = refl
+
+pub spoiled-not : good spoiled ≡ false
+spoiled-not = go (good spoiled) refl
+  where
+    go : (b : Bool) → good spoiled ≡ b → good spoiled ≡ false
+    go true q = absurd (subst T (sym (good-each spoiled q .slot 0 (lit< tt)) ∙ ap goodSlot spoiled-slot ∙ spoiled-bad) tt)
+    go false q = q
+
+-- ---- the started state, and one that follows 17
+
+abbrev pub started : List ℕ
+started = blank stateSize
+
+pub ok : Passed started
+ok = start-shows .passed
+
+-- what is answered to an address by its place
+module _ (s : List ℕ) (f : ℕ → ℕ) (v : Shows s f) (a : ℕ) (t22 : (ltb a 1 || ltb 1022 a) ≡ false) where
+  pub unknown : slots ≤ place f a → leaveAnswer s a ≡ 27
+  unknown = leave-27 s a (v .passed) t22 (place f a) (find-place s f v a)
+
+  pub known : place f a < slots → leaveAnswer s a ≡ 0
+  known = leave-0 s a (v .passed) t22 (place f a) (find-place s f v a)
+
+  module _ (p l : ℕ) (t23 : p ≤ 1) (t24 : (ltb l 1 || ltb 1500 l) ≡ false) where
+    pub again : place f a < slots → followAnswer s a p l ≡ 25
+    again = follow-25 s a p l (v .passed) t22 t23 t24 (place f a) (find-place s f v a)
+
+    pub full : slots ≤ place f a → slots ≤ place f 0 → followAnswer s a p l ≡ 26
+    full absent = follow-26 s a p l (v .passed) t22 t23 t24 (place f a) (find-place s f v a) absent (place f 0) (find-place s f v 0)
+
+    pub accepted : slots ≤ place f a → place f 0 < slots → followAnswer s a p l ≡ 0
+    accepted absent = follow-0 s a p l (v .passed) t22 t23 t24 (place f a) (find-place s f v a) absent (place f 0) (find-place s f v 0)
+
+abbrev pub nobody : ℕ → ℕ
+nobody k = 0
+
+pub followed-17 : followAnswer started 17 1 2 ≡ 0
+unfolding first
+followed-17 = accepted started nobody start-shows 17 refl 1 2 (lit≤ tt) refl (lit≤ tt) (lit< tt)
+
+abbrev pub followed : List ℕ
+followed = followAfter started 17 1 2
+
+-- slot 0 has address 17, the others none
+abbrev pub one : ℕ → ℕ
+one = with nobody 0 17
+
+pub followed-shows : Shows followed one
+unfolding first
+followed-shows = follow-shows started nobody start-shows 17 1 2 followed-17
+
+-- ---- subframe end, leave
+
+pub ends : (endAnswer empty ∷ endAnswer spoiled ∷ endAnswer started ∷ endAnswer followed ∷ []) ≡ (20 ∷ 34 ∷ 0 ∷ 0 ∷ [])
+unfolding endAnswer
+ends = λ i.
+    state-20 empty [] none i ∷ state-34 spoiled [] spoiled-length spoiled-not i ∷ end-done started nobody start-shows i
+    ∷ end-done followed one followed-shows i ∷ []
+
+pub leave-20 : leaveAnswer (blank 11775) 0 ≡ 20
+unfolding leaveAnswer
+leave-20 = state-20 (blank 11775) _ short
+
+pub leave-34 : leaveAnswer spoiled 0 ≡ 34
+unfolding leaveAnswer
+leave-34 = state-34 spoiled _ spoiled-length spoiled-not
+
+pub leaves : (leaveAnswer (blank 11775) 0 ∷ leaveAnswer spoiled 0 ∷ leaveAnswer started 0 ∷ leaveAnswer started 1023 ∷ leaveAnswer started 1
+    ∷ leaveAnswer started 1022 ∷ leaveAnswer followed 18 ∷ leaveAnswer followed 17 ∷ [])
+    ≡ (20 ∷ 34 ∷ 22 ∷ 22 ∷ 27 ∷ 27 ∷ 27 ∷ 0 ∷ [])
+unfolding first
+leaves = λ i.
+    leave-20 i ∷ leave-34 i ∷ leave-22 started 0 ok refl i ∷ leave-22 started 1023 ok refl i
+    ∷ unknown started nobody start-shows 1 refl (lit≤ tt) i ∷ unknown started nobody start-shows 1022 refl (lit≤ tt) i
+    ∷ unknown followed one followed-shows 18 refl (lit≤ tt) i ∷ known followed one followed-shows 17 refl (lit< tt) i ∷ []
+
+-- ---- follow
+
+follow-20 : (s : List ℕ) (a p l : ℕ) → (length s ≡ stateSize → ⊥) → followAnswer s a p l ≡ 20
+unfolding followAnswer
+follow-20 s a p l = state-20 s _
+
+follow-34 : (a p l : ℕ) → followAnswer spoiled a p l ≡ 34
+unfolding followAnswer
+follow-34 a p l = state-34 spoiled _ spoiled-length spoiled-not
+
+pub follows-refused : (followAnswer empty 0 2 0 ∷ followAnswer (blank 11775) 17 1 2 ∷ followAnswer (blank 11777) 17 1 2
+    ∷ followAnswer spoiled 0 2 0 ∷ []) ≡ (20 ∷ 20 ∷ 20 ∷ 34 ∷ [])
+follows-refused = λ i.
+    follow-20 empty 0 2 0 none i ∷ follow-20 (blank 11775) 17 1 2 short i ∷ follow-20 (blank 11777) 17 1 2 long i ∷ follow-34 0 2 0 i ∷ []
+
+pub follows : (followAnswer started 0 2 0 ∷ followAnswer started 1023 2 0 ∷ followAnswer started 1 2 0 ∷ followAnswer started 1022 2 0
+    ∷ followAnswer started 17 1 0 ∷ followAnswer started 17 1 1501 ∷ followAnswer started 1 0 1 ∷ followAnswer started 1022 1 1500 ∷ [])
+    ≡ (22 ∷ 22 ∷ 23 ∷ 23 ∷ 24 ∷ 24 ∷ 0 ∷ 0 ∷ [])
+unfolding first
+follows = λ i.
+    follow-22 started 0 2 0 ok refl i ∷ follow-22 started 1023 2 0 ok refl i
+    ∷ follow-23 started 1 2 0 ok refl (lit< tt) i ∷ follow-23 started 1022 2 0 ok refl (lit< tt) i
+    ∷ follow-24 started 17 1 0 ok refl (lit≤ tt) refl i ∷ follow-24 started 17 1 1501 ok refl (lit≤ tt) refl i
+    ∷ accepted started nobody start-shows 1 refl 0 1 (lit≤ tt) refl (lit≤ tt) (lit< tt) i
+    ∷ accepted started nobody start-shows 1022 refl 1 1500 (lit≤ tt) refl (lit≤ tt) (lit< tt) i ∷ []
+
+pub follows-again : (followAnswer followed 17 1 0 ∷ followAnswer followed 17 1 2 ∷ followAnswer followed 18 1 2 ∷ []) ≡ (24 ∷ 25 ∷ 0 ∷ [])
+unfolding first
+follows-again = λ i.
+    follow-24 followed 17 1 0 (followed-shows .passed) refl (lit≤ tt) refl i
+    ∷ again followed one followed-shows 17 refl 1 2 (lit≤ tt) refl (lit< tt) i
+    ∷ accepted followed one followed-shows 18 refl 1 2 (lit≤ tt) refl (lit≤ tt) (lit< tt) i ∷ []
+
+-- ---- a full table: addresses 1 to 16
+
+unfoldable pub filled : ℕ → List ℕ
+filled zero = started
+filled (suc n) = followAfter (filled n) (suc n) 1 2
+
+abbrev first-of : ℕ → ℕ → ℕ
+first-of n k = cond (ltb k n) (suc k) 0
+
+-- the next address is not followed yet, and the lowest free slot is the next
+abbrev next : ℕ → Bool
+next n = both (leb slots (place (first-of n) (suc n))) (eqb (place (first-of n) 0) n)
+
+all-next : T (every next 4 0)
+unfolding first
+all-next = tt
+
+filled-next : (n : ℕ) → n < slots → T (next n)
+filled-next = every-at next 4 all-next
+
+first-more : (n k : ℕ) → with (first-of n) n (suc n) k ≡ first-of (suc n) k
+first-more n k = go (ℕ-discrete k n) (decLt k n)
+  where
+    go : Dec (k ≡ n) → Dec (k < n) → with (first-of n) n (suc n) k ≡ first-of (suc n) k
+    go (yes e) l =
+        ap (λ (b : Bool). cond b (suc n) (first-of n k)) (eq-eqb k n e) ∙ ap suc (sym e)
+        ∙ sym (ap (λ (b : Bool). cond b (suc k) 0) (lt-ltb k (suc n) (omega arith)))
+    go (no e) (yes l) =
+        ap (λ (b : Bool). cond b (suc n) (first-of n k)) (ne-eqb k n e) ∙ ap (λ (b : Bool). cond b (suc k) 0) (lt-ltb k n l)
+        ∙ sym (ap (λ (b : Bool). cond b (suc k) 0) (lt-ltb k (suc n) (omega arith)))
+    go (no e) (no l) =
+        ap (λ (b : Bool). cond b (suc n) (first-of n k)) (ne-eqb k n e) ∙ ap (λ (b : Bool). cond b (suc k) 0) (le-ltb k n (omega arith))
+        ∙ sym (ap (λ (b : Bool). cond b (suc k) 0) (le-ltb k (suc n) (omega (arith, e, l))))
+
+pub filled-accepted : (n : ℕ) → n < slots → Shows (filled n) (first-of n) → followAnswer (filled n) (suc n) 1 2 ≡ 0
+filled-accepted n h v =
+    let t = filled-next n h in
+    let a = leb slots (place (first-of n) (suc n)) in
+    let b = eqb (place (first-of n) 0) n in
+    let at : place (first-of n) 0 ≡ n = eqb→eq (place (first-of n) 0) n (both-right a b t) in
+    accepted (filled n) (first-of n) v (suc n) (inside n h) 1 2 (lit≤ tt) refl
+    (leb→le slots (place (first-of n) (suc n)) (both-left a b t)) (subst (λ (i : ℕ). i < slots) (sym at) h)
+  where
+    inside : (n : ℕ) → n < slots → (ltb (suc n) 1 || ltb 1022 (suc n)) ≡ false
+    inside n h = ap₂ (λ (x y : Bool). x || y) (le-ltb (suc n) 1 (omega arith)) (le-ltb 1022 (suc n) (omega arith))
+
+pub filled-shows : (n : ℕ) → n ≤ slots → Shows (filled n) (first-of n)
+unfolding filled
+filled-shows zero h = record {
+  passed = ok;
+  each = λ k hk. start-shows .each k hk ∙ sym (ap (λ (b : Bool). cond b (suc k) 0) (le-ltb k 0 (omega arith)));
+}
+filled-shows (suc n) h =
+    let v = filled-shows n (omega arith) in
+    let t = filled-next n (omega arith) in
+    let at : place (first-of n) 0 ≡ n = eqb→eq (place (first-of n) 0) n (both-right (leb slots (place (first-of n) (suc n))) (eqb (place (first-of n) 0) n) t) in
+    let w = follow-shows (filled n) (first-of n) v (suc n) 1 2 (filled-accepted n (omega arith) v) in
+    record {
+      passed = w .passed;
+      each = λ k hk. w .each k hk ∙ ap (λ (i : ℕ). with (first-of n) i (suc n) k) at ∙ first-more n k;
+    }
+
+-- the seventeenth, and after 5 was left
+pub follows-full : (followAnswer (filled 16) 16 1 2 ∷ followAnswer (filled 16) 17 1 2 ∷ followAnswer (leaveAfter (filled 16) 5) 17 1 2 ∷ [])
+    ≡ (25 ∷ 26 ∷ 0 ∷ [])
+unfolding first
+follows-full =
+    let v = filled-shows 16 (lit≤ tt) in
+    let left : leaveAnswer (filled 16) 5 ≡ 0 = known (filled 16) (first-of 16) v 5 refl (lit< tt) in
+    let w = leave-shows (filled 16) (first-of 16) v 5 left in
+    λ i. again (filled 16) (first-of 16) v 16 refl 1 2 (lit≤ tt) refl (lit< tt) i
+    ∷ full (filled 16) (first-of 16) v 17 refl 1 2 (lit≤ tt) refl (lit≤ tt) (lit≤ tt) i
+    ∷ accepted (leaveAfter (filled 16) 5) (with (first-of 16) 4 0) w 17 refl 1 2 (lit≤ tt) refl (lit≤ tt) (lit< tt) i ∷ []
