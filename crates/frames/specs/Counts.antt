@@ -1,6 +1,7 @@
 -- Frame counts, and what is known of the frames that were heard (ETS 300 352, 4.5.4).
 --
 --   ahead a b       the distance from frame count a to frame count b, "across the wrap from 127 to 0"
+--   since a b       how many frames from one that was heard to one that comes, or is asked for: 0 for the same frame, otherwise 1 to 128
 --   changes a b     a change falls behind the frame with count a, up to that with count b: "from the beginning of line 1 of the second
 --                   frame following the frame in which FCNT code 0 (modulo 128) is sent", the frame with count 2
 --   until a         in how many frames after that with count a the next change comes
@@ -16,8 +17,12 @@ use Rattle.frames.specs.declared.Frames.{Frames}
 unfoldable pub ahead : ℕ → ℕ → ℕ
 ahead a b = (b + 256 - a) % 128
 
+-- FCNT has eight bits: the same frame is told by all eight, and different counts that are 0 apart modulo 128 are 128 frames apart
+unfoldable pub since : ℕ → ℕ → ℕ
+since a b = cond (eqb a b) 0 (cond (eqb (ahead a b) 0) 128 (ahead a b))
+
 unfoldable pub changes : ℕ → ℕ → Bool
-changes a b = ltb (ahead 2 b) (ahead a b)
+changes a b = ltb (ahead 2 b) (since a b)
 
 unfoldable pub until : ℕ → ℕ
 until a = ahead a 1 + 1
@@ -31,11 +36,11 @@ changing h n = eqb (h .heard) 1 && changes (h .last) n
 
 -- one of the same frame's five identical blocks
 unfoldable pub again : Frames → ℕ → Bool
-again h n = eqb (h .heard) 1 && eqb (ahead (h .last) n) 0
+again h n = eqb (h .heard) 1 && eqb (h .last) n
 
 -- a frame was missed on the way
 unfoldable pub skips : Frames → ℕ → Bool
-skips h n = eqb (h .heard) 1 && ltb 1 (ahead (h .last) n)
+skips h n = eqb (h .heard) 1 && ltb 1 (since (h .last) n)
 
 unfoldable pub sureAt : Frames → ℕ → Bool
 sureAt h n = eqb (h .unbroken) 1 && not (skips h n)

@@ -7,7 +7,7 @@
 --   34,818          1 where every frame of the running configuration was heard
 --
 --   inForce, announced      a component's structures
---   changed m b     a component at a change
+--   applied, changed        a component at a change
 --   spoiledBoth b   a component's structures, where a frame was missed
 --   eachFrom        every component by such a rule
 --   good m          the condition of a good map
@@ -79,11 +79,20 @@ good m = goodFrames (framesOf m) && all (goodAt m) ids 0
 unfoldable pub movedDown : List ℕ → List ℕ
 movedDown b = part structureSize structureSize b ++ blank structureSize
 
-unfoldable pub changed : Bool → List ℕ → List ℕ
-changed sure b =
+-- the structure in force, where a change may have cut its repetition off
+unfoldable pub spoiledFirst : List ℕ → List ℕ
+spoiledFirst b = spoiled (part 0 structureSize b) ++ part structureSize structureSize b
+
+-- what the announced structure leaves, if anything is announced of the component
+unfoldable pub applied : Bool → List ℕ → List ℕ
+applied sure b =
     let h = headOf (part structureSize structureSize b) in
     cond (eqb (h .deleted) 1) (blank blockSize)
     (cond (eqb (h .fields) 0) b (withHead (settledHead sure h) (movedDown b)))
+
+-- a change that is not sure spoils what is in force and not whole, also where it has just come into force
+unfoldable pub changed : Bool → List ℕ → List ℕ
+changed sure b = cond sure (applied sure b) (spoiledFirst (applied sure b))
 
 -- n components from k on
 unfoldable pub eachFrom : ℕ → ℕ → (List ℕ → List ℕ) → List ℕ → List ℕ

@@ -14,7 +14,7 @@
 --   goesOn s t l         t goes on with the repetition that is being gathered: the same LINKS, and a greater key
 --   turnOf s t l         what one more field does
 --   gathered s t l       the structure with it taken in
---   spoiled s            a structure that is being gathered, where a frame was missed
+--   spoiled s            a structure that is being gathered, where it may lack a field
 --   deletion             a structure that says that the component is to be deleted
 --   goodHead h           within these bounds
 --   settledHead sure h   an announced structure as a change puts it in force: whole, unless a field may be missing
@@ -87,12 +87,12 @@ turned Known s t l = s
 unfoldable pub gathered : List ℕ → ℕ → ℕ → List ℕ
 gathered s t l = turned (turnOf s t l) s t l
 
--- A frame was missed: what is being gathered may lack a field. Its first field becomes all ones, which is no field of a structure, so
--- that no repetition is taken for the whole of it, and the next one begins anew.
+-- What is being gathered may lack a field: a frame was missed, or a change came that may have cut its repetition off. It becomes one
+-- field of all ones, which no structure has and no key is above, so that whatever comes begins anew.
 unfoldable pub spoiled : List ℕ → List ℕ
 spoiled s =
     let h = headOf s in
-    cond (eqb (h .whole) 0 && ltb 0 (h .fields)) (withNth 0 allOnes s) s
+    cond (eqb (h .whole) 0 && ltb 0 (h .fields)) (turned Begins s allOnes 0) s
 
 unfoldable pub deletion : List ℕ
 deletion = withHead (record { fields = 0; whole = 0; links = 0; deleted = 1 }) (blank structureSize)
