@@ -1,3 +1,4 @@
 pub mod Gathering
 pub mod Kept
+pub mod Runs
 pub mod Turns

@@ -1,0 +1,296 @@
+-- What a structure that is being gathered can be, where the fields of its component come round in order and some of them were not heard.
+--
+--   Fields xs           fields that a structure has: few enough, rising, none of them all ones
+--   Stuck s             one field of all ones: whatever comes begins anew
+--   Part s xs due       nothing; such a field; or a run of the structure xs, up to the field before place `due`
+--   spoiled-part        what spoils it leaves nothing to be completed; spoiled-whole: what is whole stays
+--   Took s xs due       one more field was taken in: a part again, or all of xs
+--   part-takes          the field that comes in turn
+--   whole-takes         a field of any structure, where another one is held as whole
+--
+-- Assumes nothing.
+use mathlib.Core.Path.{_≡_, refl, sym, ap, _∙_, subst}
+use mathlib.Core.Bool.{Bool, true, false, true≢false, cond, _&&_}
+use mathlib.Core.List.{List, [], _∷_}
+use mathlib.Core.Logic.{_⊎_, inl, inr}
+use Prim.Native.Nat.{ℕ, zero, suc, _+_, _-_, _*_, _%_, _^_, _≤_, _<_}
+use native.Mathlib.Omega.{arith}
+use native.Mathlib.Decide.{decLt, ℕ-discrete}
+use borrow.Author.Tests.{eq-eqb, ne-eqb, le-ltb, lt-ltb}
+use lib.Dec.{T, leb, ltb, eqb, lit<}
+use lib.ListN.{length, getD, drop}
+use lib.Seq.{getD-drop}
+use Rattle.bits.specs.Bits.{blank}
+use Rattle.bits.proofs.Storing.{blank-length}
+use Rattle.field.specs.Field.{key, fln1, fcp, deletes}
+use Rattle.structure.specs.Structure.{most, structureSize, allOnes, headOf, nth, stored, member, goesOn, turnOf, turned, gathered, spoiled}
+use Rattle.structure.specs.declared.Structure.{Structure}
+use Rattle.structure.specs.declared.Turn.{Turn}
+use Rattle.structure.specs.declared.Turn.the-variants.{Begins, Joins, Overflows, Completes, Known}
+use Rattle.structure.proofs.Gathering.{Holds, Empty, stored-few, begun, joined, completed}
+
+pub record Fields (xs : List ℕ) : Type 0 where
+  pub few : length xs ≤ most
+  pub wide : (i : ℕ) → i < length xs → getD xs i 0 < 2 ^ 62
+  pub stays : (i : ℕ) → i < length xs → deletes (getD xs i 0) ≡ false
+  pub rising : (i : ℕ) → suc i < length xs → key (getD xs i 0) < key (getD xs (suc i) 0)
+
+pub record Stuck (s : List ℕ) : Type 0 where
+  pub size : length s ≡ structureSize
+  pub fields : headOf s .fields ≡ 1
+  pub whole : headOf s .whole ≡ 0
+  pub deleted : headOf s .deleted ≡ 0
+  pub links : headOf s .links ≤ 1
+  pub first : nth 0 s ≡ allOnes
+
+pub data Part (s xs : List ℕ) (due : ℕ) : Type 0 where
+  empty : Empty s → Part s xs due
+  stuck : Stuck s → Part s xs due
+  run : (i k l : ℕ) → l ≤ 1 → 0 < k → i + k ≤ length xs → due ≡ i + k → Holds s k (drop i xs) 0 l → Part s xs due
+
+-- ---- keys of a structure
+
+module _ (xs : List ℕ) (f : Fields xs) where
+  rises-by : (i d : ℕ) → i + suc d < length xs → key (getD xs i 0) < key (getD xs (i + suc d) 0)
+  rises-by i zero h = subst (λ (j : ℕ). key (getD xs i 0) < key (getD xs j 0)) (one-on i) (f .rising i (omega arith))
+    where
+      one-on : (j : ℕ) → suc j ≡ j + 1
+      one-on j = omega arith
+  rises-by i (suc d) h =
+      let before = rises-by i d (omega arith) in
+      let step = f .rising (i + suc d) (omega arith) in
+      let e : suc (i + suc d) ≡ i + suc (suc d) = omega arith in
+      omega (arith, before, step, ap (λ (j : ℕ). key (getD xs j 0)) e)
+
+  rises-to : (i j : ℕ) → i < j → j < length xs → key (getD xs i 0) < key (getD xs j 0)
+  rises-to i j h l =
+      let e : i + suc (j - i - 1) ≡ j = omega arith in
+      subst (λ (n : ℕ). key (getD xs i 0) < key (getD xs n 0)) e (rises-by i (j - i - 1) (omega arith))
+
+  -- so no two of its fields are the same
+  apart : (i j : ℕ) → i < j → j < length xs → getD xs i 0 ≡ getD xs j 0 → ⊥
+  apart i j h l e = omega (arith, rises-to i j h l, ap key e)
+
+-- no key is above that of all ones
+ones-key : (t : ℕ) → ltb (key allOnes) (key t) ≡ false
+unfolding key fln1 fcp
+ones-key t = le-ltb (key allOnes) (key t) (most-key t)
+  where
+    most-key : (n : ℕ) → key n ≤ key allOnes
+    most-key n = omega arith
+
+-- ---- begun anew
+
+-- whatever was there
+anew : (s : List ℕ) (t l : ℕ) → turnOf s t l ≡ Begins → gathered s t l ≡ turned Begins s t l
+unfolding gathered
+anew s t l e = ap (λ (u : Turn). turned u s t l) e
+
+blank-empty : Empty (blank structureSize)
+unfolding headOf blank
+blank-empty = record { size = refl; fields = refl; whole = refl; deleted = refl; links = omega arith }
+
+begun-anew : (s : List ℕ) (t l : ℕ) (xs : List ℕ) → t < 2 ^ 64 → t ≡ getD xs 0 0 → Holds (turned Begins s t l) 1 xs 0 l
+unfolding turned gathered turnOf goesOn headOf blank
+begun-anew s t l xs small is = begun (blank structureSize) blank-empty t l xs small is
+
+turn-begins : (s : List ℕ) (t l : ℕ) → headOf s .whole ≡ 0 → goesOn s t l ≡ false → eqb (nth 0 s) t ≡ false → turnOf s t l ≡ Begins
+unfolding turnOf
+turn-begins s t l w g n =
+    (λ i. cond (eqb (w i) 1) (cond (member s t) Known Begins)
+    (cond (g i) (cond (ltb (headOf s .fields) most) Joins Overflows)
+    (cond (ltb 0 (headOf s .fields) && (leb (headOf s .fields) most && n i)) Completes Begins)))
+    ∙ none (ltb 0 (headOf s .fields)) (leb (headOf s .fields) most)
+  where
+    none : (a b : Bool) → cond (a && (b && false)) Completes Begins ≡ Begins
+    none true true = refl
+    none true false = refl
+    none false b = refl
+
+-- ---- spoiled
+
+stuck-made : (s : List ℕ) → Stuck (turned Begins s allOnes 0)
+stuck-made s =
+    let h = begun-anew s allOnes 0 (allOnes ∷ []) (lit< tt) refl in
+    record {
+      size = h .size;
+      fields = h .fields;
+      whole = h .whole;
+      deleted = h .deleted;
+      links = omega (arith, h .links);
+      first = h .each 0 (lit< tt);
+    }
+
+spoils : (s : List ℕ) → headOf s .whole ≡ 0 → 0 < headOf s .fields → Stuck (spoiled s)
+unfolding spoiled
+spoils s w p =
+    subst Stuck (sym (λ i. cond (eqb (w i) 0 && lt-ltb 0 (headOf s .fields) p i) (turned Begins s allOnes 0) s)) (stuck-made s)
+
+pub spoiled-part : (s xs ys : List ℕ) (due next : ℕ) → Part s xs due → Part (spoiled s) ys next
+unfolding spoiled
+spoiled-part s xs ys due next (empty e) =
+    subst (λ (x : List ℕ). Part x ys next)
+    (sym (λ i. cond (eqb (e .whole i) 0 && ltb 0 (e .fields i)) (turned Begins s allOnes 0) s)) (empty e)
+spoiled-part s xs ys due next (stuck k) = stuck (spoils s (k .whole) (omega (arith, k .fields)))
+spoiled-part s xs ys due next (run i k l hl p q d h) = stuck (spoils s (h .whole) (omega (arith, h .fields, p)))
+
+pub spoiled-whole : (s : List ℕ) → headOf s .whole ≡ 1 → spoiled s ≡ s
+unfolding spoiled
+spoiled-whole s w = λ i. cond (eqb (w i) 0 && ltb 0 (headOf s .fields)) (turned Begins s allOnes 0) s
+
+-- ---- one more field
+
+pub data Took (s xs : List ℕ) (due : ℕ) : Type 0 where
+  partly : Part s xs due → Took s xs due
+  wholly : (l : ℕ) → l ≤ 1 → Holds s (length xs) xs 1 l → Took s xs due
+
+module _ (xs : List ℕ) (f : Fields xs) (i : ℕ) (hi : i < length xs) (l : ℕ) (hl : l ≤ 1) where
+  abbrev t : ℕ
+  t = getD xs i 0
+
+  small : t < 2 ^ 64
+  small = omega (arith, f .wide i hi)
+
+  first-of : (j : ℕ) → getD (drop j xs) 0 0 ≡ getD xs j 0
+  first-of j = getD-drop j xs 0 0 ∙ ap (λ (n : ℕ). getD xs n 0) (plus j)
+    where
+      plus : (n : ℕ) → n + 0 ≡ n
+      plus n = omega arith
+
+  -- begun anew with it
+  begins-run : (s : List ℕ) → turnOf s t l ≡ Begins → Took (gathered s t l) xs (suc i)
+  begins-run s e =
+      subst (λ (x : List ℕ). Took x xs (suc i)) (sym (anew s t l e))
+      (partly (run i 1 l hl (lit< tt) (omega arith) (one-on i) (begun-anew s t l (drop i xs) small (sym (first-of i)))))
+    where
+      one-on : (n : ℕ) → suc n ≡ n + 1
+      one-on n = omega arith
+
+  empty-takes : (s : List ℕ) → Empty s → Took (gathered s t l) xs (suc i)
+  unfolding goesOn
+  empty-takes s e =
+      partly (run i 1 l hl (lit< tt) (omega arith) (one-on i) (begun s e t l (drop i xs) small (sym (first-of i))))
+    where
+      one-on : (n : ℕ) → suc n ≡ n + 1
+      one-on n = omega arith
+
+  and-no : (a b c : Bool) → c ≡ false → (a && (b && c)) ≡ false
+  and-no true true c h = h
+  and-no true false c h = refl
+  and-no false b c h = refl
+
+  and-left-no : (a b c : Bool) → b ≡ false → (a && (b && c)) ≡ false
+  and-left-no true b c h = ap (λ (x : Bool). x && c) h
+  and-left-no false b c h = refl
+
+  not-ones : allOnes ≡ t → ⊥
+  unfolding deletes
+  not-ones e = true≢false (ap (λ (x : ℕ). eqb (x % 2 ^ 40) (2 ^ 40 - 1)) e ∙ f .stays i hi)
+
+  stuck-takes : (s : List ℕ) → Stuck s → Took (gathered s t l) xs (suc i)
+  unfolding goesOn
+  stuck-takes s k =
+      let last : nth (stored (headOf s) - 1) s ≡ allOnes = ap (λ (n : ℕ). nth (n - 1) s) (stored-few (headOf s) 1 (k .fields) (omega arith)) ∙ k .first in
+      begins-run s (turn-begins s t l (k .whole)
+      (and-no (ltb 0 (headOf s .fields)) (eqb (headOf s .links) l) _ (ap (λ (x : ℕ). ltb (key x) (key t)) last ∙ ones-key t))
+      (ap (λ (x : ℕ). eqb x t) (k .first) ∙ ne-eqb allOnes t not-ones))
+
+  -- a run of places j to j + k - 1
+  module _ (s : List ℕ) (j k m : ℕ) (hm : m ≤ 1) (pos : 0 < k) (fits : j + k ≤ length xs) (h : Holds s k (drop j xs) 0 m) where
+    few : k ≤ most
+    few = omega (arith, f .few, fits)
+
+    at : (n : ℕ) → n < k → nth n s ≡ getD xs (j + n) 0
+    at n hn = h .each n hn ∙ getD-drop j xs n 0
+
+    first-place : nth 0 s ≡ getD xs j 0
+    first-place = h .each 0 pos ∙ first-of j
+
+    last-place : nth (stored (headOf s) - 1) s ≡ getD xs (j + k - 1) 0
+    last-place =
+        ap (λ (n : ℕ). nth (n - 1) s) (stored-few (headOf s) k (h .fields) few) ∙ at (k - 1) (omega arith)
+        ∙ ap (λ (n : ℕ). getD xs n 0) (minus j k pos)
+      where
+        minus : (a b : ℕ) → 0 < b → a + (b - 1) ≡ a + b - 1
+        minus a b p = omega arith
+
+    -- the next in its repetition
+    goes-on : i ≡ j + k → Took (gathered s t l) xs (suc i)
+    unfolding goesOn
+    goes-on e = go (ℕ-discrete m l)
+      where
+        go : Dec (m ≡ l) → Took (gathered s t l) xs (suc i)
+        go (yes q) =
+            let is : t ≡ getD (drop j xs) k 0 = ap (λ (n : ℕ). getD xs n 0) e ∙ sym (getD-drop j xs k 0) in
+            let before : getD (drop j xs) (k - 1) 0 ≡ getD xs (j + (k - 1)) 0 = getD-drop j xs (k - 1) 0 in
+            let up = rises-to xs f (j + (k - 1)) i (omega (arith, e)) hi in
+            partly (run j (k + 1) l hl (omega arith) (omega (arith, e)) (next j k e)
+            (joined s (drop j xs) k t l (subst (λ (n : ℕ). Holds s k (drop j xs) 0 n) q h) pos (omega (arith, f .few, fits, e, hi)) small is
+            (omega (arith, up, ap key before))))
+          where
+            next : (a b : ℕ) → i ≡ a + b → suc i ≡ a + (b + 1)
+            next a b p = omega (arith, p)
+        go (no q) =
+            begins-run s (turn-begins s t l (h .whole)
+            (and-left-no (ltb 0 (headOf s .fields)) _ _ (ne-eqb (headOf s .links) l (λ z. q (sym (h .links) ∙ z))))
+            (ap (λ (x : ℕ). eqb x t) first-place ∙ ne-eqb (getD xs j 0) t (apart xs f j i (omega (arith, e, pos)) hi)))
+
+    -- a repetition ends, and the next begins
+    comes-round : i ≡ 0 → j + k ≡ length xs → Took (gathered s t l) xs (suc i)
+    unfolding goesOn
+    comes-round z e = go (ℕ-discrete j 0)
+      where
+        falls : key t ≤ key (getD xs (j + k - 1) 0)
+        falls = down (ℕ-discrete (j + k - 1) 0)
+          where
+            down : Dec (j + k - 1 ≡ 0) → key t ≤ key (getD xs (j + k - 1) 0)
+            down (yes q) = omega (arith, ap (λ (n : ℕ). key (getD xs n 0)) (z ∙ sym q))
+            down (no q) = omega (arith, rises-to xs f i (j + k - 1) (omega (arith, z, q)) (omega (arith, e, pos)))
+
+        go : Dec (j ≡ 0) → Took (gathered s t l) xs (suc i)
+        go (yes q) =
+            let all : k ≡ length xs = omega (arith, e, q) in
+            let is : t ≡ getD (drop j xs) 0 0 = ap (λ (n : ℕ). getD xs n 0) (z ∙ sym q) ∙ sym (first-of j) in
+            let last : getD (drop j xs) (k - 1) 0 ≡ getD xs (j + k - 1) 0 = getD-drop j xs (k - 1) 0 ∙ ap (λ (n : ℕ). getD xs n 0) (minus j k pos) in
+            let c = completed s (drop j xs) k t l m h pos few is (omega (arith, falls, ap key last)) in
+            wholly l hl
+            (subst (λ (n : ℕ). Holds (gathered s t l) n xs 1 l) all
+            (subst (λ (n : ℕ). Holds (gathered s t l) k (drop n xs) 1 l) q c))
+          where
+            minus : (a b : ℕ) → 0 < b → a + (b - 1) ≡ a + b - 1
+            minus a b p = omega arith
+        go (no q) =
+            begins-run s (turn-begins s t l (h .whole)
+            (and-no (ltb 0 (headOf s .fields)) (eqb (headOf s .links) l) _ (ap (λ (x : ℕ). ltb (key x) (key t)) last-place ∙ le-ltb _ (key t) falls))
+            (ap (λ (x : ℕ). eqb x t) first-place
+            ∙ ne-eqb (getD xs j 0) t (λ p. apart xs f i j (omega (arith, z, q)) (omega (arith, e, pos)) (sym p))))
+
+  -- the field that comes in turn: behind place `due`, where one was carried before
+  pub part-takes : (s : List ℕ) (due : ℕ) → ((k : ℕ) → due ≡ suc k → i ≡ cond (eqb (suc k) (length xs)) 0 (suc k)) → Part s xs due → Took (gathered s t l) xs (suc i)
+  part-takes s due turn (empty e) = empty-takes s e
+  part-takes s due turn (stuck k) = stuck-takes s k
+  part-takes s due turn (run j k m hm pos fits d h) =
+      let e : suc (j + k - 1) ≡ j + k = omega (arith, pos) in
+      go (ℕ-discrete (j + k) (length xs)) (turn (j + k - 1) (d ∙ sym e) ∙ ap (λ (n : ℕ). cond (eqb n (length xs)) 0 n) e)
+    where
+      go : Dec (j + k ≡ length xs) → i ≡ cond (eqb (j + k) (length xs)) 0 (j + k) → Took (gathered s t l) xs (suc i)
+      go (yes q) at = comes-round s j k m hm pos fits h (at ∙ ap (λ (b : Bool). cond b 0 (j + k)) (eq-eqb (j + k) (length xs) q)) q
+      go (no q) at = goes-on s j k m hm pos fits h (at ∙ ap (λ (b : Bool). cond b 0 (j + k)) (ne-eqb (j + k) (length xs) q))
+
+  -- where a structure is held as whole: it lists the field, or this is begun anew
+  pub whole-takes : (s : List ℕ) → headOf s .whole ≡ 1 → (gathered s t l ≡ s) ⊎ Took (gathered s t l) xs (suc i)
+  unfolding gathered turnOf turned
+  whole-takes s w = go (member s t) refl
+    where
+      either : Bool → Turn
+      either b =
+          cond (eqb (headOf s .whole) 1) (cond b Known Begins) (cond (goesOn s t l) (cond (ltb (headOf s .fields) most) Joins Overflows)
+          (cond (ltb 0 (headOf s .fields) && (leb (headOf s .fields) most && eqb (nth 0 s) t)) Completes Begins))
+
+      is : (b : Bool) → either b ≡ cond b Known Begins
+      is b = λ j. cond (eqb (w j) 1) (cond b Known Begins) (cond (goesOn s t l) (cond (ltb (headOf s .fields) most) Joins Overflows)
+          (cond (ltb 0 (headOf s .fields) && (leb (headOf s .fields) most && eqb (nth 0 s) t)) Completes Begins))
+
+      go : (b : Bool) → member s t ≡ b → (gathered s t l ≡ s) ⊎ Took (gathered s t l) xs (suc i)
+      go true e = inl (ap (λ (u : Turn). turned u s t l) (ap either e ∙ is true))
+      go false e = inr (begins-run s (ap either e ∙ is false))
