@@ -3,6 +3,7 @@
 --   Kept                    what one more field keeps
 --   gathered-length, gathered-good, gathered-deleted
 --   spoiled-length, spoiled-good, spoiled-deleted    a structure that may lack a field
+--   spoiled-some            it still has fields, exactly where it had
 --   spoiled-head, spoiled-none    its head: one field, where it is being gathered; otherwise all of it stays as it was
 --   spoiled-open            where it is being gathered, whatever field comes next begins it anew: none completes it, and none joins on
 --   deletion-length, deletion-good, blank-good    a structure that is to be deleted, and one of 0 alone
@@ -10,12 +11,12 @@
 --   good-deleted            a good head that is not to be deleted says so
 --
 -- Assumes nothing.
-use mathlib.Core.Path.{_≡_, refl, ap, _∙_}
+use mathlib.Core.Path.{_≡_, refl, sym, ap, _∙_}
 use mathlib.Core.Bool.{Bool, true, false, true≢false, cond, _&&_, _||_}
 use mathlib.Core.List.{List}
 use Prim.Native.Nat.{ℕ, _+_, _-_, _%_, _^_, _≤_, _<_}
 use native.Mathlib.Omega.{arith}
-use borrow.Author.Tests.{ne-eqb, leb-true, ltb-true, le-leb, lt-ltb, le-ltb}
+use borrow.Author.Tests.{ne-eqb, eqb-true, leb-true, ltb-true, le-leb, lt-ltb, le-ltb}
 use lib.Dec.{leb, ltb, eqb, lit<, lit≤}
 use lib.ListN.{length}
 use Rattle.bits.specs.Bits.{blank}
@@ -182,6 +183,9 @@ module _ (s : List ℕ) (l : length s ≡ structureSize) where
     spoiled-first =
         ap (nth 0) spoils ∙ nth-same (withHead (made 1 0 0) (blank structureSize)) stored-length 0 allOnes (lit< tt) (lit< tt)
 
+    still-some : ltb 0 (headOf (spoiled s) .fields) ≡ true
+    still-some = ap (λ (h : Structure). ltb 0 (h .fields)) spoiled-head
+
     -- no key is above that of all ones
     top-key : (t : ℕ) → key t ≤ key allOnes
     unfolding key fln1 fcp
@@ -208,6 +212,14 @@ module _ (s : List ℕ) (l : length s ≡ structureSize) where
         none : (b : Bool) → cond (b && false) Joins Begins ≡ Begins
         none true = refl
         none false = refl
+
+  pub spoiled-some : ltb 0 (headOf (spoiled s) .fields) ≡ ltb 0 (headOf s .fields)
+  spoiled-some = go (eqb (headOf s .whole) 0) (ltb 0 (headOf s .fields)) refl refl
+    where
+      go : (w f : Bool) → eqb (headOf s .whole) 0 ≡ w → ltb 0 (headOf s .fields) ≡ f → ltb 0 (headOf (spoiled s) .fields) ≡ ltb 0 (headOf s .fields)
+      go true true ew ef = still-some (eqb-true (headOf s .whole) 0 ew) (ltb-true 0 (headOf s .fields) ef) ∙ sym ef
+      go true false ew ef = ap (λ (x : List ℕ). ltb 0 (headOf x .fields)) (spoiled-none (λ i. ew i && ef i))
+      go false f ew ef = ap (λ (x : List ℕ). ltb 0 (headOf x .fields)) (spoiled-none (λ i. ew i && ltb 0 (headOf s .fields)))
 
 -- ---- to be deleted, and 0 alone
 
