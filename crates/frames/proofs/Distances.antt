@@ -1,17 +1,18 @@
 -- Distances of frame counts, and the frames behind one more: the code's tests against the definitions.
 --
 --   ahead-wraps, ahead-lt    the distance between frame counts, by a difference that wraps
+--   since-same, since-around, since-other    frames from one that was heard, by the tests on the way
 --   after-*                  the frames behind a field, by the tests on the way; after-good: they stay good
 --
 -- Assumes nothing.
-use mathlib.Core.Path.{_≡_, refl, sym, ap, _∙_}
+use mathlib.Core.Path.{_≡_, refl, sym, ap, ap₂, _∙_}
 use mathlib.Core.Bool.{Bool, true, false, cond}
 use Prim.Native.Nat.{ℕ, _+_, _%_, _<_}
 use native.Mathlib.Omega.{arith}
 use borrow.Author.Tests.{eq-eqb, ne-eqb}
 use lib.Dec.{leb, eqb}
 use Rattle.bits.proofs.Search.{and-right}
-use Rattle.frames.specs.Counts.{ahead, goodFrames, skips, begins, framesAfter}
+use Rattle.frames.specs.Counts.{ahead, since, goodFrames, skips, begins, framesAfter}
 use Rattle.frames.specs.declared.Frames.{Frames}
 
 pub ahead-wraps : (r a b : ℕ) → r < 256 → a < 256 → (r + a) % 256 ≡ b → r % 128 ≡ ahead a b
@@ -21,6 +22,21 @@ ahead-wraps r a b hr ha e = omega arith
 pub ahead-lt : (a b : ℕ) → ahead a b < 128
 unfolding ahead
 ahead-lt a b = omega arith
+
+module _ (a b : ℕ) where
+  by-since : (same around : Bool) → eqb a b ≡ same → eqb (ahead a b) 0 ≡ around → cond same 0 (cond around 128 (ahead a b)) ≡ since a b
+  unfolding since
+  by-since same around es ea = ap₂ (λ (x y : Bool). cond x 0 (cond y 128 (ahead a b))) (sym es) (sym ea)
+
+  pub since-same : a ≡ b → 0 ≡ since a b
+  since-same e = by-since true _ (eq-eqb a b e) refl
+
+  module _ (ne : a ≡ b → ⊥) (d : ℕ) (ed : d ≡ ahead a b) where
+    pub since-around : d ≡ 0 → 128 ≡ since a b
+    since-around z = by-since false true (ne-eqb a b ne) (eq-eqb (ahead a b) 0 (sym ed ∙ z))
+
+    pub since-other : (d ≡ 0 → ⊥) → d ≡ since a b
+    since-other nz = ed ∙ by-since false false (ne-eqb a b ne) (ne-eqb (ahead a b) 0 (λ z. nz (ed ∙ z)))
 
 module _ (h : Frames) (n : ℕ) where
   abbrev behind : ℕ → Frames

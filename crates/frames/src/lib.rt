@@ -1,6 +1,6 @@
 // The frames that were heard, by their counts: distances, changes, and whether one was missed. Every count is answered.
 ghost use mathlib.Core.Path.{_≡_};
-ghost use Rattle.frames.specs.Counts.{ahead, until, goodFrames, changing, again, skips, sureAt, framesAfter, allHeard};
+ghost use Rattle.frames.specs.Counts.{ahead, since, until, goodFrames, changing, again, skips, sureAt, framesAfter, allHeard};
 
 // The last frame count, whether there is one, and whether every frame of the running configuration was heard.
 pub struct Frames {
@@ -14,6 +14,18 @@ fn ahead(from: u8, to: u8) -> u8
     ensures { λ r. ⌜ r ≡ ahead from to ⌝ }
 {
     std::num::wrapping_sub_u8(to, from) % 128
+}
+
+// How many frames from one that was heard to one that comes, or is asked for. The same frame is told by all eight bits of its count, so
+// that other counts of the same distance are 128 frames apart.
+fn since(from: u8, to: u8) -> u8
+    ensures { λ r. ⌜ r ≡ since from to ⌝ }
+{
+    if from == to {
+        return 0;
+    }
+    let distance = ahead(from, to);
+    if distance == 0 { 128 } else { distance }
 }
 
 impl Frames {
@@ -34,21 +46,21 @@ impl Frames {
     pub fn changing(self, count: u8) -> bool
         ensures { λ r. ⌜ r ≡ changing self count ⌝ }
     {
-        (self.heard == 1) & (ahead(2, count) < ahead(self.last, count))
+        (self.heard == 1) & (ahead(2, count) < since(self.last, count))
     }
 
     // One of the same frame's five identical blocks.
     pub fn again(self, count: u8) -> bool
         ensures { λ r. ⌜ r ≡ again self count ⌝ }
     {
-        (self.heard == 1) & (ahead(self.last, count) == 0)
+        (self.heard == 1) & (self.last == count)
     }
 
     // A frame is missed on the way to that with a count.
     pub fn skips(self, count: u8) -> bool
         ensures { λ r. ⌜ r ≡ skips self count ⌝ }
     {
-        (self.heard == 1) & (1 < ahead(self.last, count))
+        (self.heard == 1) & (1 < since(self.last, count))
     }
 
     pub fn sure_at(self, count: u8) -> bool

@@ -3,6 +3,8 @@
 --   changed-length        a component's block keeps its length
 --   each-*, from-*        the loop over all components, by any rule and by a change's: each block is changed, and nothing else
 --   both-*                a missed frame: each structure is spoiled, and nothing else
+--   leftBy sure s, left-*    what a change leaves of the structure in force: all of it, unless the change is not sure and it is being
+--                         gathered; a component is there exactly where it was
 --   stays .. settled      what is in force and announced behind a change, by what was announced
 --
 -- Assumes nothing.
@@ -21,11 +23,11 @@ use Rattle.bits.proofs.Storing.{blank-length, drop-blank}
 use Rattle.slot.specs.Part.{part, put}
 use Rattle.slot.proofs.Laws.{part-length, put-length, blank-at}
 use Rattle.structure.specs.Structure.{most, structureSize, headOf, withHead, spoiled, settledHead}
-use Rattle.map.specs.Map.{ids, mapSize, blockSize, framesOf, blockAt, withBlock, structureAt, movedDown, changed, eachFrom, changedFrom, spoiledBoth}
+use Rattle.map.specs.Map.{ids, mapSize, blockSize, framesOf, blockAt, withBlock, structureAt, movedDown, spoiledFirst, applied, changed, eachFrom, changedFrom, spoiledBoth}
 use Rattle.structure.specs.declared.Structure.{Structure}
 use Rattle.map.proofs.Places.{structure-length, block-length, block-structure, block-same, block-other, block-frames, with-block-length}
 use Rattle.structure.proofs.Gathering.{Holds, Empty, head-stored, nth-head, with-head-length}
-use Rattle.structure.proofs.Kept.{spoiled-length}
+use Rattle.structure.proofs.Kept.{spoiled-length, spoiled-none, spoiled-some}
 
 -- ---- blank structures
 
@@ -59,21 +61,21 @@ module _ (sure : Bool) (b : List ℕ) (lb : length b ≡ blockSize) where
   coming-length : length (comingIn b) ≡ structureSize
   coming-length = part-length structureSize structureSize b (omega arith)
 
-  pub unsaid : headOf (comingIn b) .fields ≡ 0 → headOf (comingIn b) .deleted ≡ 0 → changed sure b ≡ b
-  unfolding changed
+  unsaid : headOf (comingIn b) .fields ≡ 0 → headOf (comingIn b) .deleted ≡ 0 → applied sure b ≡ b
+  unfolding applied
   unsaid f d =
       λ i. cond (eqb (d i) 1) (blank blockSize) (cond (eqb (f i) 0) b (withHead (settledHead sure (headOf (comingIn b))) (movedDown b)))
 
-  pub deletes : headOf (comingIn b) .deleted ≡ 1 → changed sure b ≡ blank blockSize
-  unfolding changed
+  deletes : headOf (comingIn b) .deleted ≡ 1 → applied sure b ≡ blank blockSize
+  unfolding applied
   deletes d =
       λ i. cond (eqb (d i) 1) (blank blockSize)
       (cond (eqb (headOf (comingIn b) .fields) 0) b (withHead (settledHead sure (headOf (comingIn b))) (movedDown b)))
 
   -- the announced structure with its marks, and nothing announced
-  pub lists : 0 < headOf (comingIn b) .fields → headOf (comingIn b) .deleted ≡ 0
-      → changed sure b ≡ withHead (settledHead sure (headOf (comingIn b))) (comingIn b) ++ blank structureSize
-  unfolding changed movedDown withHead put
+  lists : 0 < headOf (comingIn b) .fields → headOf (comingIn b) .deleted ≡ 0
+      → applied sure b ≡ withHead (settledHead sure (headOf (comingIn b))) (comingIn b) ++ blank structureSize
+  unfolding applied movedDown withHead put
   lists f d =
       let h : Structure = settledHead sure (headOf (comingIn b)) in
       let e : eqb (headOf (comingIn b) .fields) 0 ≡ false = ne-eqb (headOf (comingIn b) .fields) 0 (λ z. omega (arith, z)) in
@@ -81,9 +83,9 @@ module _ (sure : Bool) (b : List ℕ) (lb : length b ≡ blockSize) where
       ∙ ap (λ (x : List ℕ). (h .fields ∷ h .whole ∷ h .links ∷ h .deleted ∷ []) ++ x)
       (drop-append-le 4 (comingIn b) (blank structureSize) (omega (arith, coming-length)))
 
-  pub changed-length : length (changed sure b) ≡ blockSize
-  unfolding changed movedDown withHead
-  changed-length = go (eqb (headOf (comingIn b) .deleted) 1) (eqb (headOf (comingIn b) .fields) 0)
+  applied-length : length (applied sure b) ≡ blockSize
+  unfolding applied movedDown withHead
+  applied-length = go (eqb (headOf (comingIn b) .deleted) 1) (eqb (headOf (comingIn b) .fields) 0)
     where
       moved : length (comingIn b ++ blank structureSize) ≡ blockSize
       moved = length-append (comingIn b) (blank structureSize) ∙ ap₂ _+_ coming-length (blank-length structureSize)
@@ -98,6 +100,48 @@ module _ (sure : Bool) (b : List ℕ) (lb : length b ≡ blockSize) where
       go false false =
           put-length 0 4 (h .fields ∷ h .whole ∷ h .links ∷ h .deleted ∷ []) (comingIn b ++ blank structureSize) (omega (arith, moved)) refl
           ∙ moved
+
+-- the structure in force, as a change leaves it
+abbrev pub leftBy : Bool → List ℕ → List ℕ
+leftBy sure s = cond sure s (spoiled s)
+
+module _ (b : List ℕ) (lb : length b ≡ blockSize) where
+  abbrev front : List ℕ
+  front = spoiled (part 0 structureSize b)
+
+  front-length : length front ≡ structureSize
+  front-length = spoiled-length (part 0 structureSize b) (part-length 0 structureSize b (omega arith))
+
+  first-length : length (spoiledFirst b) ≡ blockSize
+  unfolding spoiledFirst
+  first-length =
+      length-append front (comingIn b) ∙ ap₂ (λ (x y : ℕ). x + y) front-length (part-length structureSize structureSize b (omega arith))
+
+  first-force : part 0 structureSize (spoiledFirst b) ≡ front
+  unfolding spoiledFirst part
+  first-force = take-at front (comingIn b) structureSize front-length
+
+  first-coming : comingIn (spoiledFirst b) ≡ comingIn b
+  unfolding spoiledFirst part
+  first-coming =
+      ap (take structureSize) (drop-at front (comingIn b) structureSize front-length)
+      ∙ take-all structureSize (comingIn b) (omega (arith, part-length structureSize structureSize b (omega arith)))
+
+module _ (b : List ℕ) (lb : length b ≡ blockSize) where
+  pub changed-length : (sure : Bool) → length (changed sure b) ≡ blockSize
+  unfolding changed
+  changed-length true = applied-length true b lb
+  changed-length false = first-length (applied false b) (applied-length false b lb)
+
+  changed-force : (sure : Bool) → part 0 structureSize (changed sure b) ≡ leftBy sure (part 0 structureSize (applied sure b))
+  unfolding changed
+  changed-force true = refl
+  changed-force false = first-force (applied false b) (applied-length false b lb)
+
+  changed-coming : (sure : Bool) → comingIn (changed sure b) ≡ comingIn (applied sure b)
+  unfolding changed
+  changed-coming true = refl
+  changed-coming false = first-coming (applied false b) (applied-length false b lb)
 
 -- ---- all blocks
 
@@ -154,10 +198,10 @@ module _ (f : List ℕ → List ℕ) (keeps : (b : List ℕ) → length b ≡ bl
 
 module _ (sure : Bool) where
   pub from-length : (n k : ℕ) (m : List ℕ) → k + n ≤ ids → length m ≡ mapSize → length (changedFrom n k sure m) ≡ mapSize
-  from-length = each-length (changed sure) (changed-length sure)
+  from-length = each-length (changed sure) (λ b lb. changed-length b lb sure)
 
   pub from-frames : (n k : ℕ) (m : List ℕ) → k + n ≤ ids → length m ≡ mapSize → framesOf (changedFrom n k sure m) ≡ framesOf m
-  from-frames = each-frames (changed sure) (changed-length sure)
+  from-frames = each-frames (changed sure) (λ b lb. changed-length b lb sure)
 
 -- ---- a missed frame
 
@@ -197,6 +241,35 @@ module _ (m : List ℕ) (l : length m ≡ mapSize) where
       ∙ ap (part (w * structureSize) structureSize) (each-at spoiledBoth both-length ids 0 m (lit≤ tt) l k (omega arith) hk)
       ∙ both-part (blockAt k m) (block-length m l k hk) w hw ∙ ap spoiled (block-structure m l k hk w hw)
 
+-- ---- what a change leaves of the structure in force
+
+module _ (sure : Bool) (s : List ℕ) (l : length s ≡ structureSize) where
+  -- nothing is being gathered
+  pub left-none : (eqb (headOf s .whole) 0 && ltb 0 (headOf s .fields)) ≡ false → leftBy sure s ≡ s
+  left-none e = go sure
+    where
+      go : (b : Bool) → leftBy b s ≡ s
+      go true = refl
+      go false = spoiled-none s l e
+
+  pub left-whole : headOf s .whole ≡ 1 → leftBy sure s ≡ s
+  left-whole w = left-none (ap (λ (x : ℕ). eqb x 0 && ltb 0 (headOf s .fields)) w)
+
+  -- a component is there exactly where it was
+  pub left-some : ltb 0 (headOf (leftBy sure s) .fields) ≡ ltb 0 (headOf s .fields)
+  left-some = go sure
+    where
+      go : (b : Bool) → ltb 0 (headOf (leftBy b s) .fields) ≡ ltb 0 (headOf s .fields)
+      go true = refl
+      go false = spoiled-some s l
+
+pub left-empty : (sure : Bool) (s : List ℕ) → Empty s → leftBy sure s ≡ s
+left-empty sure s e =
+    left-none sure s (e .size) (λ i. eqb (e .whole i) 0 && ltb 0 (e .fields i))
+
+left-blank : (sure : Bool) → leftBy sure (blank structureSize) ≡ blank structureSize
+left-blank sure = left-empty sure (blank structureSize) (blank-empty (blank structureSize) refl)
+
 -- ---- a component behind a change
 
 module _ (sure : Bool) (m : List ℕ) (l : length m ≡ mapSize) (k : ℕ) (hk : k < ids) where
@@ -209,60 +282,75 @@ module _ (sure : Bool) (m : List ℕ) (l : length m ≡ mapSize) (k : ℕ) (hk :
   behind : (w : ℕ) → w < 2 → structureAt k w (changedFrom ids 0 sure m) ≡ part (w * structureSize) structureSize (changed sure (blockAt k m))
   behind w hw =
       sym (block-structure (changedFrom ids 0 sure m) (from-length sure ids 0 m (lit≤ tt) l) k hk w hw)
-      ∙ ap (part (w * structureSize) structureSize) (each-at (changed sure) (changed-length sure) ids 0 m (lit≤ tt) l k (omega arith) hk)
+      ∙ ap (part (w * structureSize) structureSize) (each-at (changed sure) (λ b lb. changed-length b lb sure) ids 0 m (lit≤ tt) l k (omega arith) hk)
+
+  force-behind : structureAt k 0 (changedFrom ids 0 sure m) ≡ leftBy sure (part 0 structureSize (applied sure (blockAt k m)))
+  force-behind = behind 0 (lit< tt) ∙ changed-force (blockAt k m) lb sure
+
+  coming-behind : structureAt k 1 (changedFrom ids 0 sure m) ≡ comingIn (applied sure (blockAt k m))
+  coming-behind = behind 1 (lit< tt) ∙ changed-coming (blockAt k m) lb sure
 
   -- nothing was announced
-  pub stays : headOf (structureAt k 1 m) .fields ≡ 0 → headOf (structureAt k 1 m) .deleted ≡ 0 → (w : ℕ) → w < 2
-      → structureAt k w (changedFrom ids 0 sure m) ≡ structureAt k w m
-  stays f d w hw =
-      behind w hw
-      ∙ ap (part (w * structureSize) structureSize)
-      (unsaid sure (blockAt k m) lb (ap (λ (x : List ℕ). headOf x .fields) coming-is ∙ f) (ap (λ (x : List ℕ). headOf x .deleted) coming-is ∙ d))
-      ∙ block-structure m l k hk w hw
+  module _ (f : headOf (structureAt k 1 m) .fields ≡ 0) (d : headOf (structureAt k 1 m) .deleted ≡ 0) where
+    as-was : applied sure (blockAt k m) ≡ blockAt k m
+    as-was =
+        unsaid sure (blockAt k m) lb (ap (λ (x : List ℕ). headOf x .fields) coming-is ∙ f) (ap (λ (x : List ℕ). headOf x .deleted) coming-is ∙ d)
+
+    pub stays : structureAt k 0 (changedFrom ids 0 sure m) ≡ leftBy sure (structureAt k 0 m)
+    stays = force-behind ∙ ap (λ (x : List ℕ). leftBy sure (part 0 structureSize x)) as-was ∙ ap (leftBy sure) (block-structure m l k hk 0 (lit< tt))
+
+    pub stays-unsaid : structureAt k 1 (changedFrom ids 0 sure m) ≡ structureAt k 1 m
+    stays-unsaid = coming-behind ∙ ap comingIn as-was ∙ coming-is
 
   -- a deletion was announced
-  module _ (d : headOf (structureAt k 1 m) .deleted ≡ 1) (w : ℕ) (hw : w < 2) where
-    pub gone : structureAt k w (changedFrom ids 0 sure m) ≡ blank structureSize
-    gone =
-        behind w hw
-        ∙ ap (part (w * structureSize) structureSize) (deletes sure (blockAt k m) lb (ap (λ (x : List ℕ). headOf x .deleted) coming-is ∙ d))
-        ∙ part-blank (w * structureSize) structureSize blockSize (omega arith)
+  module _ (d : headOf (structureAt k 1 m) .deleted ≡ 1) where
+    all-gone : applied sure (blockAt k m) ≡ blank blockSize
+    all-gone = deletes sure (blockAt k m) lb (ap (λ (x : List ℕ). headOf x .deleted) coming-is ∙ d)
 
-    pub goes : Empty (structureAt k w (changedFrom ids 0 sure m))
-    goes = blank-empty _ gone
+    pub gone : (w : ℕ) → w < 2 → structureAt k w (changedFrom ids 0 sure m) ≡ blank structureSize
+    gone zero hw =
+        force-behind ∙ ap (λ (x : List ℕ). leftBy sure (part 0 structureSize x)) all-gone
+        ∙ ap (leftBy sure) (part-blank 0 structureSize blockSize (lit≤ tt)) ∙ left-blank sure
+    gone (suc zero) hw = coming-behind ∙ ap comingIn all-gone ∙ part-blank structureSize structureSize blockSize (lit≤ tt)
+    gone (suc (suc w)) hw = absurd (omega arith)
+
+    pub goes : (w : ℕ) → w < 2 → Empty (structureAt k w (changedFrom ids 0 sure m))
+    goes w hw = blank-empty _ (gone w hw)
 
   -- a structure was announced
   module _ (pos : 0 < headOf (structureAt k 1 m) .fields) (d : headOf (structureAt k 1 m) .deleted ≡ 0) where
-    listed : changed sure (blockAt k m) ≡ withHead (settledHead sure (headOf (structureAt k 1 m))) (structureAt k 1 m) ++ blank structureSize
+    abbrev pub moved : List ℕ
+    moved = withHead (settledHead sure (headOf (structureAt k 1 m))) (structureAt k 1 m)
+
+    listed : applied sure (blockAt k m) ≡ moved ++ blank structureSize
     listed =
         lists sure (blockAt k m) lb
         (subst (λ (x : List ℕ). 0 < headOf x .fields) (sym coming-is) pos)
         (ap (λ (x : List ℕ). headOf x .deleted) coming-is ∙ d)
         ∙ ap (λ (x : List ℕ). withHead (settledHead sure (headOf x)) x ++ blank structureSize) coming-is
 
-    lh : length (withHead (settledHead sure (headOf (structureAt k 1 m))) (structureAt k 1 m)) ≡ structureSize
+    lh : length moved ≡ structureSize
     lh = with-head-length (structureAt k 1 m) (structure-length m l k 1 hk (lit< tt)) (settledHead sure (headOf (structureAt k 1 m)))
 
     pub cleared : structureAt k 1 (changedFrom ids 0 sure m) ≡ blank structureSize
     unfolding part
     cleared =
-        behind 1 (lit< tt) ∙ ap (part structureSize structureSize) listed
-        ∙ ap (take structureSize)
-        (drop-at (withHead (settledHead sure (headOf (structureAt k 1 m))) (structureAt k 1 m)) (blank structureSize) structureSize lh)
+        coming-behind ∙ ap comingIn listed ∙ ap (take structureSize) (drop-at moved (blank structureSize) structureSize lh)
         ∙ take-blank structureSize structureSize (lit≤ tt)
 
-    pub in-force : structureAt k 0 (changedFrom ids 0 sure m) ≡ withHead (settledHead sure (headOf (structureAt k 1 m))) (structureAt k 1 m)
+    pub in-force : structureAt k 0 (changedFrom ids 0 sure m) ≡ leftBy sure moved
     unfolding part
     in-force =
-        behind 0 (lit< tt) ∙ ap (part 0 structureSize) listed
-        ∙ take-at (withHead (settledHead sure (headOf (structureAt k 1 m))) (structureAt k 1 m)) (blank structureSize) structureSize lh
+        force-behind ∙ ap (λ (x : List ℕ). leftBy sure (part 0 structureSize x)) listed
+        ∙ ap (leftBy sure) (take-at moved (blank structureSize) structureSize lh)
 
-    pub in-force-fields : headOf (structureAt k 0 (changedFrom ids 0 sure m)) .fields ≡ headOf (structureAt k 1 m) .fields
+    pub in-force-some : ltb 0 (headOf (structureAt k 0 (changedFrom ids 0 sure m)) .fields) ≡ true
     unfolding settledHead
-    in-force-fields =
-        ap (λ (x : List ℕ). headOf x .fields) in-force
-        ∙ ap (λ (x : Structure). x .fields)
+    in-force-some =
+        ap (λ (x : List ℕ). ltb 0 (headOf x .fields)) in-force ∙ left-some sure moved lh
+        ∙ ap (λ (x : Structure). ltb 0 (x .fields))
         (head-stored (structureAt k 1 m) (structure-length m l k 1 hk (lit< tt)) (settledHead sure (headOf (structureAt k 1 m))))
+        ∙ lt-ltb 0 (headOf (structureAt k 1 m) .fields) pos
 
   module _ (n : ℕ) (xs : List ℕ) (v r : ℕ) (h : Holds (structureAt k 1 m) n xs v r) (pos : 0 < n) where
     some : 0 < headOf (structureAt k 1 m) .fields
@@ -274,7 +362,8 @@ module _ (sure : Bool) (m : List ℕ) (l : length m ≡ mapSize) (k : ℕ) (hk :
     -- nothing of it is missing, or it was known to be whole
     pub settled : (sure || eqb v 1) ≡ true → n ≤ most → Holds (structureAt k 0 (changedFrom ids 0 sure m)) n xs 1 r
     unfolding settledHead
-    settled su few = subst (λ (x : List ℕ). Holds x n xs 1 r) (sym (in-force some (h .deleted))) made
+    settled su few =
+        subst (λ (x : List ℕ). Holds x n xs 1 r) (sym (in-force some (h .deleted) ∙ left-whole sure (withHead (settledHead sure (headOf a)) a) (made .size) (made .whole))) made
       where
         a : List ℕ
         a = structureAt k 1 m

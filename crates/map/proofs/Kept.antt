@@ -24,16 +24,16 @@ use Rattle.field.specs.Field.{fieldOf, deletes, panning}
 use Rattle.field.specs.declared.Field.{Field}
 use Rattle.field.proofs.Bytes.{Within}
 use Rattle.field.proofs.RoundTrip.{field-bounds}
-use Rattle.structure.specs.Structure.{structureSize, headOf, gathered, spoiled, deletion, goodHead, settledHead}
+use Rattle.structure.specs.Structure.{structureSize, headOf, withHead, gathered, spoiled, deletion, goodHead, settledHead}
 use Rattle.structure.specs.declared.Structure.{Structure}
-use Rattle.structure.proofs.Gathering.{head-stored}
-use Rattle.structure.proofs.Kept.{gathered-length, gathered-good, gathered-deleted, deletion-length, deletion-good, blank-good, good-deleted, settled-good, spoiled-head}
+use Rattle.structure.proofs.Gathering.{head-stored, with-head-length}
+use Rattle.structure.proofs.Kept.{gathered-length, gathered-good, gathered-deleted, deletion-length, deletion-good, blank-good, good-deleted, settled-good, spoiled-good, spoiled-deleted}
 use Rattle.frames.specs.Counts.{goodFrames, changing, again, skips, sureAt, framesAfter}
 use Rattle.map.specs.Map.{ids, mapSize, blockSize, framesOf, withFrames, structureAt, withStructure, inForce, announced, goodAt, good, eachFrom, changedFrom, spoiledBoth}
 use Rattle.map.specs.Calls.{startAfter, startAnswer, takeAnswer, overGap, upTo, putIn, takenIn, frameTaken, takeAfter}
 use Rattle.frames.proofs.Distances.{after-good}
 use Rattle.map.proofs.Places.{structure-length, with-structure-length, structure-same, structure-other, frames-kept, with-frames-length, structures-kept, frames-stored}
-use Rattle.map.proofs.Changing.{blank-empty, part-blank, from-frames, gap-frames, gap-structure, stays, gone, cleared, in-force}
+use Rattle.map.proofs.Changing.{blank-empty, part-blank, from-frames, gap-frames, gap-structure, leftBy, stays, stays-unsaid, gone, cleared, in-force}
 use Rattle.map.proofs.Doing.{start-passed, fits, over-gap-length, up-to-length}
 
 -- the bytes after, by cases of the answer
@@ -98,6 +98,13 @@ start-good m l =
 
 -- ---- a change
 
+spoiled-fine : (w : ℕ) (s : List ℕ) → length s ≡ structureSize → Fine w s → Fine w (spoiled s)
+spoiled-fine w s ls f = record { head = spoiled-good s ls (f .head); deleted = λ z. spoiled-deleted s ls (f .deleted z) }
+
+left-fine : (sure : Bool) (s : List ℕ) → length s ≡ structureSize → Fine 0 s → Fine 0 (leftBy sure s)
+left-fine true s ls f = f
+left-fine false s ls f = spoiled-fine 0 s ls f
+
 module _ (sure : Bool) (m : List ℕ) (l : length m ≡ mapSize) (g : Good m) where
   changed-good : Good (changedFrom ids 0 sure m)
   changed-good = record {
@@ -111,31 +118,35 @@ module _ (sure : Bool) (m : List ℕ) (l : length m ≡ mapSize) (g : Good m) wh
       listed : (k w : ℕ) → k < ids → w < 2 → 0 < coming k .fields → coming k .deleted ≡ 0 → Fine w (structureAt k w (changedFrom ids 0 sure m))
       listed k zero hk hw f d =
           let h = settledHead sure (coming k) in
-          let e = ap headOf (in-force sure m l k hk f d) ∙ head-stored (structureAt k 1 m) (structure-length m l k 1 hk (lit< tt)) h in
+          let ls = structure-length m l k 1 hk (lit< tt) in
+          let e = head-stored (structureAt k 1 m) ls h in
           let q = settled-good sure (coming k) (g .structures k 1 hk (lit< tt) .head) in
-          record { head = ap goodHead e ∙ q .0; deleted = λ z. ap (λ (x : Structure). x .deleted) e ∙ q .1 }
+          subst (Fine 0) (sym (in-force sure m l k hk f d))
+          (left-fine sure (withHead h (structureAt k 1 m)) (with-head-length (structureAt k 1 m) ls h)
+          (record { head = ap goodHead e ∙ q .0; deleted = λ z. ap (λ (x : Structure). x .deleted) e ∙ q .1 }))
       listed k (suc zero) hk hw f d = blank-fine 1 _ (cleared sure m l k hk f d)
       listed k (suc (suc w)) hk hw f d = absurd (omega arith)
+
+      unsaid : (k w : ℕ) → k < ids → w < 2 → coming k .fields ≡ 0 → coming k .deleted ≡ 0 → Fine w (structureAt k w (changedFrom ids 0 sure m))
+      unsaid k zero hk hw f d =
+          subst (Fine 0) (sym (stays sure m l k hk f d))
+          (left-fine sure (structureAt k 0 m) (structure-length m l k 0 hk hw) (g .structures k 0 hk hw))
+      unsaid k (suc zero) hk hw f d = subst (Fine 1) (sym (stays-unsaid sure m l k hk f d)) (g .structures k 1 hk hw)
+      unsaid k (suc (suc w)) hk hw f d = absurd (omega arith)
 
       go : (k w : ℕ) → k < ids → w < 2 → Dec (coming k .deleted ≡ 1) → Dec (coming k .fields ≡ 0)
           → Fine w (structureAt k w (changedFrom ids 0 sure m))
       go k w hk hw (yes d) f = blank-fine w _ (gone sure m l k hk d w hw)
       go k w hk hw (no d) (yes f) =
-          subst (Fine w) (sym (stays sure m l k hk f (good-deleted (coming k) (g .structures k 1 hk (lit< tt) .head) d) w hw)) (g .structures k w hk hw)
+          unsaid k w hk hw f (good-deleted (coming k) (g .structures k 1 hk (lit< tt) .head) d)
       go k w hk hw (no d) (no f) =
           listed k w hk hw (omega arith) (good-deleted (coming k) (g .structures k 1 hk (lit< tt) .head) d)
 
--- a missed frame leaves every head as it is
+-- a missed frame
 over-gap-good : (m : List ℕ) (n : ℕ) → length m ≡ mapSize → Good m → Good (overGap m n)
 unfolding overGap
 over-gap-good m n l g = go (skips (framesOf m) n)
   where
-    spoiled-fine : (w : ℕ) (s : List ℕ) → length s ≡ structureSize → Fine w s → Fine w (spoiled s)
-    spoiled-fine w s ls f = record {
-      head = ap goodHead (spoiled-head s ls) ∙ f .head;
-      deleted = λ z. ap (λ (h : Structure). h .deleted) (spoiled-head s ls) ∙ f .deleted z;
-    }
-
     go : (b : Bool) → Good (cond b (eachFrom ids 0 spoiledBoth m) m)
     go true = record {
       frames = ap goodFrames (gap-frames m l) ∙ g .frames;

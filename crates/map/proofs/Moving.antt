@@ -1,7 +1,8 @@
 -- What the functions that put structures in force, and fields into them, rest on.
 --
 --   move-none, move-turn, move-end         the loop that moves a structure down
---   change-deletes, change-stays, change-lists    one component at a change, by the tests
+--   apply-deletes, apply-stays, apply-lists    what is announced of a component comes into force, by the tests
+--   change-sure, change-unsure             one component at a change
 --   block-span, change-turn, change-end    the loop over all components
 --   put-gathers, put-clears, put-deletes   a structure with a field taken in, by the tests
 --   structure-given                        the part of the map that is lent for it
@@ -17,7 +18,7 @@ use native.Mathlib.Numerals.{add-one}
 use borrow.Author.Tests.{eq-eqb, ne-eqb}
 use lib.Dec.{eqb}
 use lib.ListN.{length, take, drop, getD, set, take-append-drop, length-drop}
-use lib.Seq.{drop-append-le, drop-drop, drop-length, length-take-le, take-at, drop-at}
+use lib.Seq.{drop-append-le, drop-drop, drop-length, length-take-le, take-all, take-at, drop-at}
 use Rattle.bits.specs.Bits.{blank}
 use Rattle.slot.specs.Part.{part, put}
 use Rattle.slot.proofs.Laws.{part-length, part-cons, part-cat, put-length, part-put, getD-put-after, put-next, sets-put}
@@ -25,7 +26,7 @@ use Rattle.field.specs.Field.{deletes, panning}
 use Rattle.field.specs.declared.Field.{Field}
 use Rattle.structure.specs.Structure.{structureSize, headOf, withHead, gathered, spoiled, deletion, settledHead}
 use Rattle.structure.proofs.Kept.{spoiled-length}
-use Rattle.map.specs.Map.{ids, mapSize, blockSize, blockAt, withBlock, structureAt, withStructure, movedDown, changed, eachFrom, spoiledBoth}
+use Rattle.map.specs.Map.{ids, mapSize, blockSize, blockAt, withBlock, structureAt, withStructure, movedDown, spoiledFirst, applied, changed, eachFrom, spoiledBoth}
 use Rattle.map.specs.Calls.{putIn, takenIn}
 use Rattle.structure.specs.declared.Structure.{Structure}
 use Rattle.map.proofs.Places.{block-length, with-block-length}
@@ -79,27 +80,40 @@ head-front g m h =
     (sym (drop-append-le 4 (take 68 m) (drop 68 m) (omega (arith, length-take-le 68 m h))) ∙ ap (drop 4) (take-append-drop 68 m))
 
 module _ (sure : Bool) (b : List ℕ) (h : Structure) (e : h ≡ headOf (part structureSize structureSize b)) where
-  change-tests : (d f : Bool) → eqb (h .deleted) 1 ≡ d → eqb (h .fields) 0 ≡ f
-      → changed sure b ≡ cond d (blank blockSize) (cond f b (withHead (settledHead sure h) (movedDown b)))
-  unfolding changed
-  change-tests d f ed ef =
+  apply-tests : (d f : Bool) → eqb (h .deleted) 1 ≡ d → eqb (h .fields) 0 ≡ f
+      → applied sure b ≡ cond d (blank blockSize) (cond f b (withHead (settledHead sure h) (movedDown b)))
+  unfolding applied
+  apply-tests d f ed ef =
       ap (λ (x : Structure). cond (eqb (x .deleted) 1) (blank blockSize)
       (cond (eqb (x .fields) 0) b (withHead (settledHead sure x) (movedDown b)))) (sym e)
       ∙ (λ i. cond (ed i) (blank blockSize) (cond (ef i) b (withHead (settledHead sure h) (movedDown b))))
 
-  pub change-deletes : h .deleted ≡ 1 → length b ≡ blockSize → (x : List ℕ) → x ≡ blank (length b) → x ≡ changed sure b
-  change-deletes d l x ex = ex ∙ ap blank l ∙ sym (change-tests true _ (eq-eqb (h .deleted) 1 d) refl)
+  pub apply-deletes : h .deleted ≡ 1 → length b ≡ blockSize → (x : List ℕ) → x ≡ blank (length b) → x ≡ applied sure b
+  apply-deletes d l x ex = ex ∙ ap blank l ∙ sym (apply-tests true _ (eq-eqb (h .deleted) 1 d) refl)
 
   module _ (d : h .deleted ≡ 1 → ⊥) where
-    pub change-stays : h .fields ≡ 0 → b ≡ changed sure b
-    change-stays f = sym (change-tests false true (ne-eqb (h .deleted) 1 d) (eq-eqb (h .fields) 0 f))
+    pub apply-stays : h .fields ≡ 0 → b ≡ applied sure b
+    apply-stays f = sym (apply-tests false true (ne-eqb (h .deleted) 1 d) (eq-eqb (h .fields) 0 f))
 
     -- the structure in force is lent and comes back with its head
-    pub change-lists : (h .fields ≡ 0 → ⊥) → length b ≡ blockSize → (m t : List ℕ) (g : Structure) → m ≡ movedDown b → length m ≡ length b
-        → g ≡ settledHead sure h → t ≡ withHead g (take 68 m) → (t ++ drop 68 m) ≡ changed sure b
-    change-lists f l m t g em lm eg et =
+    pub apply-lists : (h .fields ≡ 0 → ⊥) → length b ≡ blockSize → (m t : List ℕ) (g : Structure) → m ≡ movedDown b → length m ≡ length b
+        → g ≡ settledHead sure h → t ≡ withHead g (take 68 m) → (t ++ drop 68 m) ≡ applied sure b
+    apply-lists f l m t g em lm eg et =
         ap (λ (x : List ℕ). x ++ drop 68 m) et ∙ head-front g m (omega arith)
-        ∙ ap₂ withHead eg em ∙ sym (change-tests false false (ne-eqb (h .deleted) 1 d) (ne-eqb (h .fields) 0 f))
+        ∙ ap₂ withHead eg em ∙ sym (apply-tests false false (ne-eqb (h .deleted) 1 d) (ne-eqb (h .fields) 0 f))
+
+-- what is in force is lent, and comes back spoiled where the change is not sure
+module _ (sure : Bool) (b x : List ℕ) (e : x ≡ applied sure b) where
+  pub change-sure : sure ≡ true → x ≡ changed sure b
+  unfolding changed
+  change-sure q = e ∙ sym (ap (λ (v : Bool). cond v (applied sure b) (spoiledFirst (applied sure b))) q)
+
+  pub change-unsure : sure ≡ false → length x ≡ blockSize → (t : List ℕ) → t ≡ spoiled (take 68 x) → (t ++ drop 68 x) ≡ changed sure b
+  unfolding changed spoiledFirst part
+  change-unsure q l t et =
+      let rest : drop 68 x ≡ take 68 (drop 68 x) = sym (take-all 68 (drop 68 x) (omega (arith, length-drop 68 x))) in
+      ap₂ (λ (u v : List ℕ). u ++ v) et rest ∙ ap spoiledFirst e
+      ∙ sym (ap (λ (v : Bool). cond v (applied sure b) (spoiledFirst (applied sure b))) q)
 
 -- ---- the loop over all components: those from k on are still to be changed
 

@@ -5,7 +5,7 @@
 ghost use mathlib.Core.Path.{_≡_};
 ghost use Prim.Native.Nat.{_<_};
 ghost use lib.ListN.{length};
-ghost use Rattle.map.specs.Map.{framesOf, withFrames, movedDown, changed, eachFrom, changedFrom, spoiledBoth};
+ghost use Rattle.map.specs.Map.{framesOf, withFrames, movedDown, applied, changed, eachFrom, changedFrom, spoiledBoth};
 ghost use Rattle.map.specs.Calls.{startAnswer, startAfter, putIn, takenIn, takeAnswer, takeAfter, shown, listAnswer, listAfter};
 use field::Field;
 use field::Tdms;
@@ -113,10 +113,21 @@ fn change(map: &mut [u8], sure: bool)
     }
 }
 
-// One component at a change.
+// One component at a change. Where it is not sure it may have cut a repetition off: what is in force and not whole is begun anew.
 fn change_one(block: &mut [u8], sure: bool)
     requires { ⌜ length (now block) ≡ 136 ⌝ }
     ensures { λ _. ⌜ now (block .exit) ≡ changed sure (now (block .entry)) ⌝ }
+{
+    apply(block, sure);
+    if !sure {
+        structure::spoil(&mut block[0..Structure::SIZE]);
+    }
+}
+
+// What is announced of a component comes into force.
+fn apply(block: &mut [u8], sure: bool)
+    requires { ⌜ length (now block) ≡ 136 ⌝ }
+    ensures { λ _. ⌜ now (block .exit) ≡ applied sure (now (block .entry)) ⌝ }
 {
     let coming = Structure::load(&block[Structure::SIZE..Map::BLOCK]);
     if coming.deleted == 1 {

@@ -22,7 +22,8 @@ use Rattle.map.specs.Map.{ids, mapSize, structureAt, framesOf, changedFrom, goo
 use Rattle.map.specs.Calls.{tooMany, takeRows, takeAnswer}
 use Rattle.multiplex.specs.Broadcast.{Broadcast, Sends, new, old, gone, vectors, Lawful, Allowed, some, epoch, inForceAt, before, goneBefore, countAt, sentAs, fieldSent}
 use Rattle.structure.specs.declared.Structure.{Structure}
-use Rattle.map.proofs.Changing.{stays, goes, emptied, in-force-fields}
+use Rattle.map.proofs.Places.{structure-length}
+use Rattle.map.proofs.Changing.{stays, stays-unsaid, goes, emptied, in-force-some, left-some}
 use Rattle.multiplex.proofs.Counting.{count-lt, counted-agree, counted-less}
 use Rattle.multiplex.proofs.Standing.{Coming, nothing, deleting, partly, wholly, deletion-head, force-fields, coming-fields}
 use Rattle.multiplex.proofs.Steps.{Held}
@@ -47,13 +48,14 @@ module _ (b : Broadcast) (w : Lawful b) (e : ℕ) (n : ℕ → ℕ) (g : ℕ →
   stood-listed pos d =
       let yes = lt-ltb 0 (headOf (structureAt k 1 m) .fields) pos in
       (λ i. cond (yes i || eqb (headOf (structureAt k 1 m) .deleted) 1) (yes i) (ltb 0 (headOf (structureAt k 0 m) .fields)))
-      ∙ sym (ap (ltb 0) (in-force-fields q m (h .size) k hk pos d) ∙ yes)
+      ∙ sym (in-force-some q m (h .size) k hk pos d)
 
   stood : Coming (structureAt k 1 m) (b .config (suc e) k) (n k) (g k) (b .links (suc e) k) → present 0 true m k ≡ has 0 (changedFrom ids 0 q m) k
   unfolding present stands inForce announced said
   stood (nothing z f x) =
       (λ i. cond (ltb 0 (x .fields i) || eqb (x .deleted i) 1) (ltb 0 (headOf (structureAt k 1 m) .fields)) (ltb 0 (headOf (structureAt k 0 m) .fields)))
-      ∙ ap (λ (s : List ℕ). ltb 0 (headOf s .fields)) (sym (stays q m (h .size) k hk (x .fields) (x .deleted) 0 (lit< tt)))
+      ∙ sym (ap (λ (s : List ℕ). ltb 0 (headOf s .fields)) (stays q m (h .size) k hk (x .fields) (x .deleted))
+      ∙ left-some q (structureAt k 0 m) (structure-length m (h .size) k 0 hk (lit< tt)))
   stood (deleting f z x) =
       let hd = ap headOf x ∙ deletion-head in
       let gone = goes q m (h .size) k hk (ap (λ (s : Structure). s .deleted) hd) 0 (lit< tt) in
@@ -65,7 +67,7 @@ module _ (b : Broadcast) (w : Lawful b) (e : ℕ) (n : ℕ → ℕ) (g : ℕ →
   -- nothing is announced behind a change
   cleared : Coming (structureAt k 1 m) (b .config (suc e) k) (n k) (g k) (b .links (suc e) k) → headOf (structureAt k 1 (changedFrom ids 0 q m)) .fields ≡ 0
   cleared (nothing z f x) =
-      ap (λ (s : List ℕ). headOf s .fields) (stays q m (h .size) k hk (x .fields) (x .deleted) 1 (lit< tt)) ∙ x .fields
+      ap (λ (s : List ℕ). headOf s .fields) (stays-unsaid q m (h .size) k hk (x .fields) (x .deleted)) ∙ x .fields
   cleared (deleting f z x) =
       goes q m (h .size) k hk (ap (λ (s : List ℕ). headOf s .deleted) x ∙ ap (λ (s : Structure). s .deleted) deletion-head) 1 (lit< tt) .fields
   cleared (partly p y x) = emptied q m (h .size) k hk (n k) (b .config (suc e) k) 0 (b .links (suc e) k 0) x p .fields

@@ -14,7 +14,7 @@ use native.Mathlib.Omega.{arith}
 use native.Mathlib.Decide.{ℕ-discrete}
 use borrow.Author.Tests.{eq-eqb, ne-eqb, eqb-true, le-ltb}
 use lib.Dec.{T, ltb, leb, eqb}
-use Rattle.frames.specs.Counts.{ahead, changes, until, goodFrames, changing, again, skips, begins, sureAt, framesAfter, allHeard}
+use Rattle.frames.specs.Counts.{ahead, since, changes, until, goodFrames, changing, again, skips, begins, sureAt, framesAfter, allHeard}
 use Rattle.map.specs.Map.{counted}
 use Rattle.multiplex.specs.Broadcast.{Broadcast, countAt, change, begun}
 use Rattle.frames.specs.declared.Frames.{Frames}
@@ -53,9 +53,16 @@ module _ (x y : ℕ) (hx : x < 256) (e : y ≡ (x + 1) % 256) where
           let d : y + 256 - x ≡ 257 = omega arith in
           ap (λ (u : ℕ). u % 128) d
 
+  other-count : eqb x y ≡ false
+  other-count = ne-eqb x y (λ z. omega (arith, z))
+
+  one-since : since x y ≡ 1
+  unfolding since
+  one-since = λ i. cond (other-count i) 0 (cond (eqb (one-ahead i) 0) 128 (one-ahead i))
+
   changes-next : changes x y ≡ begins y
   unfolding changes begins
-  changes-next = ap (ltb (ahead 2 y)) one-ahead ∙ under-one (ahead 2 y)
+  changes-next = ap (ltb (ahead 2 y)) one-since ∙ under-one (ahead 2 y)
 
   -- behind count 1 the change is the next frame
   pub until-change : y % 128 ≡ 2 → until x ≡ 1
@@ -64,15 +71,13 @@ module _ (x y : ℕ) (hx : x < 256) (e : y ≡ (x + 1) % 256) where
       let z : (1 + 256 - x) % 128 ≡ 0 = omega arith in
       ap (λ (u : ℕ). u + 1) z
 
-pub same-ahead : (x : ℕ) → ahead x x ≡ 0
-unfolding ahead
-same-ahead x =
-    let d : x + 256 - x ≡ 256 = omega arith in
-    ap (λ (u : ℕ). u % 128) d
+same-since : (x : ℕ) → since x x ≡ 0
+unfolding since
+same-since x = ap (λ (b : Bool). cond b 0 (cond (eqb (ahead x x) 0) 128 (ahead x x))) (eq-eqb x x refl)
 
 pub same-changes : (x : ℕ) → changes x x ≡ false
 unfolding changes
-same-changes x = ap (ltb (ahead 2 x)) (same-ahead x) ∙ le-ltb (ahead 2 x) 0 (omega arith)
+same-changes x = ap (ltb (ahead 2 x)) (same-since x) ∙ le-ltb (ahead 2 x) 0 (omega arith)
 
 -- ---- the frames of a map that missed none
 
@@ -110,11 +115,11 @@ module _ (b : Broadcast) (t : ℕ) where
 
   pub next-again : again (frames b t) (countAt b (suc t)) ≡ false
   unfolding frames again
-  next-again = ap (λ (u : ℕ). eqb u 0) (one-ahead (countAt b t) (countAt b (suc t)) count-lt count-next)
+  next-again = other-count (countAt b t) (countAt b (suc t)) count-lt count-next
 
   pub next-skips : skips (frames b t) (countAt b (suc t)) ≡ false
   unfolding frames skips
-  next-skips = ap (ltb 1) (one-ahead (countAt b t) (countAt b (suc t)) count-lt count-next)
+  next-skips = ap (ltb 1) (one-since (countAt b t) (countAt b (suc t)) count-lt count-next)
 
   mark-is : (x : Bool) → eqb (cond x 1 0) 1 ≡ x
   mark-is true = refl

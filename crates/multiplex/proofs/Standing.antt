@@ -4,6 +4,7 @@
 --   Coming s xs n g lk   they hold what was announced: nothing; that the component is to be deleted; the first n fields of one that
 --                        is not known to be whole; a whole one
 --   force-good, coming-good       their heads are good
+--   force-left                    a change leaves what is in force as it is, sure or not: nothing of it is being gathered
 --   force-fields, coming-fields   which components there are
 --   put-new, put-old              what a field does to them
 --
@@ -25,6 +26,7 @@ use Rattle.structure.specs.Structure.{most, structureSize, headOf, gathered, de
 use Rattle.multiplex.specs.Broadcast.{Linked}
 use Rattle.structure.specs.declared.Structure.{Structure}
 use Rattle.structure.proofs.Gathering.{Holds, Empty, head-stored, with-head-length, begun, joined, completed, kept}
+use Rattle.map.proofs.Changing.{leftBy, left-empty, left-whole}
 
 pub data Force (s xs : List ℕ) : Type 0 where
   absent : xs ≡ [] → Empty s → Force s xs
@@ -83,6 +85,12 @@ coming-good s xs n g lk few ls (deleting f z e) = ap (λ (x : List ℕ). goodHea
     good = within (record { fields = 0; whole = 0; links = 0; deleted = 1 }) (lit≤ tt) (lit≤ tt) (lit≤ tt) (lit≤ tt) refl refl
 coming-good s xs n g lk few ls (partly p q h) = holds-good s n xs 0 (lk 0) h p (omega arith) (lit≤ tt) (ls 0)
 coming-good s xs n g lk few ls (wholly p q l hl h) = holds-good s (length xs) xs 1 l h p few (lit≤ tt) hl
+
+-- ---- what a change leaves
+
+pub force-left : (sure : Bool) (s xs : List ℕ) → Force s xs → leftBy sure s ≡ s
+force-left sure s xs (absent z e) = left-empty sure s e
+force-left sure s xs (present l hl pos h) = left-whole sure s (h .size) (h .whole)
 
 -- ---- which components there are
 

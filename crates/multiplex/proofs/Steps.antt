@@ -22,9 +22,9 @@ use Rattle.frames.specs.declared.Frames.{Frames}
 use Rattle.structure.specs.declared.Structure.{Structure}
 use Rattle.map.proofs.Places.{structure-same, structure-other, with-structure-length, with-frames-length, structures-kept}
 use Rattle.structure.proofs.Gathering.{Holds, Empty}
-use Rattle.map.proofs.Changing.{stays, goes, emptied, settled, from-length}
+use Rattle.map.proofs.Changing.{stays, stays-unsaid, goes, emptied, settled, from-length}
 use Rattle.multiplex.proofs.Counting.{known, or-yes}
-use Rattle.multiplex.proofs.Standing.{Force, absent, present, Coming, nothing, deleting, partly, wholly, deletion-head, deletion-length}
+use Rattle.multiplex.proofs.Standing.{Force, absent, present, Coming, nothing, deleting, partly, wholly, deletion-head, deletion-length, force-left}
 
 pub record Held (b : Broadcast) (e : ℕ) (n : ℕ → ℕ) (g : ℕ → Bool) (m : List ℕ) : Type 0 where
   pub size : length m ≡ mapSize
@@ -47,9 +47,9 @@ module _ (b : Broadcast) (w : Lawful b) (t : ℕ) (m : List ℕ) (k : ℕ) (hk :
       → Coming (structureAt k 1 m) (b .config (suc (epoch b t)) k) (through b k t) (goneThrough b k t) (b .links (suc (epoch b t)) k) → Both
   unfolding Both inForceAt
   changed-one (unsaid z q s) (nothing n0 g0 e) = (
-    subst (λ (x : List ℕ). Force x (b .config (suc (epoch b t)) k)) (sym (stays (begun b t) m l k hk (e .fields) (e .deleted) 0 (lit< tt)))
+    subst (λ (x : List ℕ). Force x (b .config (suc (epoch b t)) k)) (sym (stays (begun b t) m l k hk (e .fields) (e .deleted) ∙ force-left (begun b t) (structureAt k 0 m) (b .config (epoch b t) k) f))
         (subst (Force (structureAt k 0 m)) (sym s) f),
-    nothing refl refl (subst Empty (sym (stays (begun b t) m l k hk (e .fields) (e .deleted) 1 (lit< tt))) e),
+    nothing refl refl (subst Empty (sym (stays-unsaid (begun b t) m l k hk (e .fields) (e .deleted))) e),
   )
   changed-one (unsaid z q s) (deleting g1 x e) = clash (sym g1 ∙ q)
   changed-one (unsaid z q s) (partly p x h) = absurd (omega (arith, z))

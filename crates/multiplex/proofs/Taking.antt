@@ -23,7 +23,7 @@ use Rattle.frames.specs.Counts.{goodFrames}
 use Rattle.map.specs.Map.{ids, structureAt, withStructure, framesOf, goodAt, good, inForce, announced}
 use Rattle.map.specs.Calls.{putIn, takenIn}
 use Rattle.multiplex.specs.Broadcast.{Broadcast, Sends, new, old, gone, vectors, Lawful, Linked, Allowed, isNew, isGone, epoch, inForceAt, before, through, goneBefore, goneThrough, countAt, sentAs, fieldSent}
-use Rattle.map.proofs.Changing.{blank-empty, stays}
+use Rattle.map.proofs.Changing.{blank-empty}
 use Rattle.multiplex.proofs.Counting.{or-yes}
 use Rattle.multiplex.proofs.Standing.{Force, absent, Coming, deleting, force-good, coming-good, put-new, put-old}
 use Rattle.multiplex.proofs.Steps.{Held, put-force, put-coming}

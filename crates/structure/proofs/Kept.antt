@@ -2,87 +2,32 @@
 --
 --   Kept                    what one more field keeps
 --   gathered-length, gathered-good, gathered-deleted
---   spoiled-length, spoiled-head, spoiled-open    a missed frame: the head stays, and no next field is taken to complete it
+--   spoiled-length, spoiled-good, spoiled-deleted    a structure that may lack a field
+--   spoiled-some            it still has fields, exactly where it had
+--   spoiled-head, spoiled-none    its head: one field, where it is being gathered; otherwise all of it stays as it was
+--   spoiled-open            where it is being gathered, whatever field comes next begins it anew: none completes it, and none joins on
 --   deletion-length, deletion-good, blank-good    a structure that is to be deleted, and one of 0 alone
 --   settled-good            a head as a change puts it in force
 --   good-deleted            a good head that is not to be deleted says so
 --
 -- Assumes nothing.
-use mathlib.Core.Path.{_≡_, refl, ap, _∙_}
+use mathlib.Core.Path.{_≡_, refl, sym, ap, _∙_}
 use mathlib.Core.Bool.{Bool, true, false, true≢false, cond, _&&_, _||_}
 use mathlib.Core.List.{List}
 use Prim.Native.Nat.{ℕ, _+_, _-_, _%_, _^_, _≤_, _<_}
 use native.Mathlib.Omega.{arith}
-use borrow.Author.Tests.{ne-eqb, leb-true, ltb-true, le-leb, lt-ltb}
+use borrow.Author.Tests.{ne-eqb, eqb-true, leb-true, ltb-true, le-leb, lt-ltb, le-ltb}
 use lib.Dec.{leb, ltb, eqb, lit<, lit≤}
 use lib.ListN.{length}
 use Rattle.bits.specs.Bits.{blank}
 use Rattle.bits.proofs.Search.{and-left, and-right}
 use Rattle.bits.proofs.Storing.{blank-length}
-use Rattle.field.specs.Field.{deletes}
-use Rattle.structure.specs.Structure.{most, structureSize, allOnes, headOf, withHead, nth, withNth, member, goesOn, turnOf, turned, gathered, spoiled, deletion, goodHead, settledHead}
+use Rattle.field.specs.Field.{fln1, fcp, deletes, key}
+use Rattle.structure.specs.Structure.{most, structureSize, allOnes, headOf, withHead, nth, withNth, stored, member, goesOn, turnOf, turned, gathered, spoiled, deletion, goodHead, settledHead}
 use Rattle.structure.specs.declared.Structure.{Structure}
 use Rattle.structure.specs.declared.Turn.{Turn}
 use Rattle.structure.specs.declared.Turn.the-variants.{Begins, Joins, Overflows, Completes, Known}
 use Rattle.structure.proofs.Gathering.{head-stored, head-nth, nth-same, with-head-length, with-nth-length}
-
--- ---- a missed frame
-
-pub completes : Turn → Bool
-completes Begins = false
-completes Joins = false
-completes Overflows = false
-completes Completes = true
-completes Known = false
-
-module _ (s : List ℕ) (l : length s ≡ structureSize) where
-  either : (P : List ℕ → Type 0) → P (withNth 0 allOnes s) → P s → P (spoiled s)
-  unfolding spoiled
-  either P p q = go (eqb (headOf s .whole) 0 && ltb 0 (headOf s .fields))
-    where
-      go : (b : Bool) → P (cond b (withNth 0 allOnes s) s)
-      go true = p
-      go false = q
-
-  pub spoiled-length : length (spoiled s) ≡ structureSize
-  spoiled-length = either (λ (x : List ℕ). length x ≡ structureSize) (with-nth-length s l 0 allOnes (lit< tt)) l
-
-  pub spoiled-head : headOf (spoiled s) ≡ headOf s
-  spoiled-head = either (λ (x : List ℕ). headOf x ≡ headOf s) (head-nth s l 0 allOnes (lit< tt)) refl
-
-  -- whatever field comes next, it does not end a repetition that would be taken for the whole
-  module _ (gathers : headOf s .whole ≡ 0) (some : 0 < headOf s .fields) where
-    first-ones : nth 0 (spoiled s) ≡ allOnes
-    unfolding spoiled
-    first-ones =
-        ap (λ (b : Bool). nth 0 (cond b (withNth 0 allOnes s) s)) (λ i. eqb (gathers i) 0 && lt-ltb 0 (headOf s .fields) some i)
-        ∙ nth-same s l 0 allOnes (lit< tt) (lit< tt)
-
-    pub spoiled-open : (t r : ℕ) → deletes t ≡ false → completes (turnOf (spoiled s) t r) ≡ false
-    unfolding turnOf deletes completes
-    spoiled-open t r d =
-        (λ i. completes (cond (shut i) (cond (member (spoiled s) t) Known Begins) (cond (goesOn (spoiled s) t r) (cond (ltb (h .fields) most) Joins Overflows)
-        (cond (ltb 0 (h .fields) && (leb (h .fields) most && other i)) Completes Begins))))
-        ∙ none (goesOn (spoiled s) t r) (ltb (h .fields) most) (ltb 0 (h .fields)) (leb (h .fields) most)
-      where
-        h : Structure
-        h = headOf (spoiled s)
-
-        shut : eqb (h .whole) 1 ≡ false
-        shut = ap (λ (x : Structure). eqb (x .whole) 1) spoiled-head ∙ ap (λ (x : ℕ). eqb x 1) gathers
-
-        differs : allOnes ≡ t → ⊥
-        differs e = true≢false (ap (λ (x : ℕ). eqb (x % 2 ^ 40) (2 ^ 40 - 1)) e ∙ d)
-
-        other : eqb (nth 0 (spoiled s)) t ≡ false
-        other = ap (λ (x : ℕ). eqb x t) first-ones ∙ ne-eqb allOnes t differs
-
-        none : (g m a b : Bool) → completes (cond g (cond m Joins Overflows) (cond (a && (b && false)) Completes Begins)) ≡ false
-        none true true a b = refl
-        none true false a b = refl
-        none false m true true = refl
-        none false m true false = refl
-        none false m false b = refl
 
 -- ---- heads that are not to be deleted
 
@@ -157,15 +102,16 @@ module _ (s : List ℕ) (t l : ℕ) (ls : length s ≡ structureSize) where
   alone : (n w : ℕ) → n ≤ most + 1 → w ≤ 1 → fits n w ≡ true → Kept s l (withHead (made n w l) s)
   alone n w hn hw f = by-head _ n w (with-head-length s ls (made n w l)) (head-stored s ls (made n w l)) hn hw f
 
+  begun : Kept s l (turned Begins s t l)
+  unfolding turned
+  begun = both (blank structureSize) (blank-length structureSize) 0 1 0 (lit< tt) (lit≤ tt) (lit≤ tt) refl
+
   kept : Kept s l (gathered s t l)
   unfolding gathered turned turnOf
   kept =
       go (eqb (headOf s .whole) 1) (member s t) (goesOn s t l) (ltb (headOf s .fields) most)
       (ltb 0 (headOf s .fields) && (leb (headOf s .fields) most && eqb (nth 0 s) t)) refl refl
     where
-      begun : Kept s l (turned Begins s t l)
-      begun = both (blank structureSize) (blank-length structureSize) 0 1 0 (lit< tt) (lit≤ tt) (lit≤ tt) refl
-
       go : (w m g r f : Bool) → ltb (headOf s .fields) most ≡ r
           → (ltb 0 (headOf s .fields) && (leb (headOf s .fields) most && eqb (nth 0 s) t)) ≡ f
           → Kept s l (turned (cond w (cond m Known Begins) (cond g (cond r Joins Overflows) (cond f Completes Begins))) s t l)
@@ -190,6 +136,90 @@ module _ (s : List ℕ) (t l : ℕ) (ls : length s ≡ structureSize) where
 
   pub gathered-deleted : headOf s .deleted ≡ 0 → headOf (gathered s t l) .deleted ≡ 0
   gathered-deleted = kept .deleted
+
+-- ---- a structure that may lack a field
+
+module _ (s : List ℕ) (l : length s ≡ structureSize) where
+  abbrev ones : List ℕ
+  ones = turned Begins s allOnes 0
+
+  either : (P : List ℕ → Type 0) → P ones → P s → P (spoiled s)
+  unfolding spoiled
+  either P p q = go (eqb (headOf s .whole) 0 && ltb 0 (headOf s .fields))
+    where
+      go : (b : Bool) → P (cond b ones s)
+      go true = p
+      go false = q
+
+  pub spoiled-length : length (spoiled s) ≡ structureSize
+  spoiled-length = either (λ (x : List ℕ). length x ≡ structureSize) (begun s allOnes 0 l .size) l
+
+  pub spoiled-good : goodHead (headOf s) ≡ true → goodHead (headOf (spoiled s)) ≡ true
+  spoiled-good g = either (λ (x : List ℕ). goodHead (headOf x) ≡ true) (begun s allOnes 0 l .good g (lit≤ tt)) g
+
+  pub spoiled-deleted : headOf s .deleted ≡ 0 → headOf (spoiled s) .deleted ≡ 0
+  spoiled-deleted d = either (λ (x : List ℕ). headOf x .deleted ≡ 0) (begun s allOnes 0 l .deleted d) d
+
+  pub spoiled-none : (eqb (headOf s .whole) 0 && ltb 0 (headOf s .fields)) ≡ false → spoiled s ≡ s
+  unfolding spoiled
+  spoiled-none e = ap (λ (b : Bool). cond b ones s) e
+
+  module _ (gathers : headOf s .whole ≡ 0) (some : 0 < headOf s .fields) where
+    spoils : spoiled s ≡ ones
+    unfolding spoiled
+    spoils = ap (λ (b : Bool). cond b ones s) (λ i. eqb (gathers i) 0 && lt-ltb 0 (headOf s .fields) some i)
+
+    stored-length : length (withHead (made 1 0 0) (blank structureSize)) ≡ structureSize
+    stored-length = with-head-length (blank structureSize) (blank-length structureSize) (made 1 0 0)
+
+    pub spoiled-head : headOf (spoiled s) ≡ made 1 0 0
+    unfolding turned
+    spoiled-head =
+        ap headOf spoils ∙ head-nth (withHead (made 1 0 0) (blank structureSize)) stored-length 0 allOnes (lit< tt)
+        ∙ head-stored (blank structureSize) (blank-length structureSize) (made 1 0 0)
+
+    spoiled-first : nth 0 (spoiled s) ≡ allOnes
+    unfolding turned
+    spoiled-first =
+        ap (nth 0) spoils ∙ nth-same (withHead (made 1 0 0) (blank structureSize)) stored-length 0 allOnes (lit< tt) (lit< tt)
+
+    still-some : ltb 0 (headOf (spoiled s) .fields) ≡ true
+    still-some = ap (λ (h : Structure). ltb 0 (h .fields)) spoiled-head
+
+    -- no key is above that of all ones
+    top-key : (t : ℕ) → key t ≤ key allOnes
+    unfolding key fln1 fcp
+    top-key t = omega arith
+
+    pub spoiled-open : (t r : ℕ) → deletes t ≡ false → turnOf (spoiled s) t r ≡ Begins
+    unfolding turnOf goesOn stored deletes
+    spoiled-open t r d =
+        (λ i. cond (eqb (spoiled-head i .whole) 1) (cond (member (spoiled s) t) Known Begins)
+        (cond (ltb 0 (spoiled-head i .fields) && (eqb (spoiled-head i .links) r && ltb (key (nth (stored (spoiled-head i) - 1) (spoiled s))) (key t)))
+        (cond (ltb (spoiled-head i .fields) most) Joins Overflows)
+        (cond (ltb 0 (spoiled-head i .fields) && (leb (spoiled-head i .fields) most && eqb (nth 0 (spoiled s)) t)) Completes Begins)))
+        ∙ (λ i. cond (eqb 0 r && below i) Joins (cond (other i) Completes Begins))
+        ∙ none (eqb 0 r)
+      where
+        below : ltb (key (nth 0 (spoiled s))) (key t) ≡ false
+        below = ap (λ (x : ℕ). ltb (key x) (key t)) spoiled-first ∙ le-ltb (key allOnes) (key t) (top-key t)
+
+        other : eqb (nth 0 (spoiled s)) t ≡ false
+        other =
+            ap (λ (x : ℕ). eqb x t) spoiled-first
+            ∙ ne-eqb allOnes t (λ e. true≢false (ap (λ (x : ℕ). eqb (x % 2 ^ 40) (2 ^ 40 - 1)) e ∙ d))
+
+        none : (b : Bool) → cond (b && false) Joins Begins ≡ Begins
+        none true = refl
+        none false = refl
+
+  pub spoiled-some : ltb 0 (headOf (spoiled s) .fields) ≡ ltb 0 (headOf s .fields)
+  spoiled-some = go (eqb (headOf s .whole) 0) (ltb 0 (headOf s .fields)) refl refl
+    where
+      go : (w f : Bool) → eqb (headOf s .whole) 0 ≡ w → ltb 0 (headOf s .fields) ≡ f → ltb 0 (headOf (spoiled s) .fields) ≡ ltb 0 (headOf s .fields)
+      go true true ew ef = still-some (eqb-true (headOf s .whole) 0 ew) (ltb-true 0 (headOf s .fields) ef) ∙ sym ef
+      go true false ew ef = ap (λ (x : List ℕ). ltb 0 (headOf x .fields)) (spoiled-none (λ i. ew i && ef i))
+      go false f ew ef = ap (λ (x : List ℕ). ltb 0 (headOf x .fields)) (spoiled-none (λ i. ew i && ltb 0 (headOf s .fields)))
 
 -- ---- to be deleted, and 0 alone
 

@@ -8,8 +8,9 @@
 --   member-none, member-hit, member-pass, member-end    the search from the last field to the first
 --   turn-known .. turn-begins              what one more field does, by the tests
 --   joins-room                             a field that joins has room
---   begun-stored .. known-stays            the structure with it taken in, as it is stored
---   spoils, spoils-none                    a missed frame, by the test
+--   begun-stored, begun-gathered           a structure that is begun anew, as it is stored and where one more field does it
+--   joined-stored .. known-stays           the structure with it taken in, as it is stored
+--   spoils, spoils-none                    a structure that may lack a field, by the test
 --
 -- Assumes nothing.
 use mathlib.Core.Path.{_≡_, refl, sym, ap, ap₂, _∙_, subst}
@@ -213,11 +214,13 @@ module _ (s : List ℕ) (t l : ℕ) where
   unfolding gathered
   by-turn u e = sym (ap (λ (x : Turn). turned x s t l) e)
 
-  pub begun-stored : length s ≡ structureSize → turnOf s t l ≡ Begins → (a b c : List ℕ) (h : Structure) → a ≡ blank (length s)
-      → Made h 1 0 l → b ≡ withHead h a → c ≡ withNth 0 t b → c ≡ gathered s t l
+  pub begun-stored : length s ≡ structureSize → (a b c : List ℕ) (h : Structure) → a ≡ blank (length s)
+      → Made h 1 0 l → b ≡ withHead h a → c ≡ withNth 0 t b → c ≡ turned Begins s t l
   unfolding turned
-  begun-stored ls e a b c h ea m eb ec =
-      ec ∙ ap (withNth 0 t) (eb ∙ ap₂ withHead (made-is h 1 0 l m) (ea ∙ ap blank ls)) ∙ by-turn Begins e
+  begun-stored ls a b c h ea m eb ec = ec ∙ ap (withNth 0 t) (eb ∙ ap₂ withHead (made-is h 1 0 l m) (ea ∙ ap blank ls))
+
+  pub begun-gathered : turnOf s t l ≡ Begins → (c : List ℕ) → c ≡ turned Begins s t l → c ≡ gathered s t l
+  begun-gathered e c ec = ec ∙ by-turn Begins e
 
   module _ (g : Structure) (eg : g ≡ headOf s) (h : Structure) (b : List ℕ) (eb : b ≡ withHead h s) where
     pub joined-stored : turnOf s t l ≡ Joins → (c : List ℕ) → Made h (g .fields + 1) 0 l → c ≡ withNth (g .fields) t b → c ≡ gathered s t l
@@ -240,15 +243,15 @@ module _ (s : List ℕ) (t l : ℕ) where
   unfolding turned
   known-stays e = by-turn Known e
 
--- ---- a missed frame
+-- ---- a structure that may lack a field
 
 module _ (s : List ℕ) (h : Structure) (e : h ≡ headOf s) where
-  by-gathers : (b : Bool) → (eqb (h .whole) 0 && ltb 0 (h .fields)) ≡ b → cond b (withNth 0 allOnes s) s ≡ spoiled s
+  by-gathers : (b : Bool) → (eqb (h .whole) 0 && ltb 0 (h .fields)) ≡ b → cond b (turned Begins s allOnes 0) s ≡ spoiled s
   unfolding spoiled
   by-gathers b q =
-      ap (λ (x : Bool). cond x (withNth 0 allOnes s) s) (sym q ∙ ap (λ (x : Structure). eqb (x .whole) 0 && ltb 0 (x .fields)) e)
+      ap (λ (x : Bool). cond x (turned Begins s allOnes 0) s) (sym q ∙ ap (λ (x : Structure). eqb (x .whole) 0 && ltb 0 (x .fields)) e)
 
-  pub spoils : (eqb (h .whole) 0 && ltb 0 (h .fields)) ≡ true → (x : List ℕ) → x ≡ withNth 0 allOnes s → x ≡ spoiled s
+  pub spoils : (eqb (h .whole) 0 && ltb 0 (h .fields)) ≡ true → (x : List ℕ) → x ≡ turned Begins s allOnes 0 → x ≡ spoiled s
   spoils q x ex = ex ∙ by-gathers true q
 
   pub spoils-none : (eqb (h .whole) 0 && ltb 0 (h .fields)) ≡ false → s ≡ spoiled s

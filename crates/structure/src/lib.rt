@@ -3,7 +3,8 @@
 ghost use mathlib.Core.Path.{_≡_};
 ghost use Prim.Native.Nat.{_+_, _<_};
 ghost use lib.ListN.{length};
-ghost use Rattle.structure.specs.Structure.{headOf, withHead, nth, withNth, stored, member, goesOn, turnOf, gathered, spoiled, deletion, said, goodHead, settledHead};
+ghost use Rattle.structure.specs.Structure.{headOf, withHead, nth, withNth, stored, member, goesOn, turnOf, turned, gathered, spoiled, deletion, said, goodHead, settledHead};
+ghost use Rattle.structure.specs.declared.Turn.the-variants.{Begins};
 use field::Tdms;
 use slot::room;
 
@@ -170,6 +171,16 @@ fn turn_of(s: &[u8], tdms: u64, links: u8) -> Turn
     }
 }
 
+// Begins the structure anew, with one field.
+fn begin(s: &mut [u8], tdms: u64, links: u8)
+    requires { ⌜ length (now s) ≡ 68 ⌝ }
+    ensures { λ _. ⌜ now (s .exit) ≡ turned Begins (now (s .entry)) tdms links ⌝ }
+{
+    room::clear(s);
+    head_with(1, 0, links).store(s);
+    put_nth(s, 0, tdms);
+}
+
 // Takes one more field in.
 pub fn gather(s: &mut [u8], tdms: u64, links: u8)
     requires { ⌜ length (now s) ≡ 68 ⌝ }
@@ -178,9 +189,7 @@ pub fn gather(s: &mut [u8], tdms: u64, links: u8)
     let fields = Structure::load(s).fields;
     match turn_of(s, tdms, links) {
         Turn::Begins => {
-            room::clear(s);
-            head_with(1, 0, links).store(s);
-            put_nth(s, 0, tdms);
+            begin(s, tdms, links);
         }
         Turn::Joins => {
             head_with(fields + 1, 0, links).store(s);
@@ -196,14 +205,14 @@ pub fn gather(s: &mut [u8], tdms: u64, links: u8)
     }
 }
 
-// A frame was missed: what is being gathered may lack a field, and is not taken for the whole.
+// What is being gathered may lack a field, and whatever comes begins it anew: no key is above that of all ones.
 pub fn spoil(s: &mut [u8])
     requires { ⌜ length (now s) ≡ 68 ⌝ }
     ensures { λ _. ⌜ now (s .exit) ≡ spoiled (now (s .entry)) ⌝ }
 {
     let head = Structure::load(s);
     if (head.whole == 0) & (0 < head.fields) {
-        put_nth(s, 0, Tdms::END - 1);
+        begin(s, Tdms::END - 1, 0);
     }
 }
 

@@ -1,99 +1,55 @@
--- `map::change_one` meets its contract. Assumes nothing.
-use Rattle.slot.specs.Part.{part}
-use Rattle.map.proofs.Moving.{change-deletes, change-stays, change-lists}
+-- `map::change_one` meets its contract: what is announced comes into force, and is spoiled where the change is not sure. Assumes nothing.
+use borrow.Author.Tests.{not-true, not-false}
+use Rattle.map.proofs.Moving.{change-sure, change-unsure}
 use borrow.Author.Needs.{needs}
 use Rattle.map.proofs.change_one.Statement.{statement}
 use Rattle.map.proofs.change_one.Tie as tie
 
-sub-load : tie.Need-sub-load
-sub-load c = search needs
+apply-requires : tie.Need-apply-requires
+apply-requires c κs = search needs
 
-part-load-start : tie.Need-part-load-start
-part-load-start c = search needs
+sub-spoil : tie.Need-sub-spoil
+sub-spoil c = search needs
 
-part-load-end : tie.Need-part-load-end
-part-load-end c = search needs
+part-spoil-start : tie.Need-part-spoil-start
+part-spoil-start c = search needs
 
-load-requires : tie.Need-load-requires
-load-requires c κs = search needs
+part-spoil-end : tie.Need-part-spoil-end
+part-spoil-end c = search needs
 
-clear-requires : tie.Need-clear-requires
-clear-requires c κs = search needs
+spoil-requires : tie.Need-spoil-requires
+spoil-requires c κs = search needs
 
 same-length : tie.Need-same-length
 same-length c = search needs
 
 returns : tie.Need-returns
-unfolding part
 returns c =
     let test = c .before .before .before .before in
-    let load = test .before .before in
-    let start = load .before .before .before .before in
-    change-deletes (start .args .sure) (start .args .block .now) _ (load .load .ensures) (test .if1 .taken) (start .pre) _
-    (c .before .before .clear .ensures)
+    let applied = test .before .before .before in
+    let start = applied .before .before .before in
+    change-unsure (start .args .sure) (start .args .block .now) _ (applied .apply .ensures) (not-true _ (test .if1 .taken)) (search needs) _
+    (c .before .before .spoil .ensures)
 
 same-length-2 : tie.Need-same-length-2
 same-length-2 c = search needs
 
 returns-2 : tie.Need-returns-2
-unfolding part
 returns-2 c =
-    let test = c .before .before in
-    let load = test .before .before in
-    let start = load .before .before .before .before in
-    change-stays (start .args .sure) (start .args .block .now) _ (load .load .ensures) (test .if1 .left) (c .if2 .taken)
-
-move-down-requires : tie.Need-move-down-requires
-move-down-requires c κs = search needs
-
-settled-requires : tie.Need-settled-requires
-settled-requires c κs = search needs
-
-sub-store : tie.Need-sub-store
-sub-store c = search needs
-
-part-store-start : tie.Need-part-store-start
-part-store-start c = search needs
-
-part-store-end : tie.Need-part-store-end
-part-store-end c = search needs
-
-store-requires : tie.Need-store-requires
-store-requires c κs = search needs
-
-same-length-3 : tie.Need-same-length-3
-same-length-3 c = search needs
-
-returns-3 : tie.Need-returns-3
-unfolding part
-returns-3 c =
-    let settled = c .before .before .before .before in
-    let moved = settled .before .before .before in
-    let second = moved .before .before in
-    let first = second .before .before in
-    let load = first .before .before in
-    let start = load .before .before .before .before in
-    change-lists (start .args .sure) (start .args .block .now) _ (load .load .ensures) (first .if1 .left) (second .if2 .left) (start .pre)
-    _ _ _ (moved .move-down .ensures) (search needs) (settled .settled .ensures) (c .before .before .store .ensures)
+    let applied = c .before .before .before in
+    let start = applied .before .before .before in
+    change-sure (start .args .sure) (start .args .block .now) _ (applied .apply .ensures) (not-false _ (c .if1 .left))
 
 pub change-one-spec : {M : Type 1} → statement M
 change-one-spec =
     tie.close
     (tie.spec
-    sub-load
-    part-load-start
-    part-load-end
-    load-requires
-    clear-requires
+    apply-requires
+    sub-spoil
+    part-spoil-start
+    part-spoil-end
+    spoil-requires
     same-length
     returns
     same-length-2
-    returns-2
-    move-down-requires
-    settled-requires
-    sub-store
-    part-store-start
-    part-store-end
-    store-requires
-    same-length-3
-    returns-3)
+    returns-2)

@@ -4,7 +4,7 @@ use Prim.Native.Nat.{_<_}
 use native.Mathlib.Omega.{arith}
 use Rattle.structure.specs.Structure.{most}
 use Rattle.structure.specs.declared.Structure.{Structure}
-use Rattle.structure.proofs.Turns.{joins-room, begun-stored, joined-stored, overflown-stored, completed-stored, known-stays}
+use Rattle.structure.proofs.Turns.{joins-room, begun-gathered, joined-stored, overflown-stored, completed-stored, known-stays}
 use borrow.Author.Needs.{needs}
 use Rattle.structure.proofs.gather.Statement.{statement}
 use Rattle.structure.proofs.gather.Tie as tie
@@ -30,17 +30,8 @@ turn-of-requires c κs = search needs
 enum-told : tie.Need-enum-told
 enum-told c = search needs
 
-clear-requires : tie.Need-clear-requires
-clear-requires c κs = search needs
-
-head-with-requires : tie.Need-head-with-requires
-head-with-requires c κs = search needs
-
-store-requires : tie.Need-store-requires
-store-requires c κs = search needs
-
-put-nth-requires : tie.Need-put-nth-requires
-put-nth-requires c κs = search needs
+begin-requires : tie.Need-begin-requires
+begin-requires c κs = search needs
 
 enum-told-2 : tie.Need-enum-told-2
 enum-told-2 c = search needs
@@ -49,17 +40,17 @@ add-head-with : tie.Need-add-head-with
 add-head-with c =
     omega (arith, room c)
 
-head-with-requires-2 : tie.Need-head-with-requires-2
-head-with-requires-2 c κs = search needs
+head-with-requires : tie.Need-head-with-requires
+head-with-requires c κs = search needs
 
-store-requires-2 : tie.Need-store-requires-2
-store-requires-2 c κs = search needs
+store-requires : tie.Need-store-requires
+store-requires c κs = search needs
 
 cast-put-nth : tie.Need-cast-put-nth
 cast-put-nth c = search needs
 
-put-nth-requires-2 : tie.Need-put-nth-requires-2
-put-nth-requires-2 c κs =
+put-nth-requires : tie.Need-put-nth-requires
+put-nth-requires c κs =
     (search needs, room (c .before .before .before .before .before .before))
 
 enum-told-3 : tie.Need-enum-told-3
@@ -68,20 +59,20 @@ enum-told-3 c = search needs
 add-head-with-2 : tie.Need-add-head-with-2
 add-head-with-2 c = search needs
 
+head-with-requires-2 : tie.Need-head-with-requires-2
+head-with-requires-2 c κs = search needs
+
+store-requires-2 : tie.Need-store-requires-2
+store-requires-2 c κs = search needs
+
+enum-told-4 : tie.Need-enum-told-4
+enum-told-4 c = search needs
+
 head-with-requires-3 : tie.Need-head-with-requires-3
 head-with-requires-3 c κs = search needs
 
 store-requires-3 : tie.Need-store-requires-3
 store-requires-3 c κs = search needs
-
-enum-told-4 : tie.Need-enum-told-4
-enum-told-4 c = search needs
-
-head-with-requires-4 : tie.Need-head-with-requires-4
-head-with-requires-4 c κs = search needs
-
-store-requires-4 : tie.Need-store-requires-4
-store-requires-4 c κs = search needs
 
 enum-told-5 : tie.Need-enum-told-5
 enum-told-5 c = search needs
@@ -91,16 +82,12 @@ same-length c = search needs
 
 returns : tie.Need-returns
 returns c =
-    let put = c .before .before in
-    let stored = put .before .before .before .before in
-    let head = stored .before .before in
-    let cleared = head .before .before .before in
-    let told = cleared .before .before in
+    let begun = c .before .before in
+    let told = begun .before .before in
     let turn = told .before .before in
     let start = turn .before .before .before .before .before in
-    begun-stored (start .args .s .now) (start .args .tdms) (start .args .links) (start .pre)
-    (sym (turn .turn-of .ensures) ∙ told .enum-told .given .1) _ _ _ _ (cleared .clear .ensures) (head .head-with .ensures)
-    (stored .store .ensures) (put .put-nth .ensures)
+    begun-gathered (start .args .s .now) (start .args .tdms) (start .args .links) (sym (turn .turn-of .ensures) ∙ told .enum-told .given .1)
+    _ (begun .begin .ensures)
 
 same-length-2 : tie.Need-same-length-2
 same-length-2 c = search needs
@@ -114,8 +101,8 @@ returns-2 c =
     let turn = told .before .before in
     let load = turn .before .before in
     let start = load .before .before .before in
-    joined-stored (start .args .s .now) (start .args .tdms) (start .args .links) _ (load .load .ensures) _ _ (stored .store2 .ensures)
-    (sym (turn .turn-of .ensures) ∙ told .enum-told2 .given .1) _ (head .head-with2 .ensures) (put .put-nth2 .ensures)
+    joined-stored (start .args .s .now) (start .args .tdms) (start .args .links) _ (load .load .ensures) _ _ (stored .store .ensures)
+    (sym (turn .turn-of .ensures) ∙ told .enum-told2 .given .1) _ (head .head-with .ensures) (put .put-nth .ensures)
 
 same-length-3 : tie.Need-same-length-3
 same-length-3 c = search needs
@@ -128,8 +115,8 @@ returns-3 c =
     let turn = told .before .before in
     let load = turn .before .before in
     let start = load .before .before .before in
-    overflown-stored (start .args .s .now) (start .args .tdms) (start .args .links) _ (load .load .ensures) _ _ (stored .store3 .ensures)
-    (sym (turn .turn-of .ensures) ∙ told .enum-told3 .given .1) (head .head-with3 .ensures)
+    overflown-stored (start .args .s .now) (start .args .tdms) (start .args .links) _ (load .load .ensures) _ _ (stored .store2 .ensures)
+    (sym (turn .turn-of .ensures) ∙ told .enum-told3 .given .1) (head .head-with2 .ensures)
 
 same-length-4 : tie.Need-same-length-4
 same-length-4 c = search needs
@@ -142,8 +129,8 @@ returns-4 c =
     let turn = told .before .before in
     let load = turn .before .before in
     let start = load .before .before .before in
-    completed-stored (start .args .s .now) (start .args .tdms) (start .args .links) _ (load .load .ensures) _ _ (stored .store4 .ensures)
-    (sym (turn .turn-of .ensures) ∙ told .enum-told4 .given .1) (head .head-with4 .ensures)
+    completed-stored (start .args .s .now) (start .args .tdms) (start .args .links) _ (load .load .ensures) _ _ (stored .store3 .ensures)
+    (sym (turn .turn-of .ensures) ∙ told .enum-told4 .given .1) (head .head-with3 .ensures)
 
 same-length-5 : tie.Need-same-length-5
 same-length-5 c = search needs
@@ -161,23 +148,20 @@ gather-spec =
     load-requires
     turn-of-requires
     enum-told
-    clear-requires
-    head-with-requires
-    store-requires
-    put-nth-requires
+    begin-requires
     enum-told-2
     add-head-with
-    head-with-requires-2
-    store-requires-2
+    head-with-requires
+    store-requires
     cast-put-nth
-    put-nth-requires-2
+    put-nth-requires
     enum-told-3
     add-head-with-2
+    head-with-requires-2
+    store-requires-2
+    enum-told-4
     head-with-requires-3
     store-requires-3
-    enum-told-4
-    head-with-requires-4
-    store-requires-4
     enum-told-5
     same-length
     returns

@@ -1,4 +1,4 @@
--- `structure::spoil` meets its contract: what is being gathered loses its first field. Assumes nothing.
+-- `structure::spoil` meets its contract: what is being gathered is begun anew with all ones. Assumes nothing.
 use borrow.Author.Needs.{needs}
 use Rattle.structure.proofs.Turns.{spoils, spoils-none}
 use Rattle.structure.proofs.spoil.Statement.{statement}
@@ -7,11 +7,11 @@ use Rattle.structure.proofs.spoil.Tie as tie
 load-requires : tie.Need-load-requires
 load-requires c κs = search needs
 
-sub-put-nth : tie.Need-sub-put-nth
-sub-put-nth c = search needs
+sub-begin : tie.Need-sub-begin
+sub-begin c = search needs
 
-put-nth-requires : tie.Need-put-nth-requires
-put-nth-requires c κs = search needs
+begin-requires : tie.Need-begin-requires
+begin-requires c κs = search needs
 
 same-length : tie.Need-same-length
 same-length c = search needs
@@ -20,7 +20,7 @@ returns : tie.Need-returns
 returns c =
     let test = c .before .before .before .before in
     let load = test .before .before .before in
-    spoils (load .before .before .before .args .s .now) _ (load .load .ensures) (test .if1 .taken) _ (c .before .before .put-nth .ensures)
+    spoils (load .before .before .before .args .s .now) _ (load .load .ensures) (test .if1 .taken) _ (c .before .before .begin .ensures)
 
 same-length-2 : tie.Need-same-length-2
 same-length-2 c = search needs
@@ -35,8 +35,8 @@ spoil-spec =
     tie.close
     (tie.spec
     load-requires
-    sub-put-nth
-    put-nth-requires
+    sub-begin
+    begin-requires
     same-length
     returns
     same-length-2

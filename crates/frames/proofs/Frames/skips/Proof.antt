@@ -1,4 +1,4 @@
--- `frames::Frames::skips` meets its contract: the distance is that of the definition. Assumes nothing.
+-- `frames::Frames::skips` meets its contract: the frames between are those of the definition. Assumes nothing.
 use mathlib.Core.Path.{ap}
 use mathlib.Core.Bool.{_&&_}
 use Prim.Native.Nat.{ℕ}
@@ -8,12 +8,12 @@ use borrow.Author.Needs.{needs}
 use Rattle.frames.proofs.Frames.skips.Statement.{statement}
 use Rattle.frames.proofs.Frames.skips.Tie as tie
 
-ahead-requires : tie.Need-ahead-requires
-ahead-requires c κs = search needs
+since-requires : tie.Need-since-requires
+since-requires c κs = search needs
 
 returns : tie.Need-returns
 unfolding skips
-returns c = ap (λ (d : ℕ). eqb (c .before .before .args .self .heard) 1 && ltb 1 d) (c .ahead .ensures)
+returns c = ap (λ (d : ℕ). eqb (c .before .before .args .self .heard) 1 && ltb 1 d) (c .since .ensures)
 
 pub skips-spec : {M : Type 1} → statement M
-skips-spec = tie.close (tie.spec ahead-requires returns)
+skips-spec = tie.close (tie.spec since-requires returns)
