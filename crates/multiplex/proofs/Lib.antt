@@ -1,4 +1,10 @@
+pub mod Certain
 pub mod Counting
+pub mod Distances
+pub mod Knowing
+pub mod Listening
+pub mod Reaching
+pub mod Soundness
 pub mod Standing
 pub mod Steps
 pub mod Taking

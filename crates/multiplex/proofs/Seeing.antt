@@ -117,16 +117,16 @@ module _ (m : List ℕ) (id count : ℕ) (lm : length m ≡ mapSize) (gm : good 
 
   -- no change falls before the frame that is asked for, or none is announced
   module _ (q : (changing (framesOf m) count && said (announced id m)) ≡ false) where
-    which-force : thenWhich m id count ≡ 0
+    pub which-force : thenWhich m id count ≡ 0
     unfolding thenWhich
     which-force = ap (λ (x : Bool). cond x 1 0) q
 
-    head-force : thenHead m id count ≡ headOf (structureAt id 0 m)
+    pub head-force : thenHead m id count ≡ headOf (structureAt id 0 m)
     unfolding thenHead inForce
     head-force =
         ap (λ (x : ℕ). cond (eqb x 1) (settledHead (allHeard (framesOf m)) (announced id m)) (headOf (structureAt id 0 m))) which-force
 
-    seen-force : (xs : List ℕ) → length xs ≤ most → Force (structureAt id 0 m) xs → Seen m id count xs
+    pub seen-force : (xs : List ℕ) → length xs ≤ most → Force (structureAt id 0 m) xs → Seen m id count xs
     seen-force xs few (absent z e) = record {
       number = empty-number (headOf (structureAt id 0 m)) head-force (e .fields) (e .whole);
       fields = empty-fields (headOf (structureAt id 0 m)) head-force (e .fields) (e .whole) ∙ sym z;
@@ -138,16 +138,16 @@ module _ (m : List ℕ) (id count : ℕ) (lm : length m ≡ mapSize) (gm : good 
 
   -- the announced one
   module _ (q : (changing (framesOf m) count && said (announced id m)) ≡ true) (su : Bool) (all : allHeard (framesOf m) ≡ su) where
-    which-coming : thenWhich m id count ≡ 1
+    pub which-coming : thenWhich m id count ≡ 1
     unfolding thenWhich
     which-coming = ap (λ (x : Bool). cond x 1 0) q
 
-    head-coming : thenHead m id count ≡ settledHead su (headOf (structureAt id 1 m))
+    pub head-coming : thenHead m id count ≡ settledHead su (headOf (structureAt id 1 m))
     unfolding thenHead announced
     head-coming =
         (λ i. cond (eqb (which-coming i) 1) (settledHead (all i) (headOf (structureAt id 1 m))) (inForce id m))
 
-    seen-coming : (xs : List ℕ) (w l : ℕ) → (su || eqb w 1) ≡ true → 0 < length xs → length xs ≤ most → Holds (structureAt id 1 m) (length xs) xs w l → Seen m id count xs
+    pub seen-coming : (xs : List ℕ) (w l : ℕ) → (su || eqb w 1) ≡ true → 0 < length xs → length xs ≤ most → Holds (structureAt id 1 m) (length xs) xs w l → Seen m id count xs
     unfolding settledHead
     seen-coming xs w l known pos few h = record {
       number = whole-number g 1 xs head-coming which-coming whole (h .fields) few (h .each);

@@ -8,6 +8,7 @@
 --   turn n i              which field of a structure of n comes behind field i, again and again
 --   lastOld, lastNew      which field of a component's present structure, or of its coming one, was carried last before a frame; 0 for none,
 --                         otherwise one more than its place
+--   linksNew              LINKS of the last field of a component's coming structure before a frame
 --   newTo, goneTo         how many fields of its coming structure the running configuration has carried up to a frame, and whether it said
 --                         that the component is to be deleted
 --   Orderly a             what 4.5.4 asks
@@ -100,7 +101,17 @@ unfoldable pub lastNew : Air → ℕ → ℕ → ℕ
 lastNew a id zero = 0
 lastNew a id (suc t) = cond (change (timed a) (suc t)) 0 (later (newIn id (a .carries t)) (lastNew a id t))
 
-abbrev one : ℕ → ℕ
+unfoldable pub linkOf : Carries → ℕ
+linkOf (new k i l) = l
+linkOf (old k i l) = l
+linkOf (gone flag k t l) = l
+linkOf (vectors flag t l) = l
+
+unfoldable pub linksNew : Air → ℕ → ℕ → ℕ
+linksNew a id zero = 0
+linksNew a id (suc t) = cond (eqb (newIn id (a .carries t)) 0) (linksNew a id t) (linkOf (a .carries t))
+
+abbrev pub one : ℕ → ℕ
 one n = cond (eqb n 0) 0 1
 
 unfoldable pub newBefore : Air → ℕ → ℕ → ℕ
@@ -120,12 +131,13 @@ goneTo a id t = goneBefore a id t || goneIn id (a .carries t)
 -- ---- the law
 
 -- Fields of one component come round in order. A repetition of a coming structure begins with its first field (where the running
--- configuration began before frame 0, nobody knows which was carried before). "this bit shall change on each repetition of the linked TDMS
+-- configuration began before frame 0, nobody knows which was carried before), and LINKS is the same in all of it. "this bit shall change on each repetition of the linked TDMS
 -- field(s)" is read so that a repetition of a structure that does not change is sent whole, over a change too: a reading of the house.
 unfoldable pub InTurn : Air → ℕ → Carries → Type 0
 InTurn a t (new id i l) =
     (id < ids) × ((i < length (coming a t id)) × ((l < 2)
-    × (((k : ℕ) → lastNew a id t ≡ suc k → i ≡ turn (length (coming a t id)) k) × (lastNew a id t ≡ 0 → begun (timed a) t ≡ true → i ≡ 0))))
+    × (((k : ℕ) → lastNew a id t ≡ suc k → (i ≡ turn (length (coming a t id)) k) × (i ≡ suc k → l ≡ linksNew a id t))
+    × (lastNew a id t ≡ 0 → begun (timed a) t ≡ true → i ≡ 0))))
 InTurn a t (old id i l) =
     (id < ids) × ((i < length (inForce a t id)) × ((l < 2) × ((k : ℕ) → lastOld a id t ≡ suc k → i ≡ turn (length (inForce a t id)) k)))
 InTurn a t (gone flag id tdms l) =

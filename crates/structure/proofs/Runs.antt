@@ -6,6 +6,7 @@
 --   spoiled-part        what spoils it leaves nothing to be completed; spoiled-whole: what is whole stays
 --   Took s xs due       one more field was taken in: a part again, or all of xs
 --   part-takes          the field that comes in turn
+--   gathered-some       a field that is taken in leaves at least one
 --   whole-takes         a field of any structure, where another one is held as whole
 --
 -- Assumes nothing.
@@ -16,18 +17,19 @@ use mathlib.Core.Logic.{_⊎_, inl, inr}
 use Prim.Native.Nat.{ℕ, zero, suc, _+_, _-_, _*_, _%_, _^_, _≤_, _<_}
 use native.Mathlib.Omega.{arith}
 use native.Mathlib.Decide.{decLt, ℕ-discrete}
-use borrow.Author.Tests.{eq-eqb, ne-eqb, le-ltb, lt-ltb}
+use borrow.Author.Tests.{eq-eqb, ne-eqb, le-ltb, lt-ltb, ltb-true}
 use lib.Dec.{T, leb, ltb, eqb, lit<}
 use lib.ListN.{length, getD, drop}
 use lib.Seq.{getD-drop}
 use Rattle.bits.specs.Bits.{blank}
+use Rattle.bits.proofs.Search.{and-left}
 use Rattle.bits.proofs.Storing.{blank-length}
 use Rattle.field.specs.Field.{key, fln1, fcp, deletes}
-use Rattle.structure.specs.Structure.{most, structureSize, allOnes, headOf, nth, stored, member, goesOn, turnOf, turned, gathered, spoiled}
+use Rattle.structure.specs.Structure.{most, structureSize, allOnes, headOf, withHead, nth, stored, member, goesOn, turnOf, turned, gathered, spoiled}
 use Rattle.structure.specs.declared.Structure.{Structure}
 use Rattle.structure.specs.declared.Turn.{Turn}
 use Rattle.structure.specs.declared.Turn.the-variants.{Begins, Joins, Overflows, Completes, Known}
-use Rattle.structure.proofs.Gathering.{Holds, Empty, stored-few, begun, joined, completed}
+use Rattle.structure.proofs.Gathering.{Holds, Empty, head-stored, head-nth, with-head-length, stored-few, begun, joined, completed}
 
 pub record Fields (xs : List ℕ) : Type 0 where
   pub few : length xs ≤ most
@@ -62,7 +64,7 @@ module _ (xs : List ℕ) (f : Fields xs) where
       let e : suc (i + suc d) ≡ i + suc (suc d) = omega arith in
       omega (arith, before, step, ap (λ (j : ℕ). key (getD xs j 0)) e)
 
-  rises-to : (i j : ℕ) → i < j → j < length xs → key (getD xs i 0) < key (getD xs j 0)
+  pub rises-to : (i j : ℕ) → i < j → j < length xs → key (getD xs i 0) < key (getD xs j 0)
   rises-to i j h l =
       let e : i + suc (j - i - 1) ≡ j = omega arith in
       subst (λ (n : ℕ). key (getD xs i 0) < key (getD xs n 0)) e (rises-by i (j - i - 1) (omega arith))
@@ -107,6 +109,31 @@ turn-begins s t l w g n =
     none true false = refl
     none false b = refl
 
+-- where nothing is known to be whole, a field that is taken in leaves at least one
+pub gathered-some : (s : List ℕ) (t l : ℕ) → length s ≡ structureSize → headOf s .whole ≡ 0 → t < 2 ^ 64 → 0 < headOf (gathered s t l) .fields
+unfolding gathered turned turnOf
+gathered-some s t l ls w small =
+    subst (λ (u : Turn). 0 < headOf (turned u s t l) .fields)
+    (sym (λ i. cond (eqb (w i) 1) (cond (member s t) Known Begins) (cond (goesOn s t l) (cond (ltb n most) Joins Overflows)
+    (cond (ltb 0 n && (leb n most && eqb (nth 0 s) t)) Completes Begins))))
+    (go (goesOn s t l) (ltb n most) (ltb 0 n && (leb n most && eqb (nth 0 s) t)) refl refl)
+  where
+    n : ℕ
+    n = headOf s .fields
+
+    made : ℕ → ℕ → Structure
+    made k v = record { fields = k; whole = v; links = l; deleted = 0 }
+
+    go : (g r f : Bool) → ltb n most ≡ r → (ltb 0 n && (leb n most && eqb (nth 0 s) t)) ≡ f
+        → 0 < headOf (turned (cond g (cond r Joins Overflows) (cond f Completes Begins)) s t l) .fields
+    go true true f er ef =
+        let h = head-nth (withHead (made (n + 1) 0) s) (with-head-length s ls (made (n + 1) 0)) n t (ltb-true n most er) ∙ head-stored s ls (made (n + 1) 0) in
+        omega (arith, ap (λ (x : Structure). x .fields) h)
+    go true false f er ef = omega (arith, ap (λ (x : Structure). x .fields) (head-stored s ls (made (most + 1) 0)))
+    go false r true er ef =
+        omega (arith, ap (λ (x : Structure). x .fields) (head-stored s ls (made n 1)), ltb-true 0 n (and-left (ltb 0 n) _ ef))
+    go false r false er ef = omega (arith, begun-anew s t l (t ∷ []) small refl .fields)
+
 -- ---- spoiled
 
 stuck-made : (s : List ℕ) → Stuck (turned Begins s allOnes 0)
@@ -121,7 +148,7 @@ stuck-made s =
       first = h .each 0 (lit< tt);
     }
 
-spoils : (s : List ℕ) → headOf s .whole ≡ 0 → 0 < headOf s .fields → Stuck (spoiled s)
+pub spoils : (s : List ℕ) → headOf s .whole ≡ 0 → 0 < headOf s .fields → Stuck (spoiled s)
 unfolding spoiled
 spoils s w p =
     subst Stuck (sym (λ i. cond (eqb (w i) 0 && lt-ltb 0 (headOf s .fields) p i) (turned Begins s allOnes 0) s)) (stuck-made s)

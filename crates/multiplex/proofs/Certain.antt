@@ -1,0 +1,283 @@
+-- Whatever a map shows is a whole structure, and was announced away in no frame that was heard.
+--
+--   shown-good, shown-whole    what number 0 with fields says of the map
+--   front-shows, next-shows    by the structure in force, and by the announced one
+--   never-wrong                the theorem, of our machine
+--
+-- Assumes nothing.
+use mathlib.Core.Path.{_≡_, refl, sym, ap, ap₂, _∙_, subst}
+use mathlib.Core.Bool.{Bool, true, false, cond, not, _&&_, _||_}
+use mathlib.Core.List.{List, []}
+use mathlib.Core.Logic.{_⊎_, inl, inr}
+use Prim.Native.Nat.{ℕ, zero, suc, _+_, _-_, _*_, _/_, _%_, _≤_, _<_}
+use native.Mathlib.Omega.{arith}
+use native.Mathlib.Decide.{ℕ-discrete}
+use borrow.Author.Tests.{eq-eqb, ne-eqb, eqb-true, le-ltb, lt-ltb, ltb-true, ltb-false}
+use lib.Dec.{T, leb, ltb, eqb}
+use lib.ListN.{length}
+use Rattle.bits.proofs.Rows.{refusal-passed}
+use Rattle.bits.proofs.Search.{and-left, and-right}
+use Rattle.structure.specs.Structure.{most, headOf, deletion, said, settledHead}
+use Rattle.structure.specs.declared.Structure.{Structure}
+use Rattle.structure.proofs.Gathering.{Holds, Empty}
+use Rattle.structure.proofs.Runs.{Part}
+use Rattle.frames.specs.Counts.{ahead, since, changes, until, changing, allHeard}
+use Rattle.frames.specs.declared.Frames.{Frames}
+use Rattle.map.specs.Map.{ids, mapSize, structureAt, framesOf, good, inForce, announced}
+use Rattle.map.specs.Calls.{thenWhich, thenHead, foundOf, shownAt, showAnswer, shownBy, shown}
+use Rattle.map.specs.declared.Shown.{Shown}
+use Rattle.multiplex.specs.Broadcast.{countAt, change, epoch, begun}
+use Rattle.multiplex.specs.Heard.{ours, fieldsFrom, shownFields}
+use Rattle.multiplex.specs.Air.{Air, timed, oldIn, later, lastOld, newTo, goneTo, coming, Said, nothing, described, deleted, Orderly}
+use Rattle.multiplex.specs.Sound.{kept, Listener, Quiet, Whole, NeverWrong}
+use Rattle.multiplex.proofs.Standing.{present, deletion-head}
+use Rattle.multiplex.proofs.Seeing.{head-force, seen-force, head-coming, seen-coming}
+use Rattle.multiplex.proofs.Distances.{since-same, changes-epoch, epoch-either, epoch-mono, count-lt}
+use Rattle.multiplex.proofs.Knowing.{Front, some, all, Next, none, delete, piece, sure, full, QuietTo, Silent, Settled, stayed, told, ends, part-head, quiet-over}
+use Rattle.multiplex.proofs.Listening.{Known}
+use Rattle.multiplex.proofs.Soundness.{State, silent, since-one, state-at}
+
+-- ---- what is shown at all
+
+module _ (m : List ℕ) (id c : ℕ) (zero-number : shown m id c .number ≡ 0) where
+  answered : showAnswer m ≡ 0
+  unfolding shown shownBy
+  answered = go (showAnswer m) zero-number
+    where
+      go : (n : ℕ) → shownBy n (shownAt m id c) .number ≡ 0 → n ≡ 0
+      go zero e = refl
+      go (suc n) e = e
+
+  shown-good : good m ≡ true
+  unfolding showAnswer
+  shown-good =
+      let first = refusal-passed (not (eqb (length m) mapSize)) 20 _ (omega arith) answered .1 in
+      flipped (good m) (refusal-passed (not (good m)) 34 [] (omega arith) first .0)
+    where
+      flipped : (b : Bool) → not b ≡ false → b ≡ true
+      flipped true e = refl
+      flipped false e = sym e
+
+  shown-whole : (shownFields m id c ≡ [] → ⊥) → thenHead m id c .whole ≡ 1
+  unfolding shownFields shown shownBy shownAt foundOf fieldsFrom
+  shown-whole some-fields = go (ℕ-discrete (thenHead m id c .whole) 1)
+    where
+      is : shown m id c ≡ shownAt m id c
+      is = ap (λ (n : ℕ). shownBy n (shownAt m id c)) answered
+
+      go : Dec (thenHead m id c .whole ≡ 1) → thenHead m id c .whole ≡ 1
+      go (yes e) = e
+      go (no e) =
+          absurd (some-fields (ap (λ (x : Shown). fieldsFrom (x .len / 8) (x .at) m) is
+          ∙ ap (λ (b : Bool). fieldsFrom (cond b (8 * thenHead m id c .fields) 0 / 8) (shownAt m id c .at) m) (ne-eqb (thenHead m id c .whole) 1 e)))
+
+-- ---- by what is held
+
+or-left : (x y : Bool) → (x || y) ≡ false → x ≡ false
+or-left true y z = z
+or-left false y z = refl
+
+or-right : (x y : Bool) → (x || y) ≡ false → y ≡ false
+or-right true y z = absurd (subst T z tt)
+or-right false y z = z
+
+-- nothing was announced
+unsaid-silent : (a : Air) (hears : ℕ → Bool) (n e id due count links : ℕ) (g u : Bool) (s : List ℕ) → Next a hears n e id due count links g u s
+    → said (headOf s) ≡ false → Silent a hears n e id
+unfolding said
+unsaid-silent a hears n e id due count links g u s (none em x y) z = y
+unsaid-silent a hears n e id due count links g u s (delete d q) z =
+    absurd (subst T (sym (ap (λ (x : List ℕ). eqb (headOf x .deleted) 1) d ∙ ap (λ (h : Structure). eqb (h .deleted) 1) deletion-head)
+    ∙ or-right (ltb 0 (headOf s .fields)) (eqb (headOf s .deleted) 1) z) tt)
+unsaid-silent a hears n e id due count links g u s (piece b p q) z = absurd (subst T (sym (lt-ltb 0 (headOf s .fields) p) ∙ or-left _ _ z) tt)
+unsaid-silent a hears n e id due count links g u s (sure k pos le c d hl h) z =
+    absurd (subst T (sym (lt-ltb 0 (headOf s .fields) (omega (arith, h .fields, pos))) ∙ or-left (ltb 0 (headOf s .fields)) _ z) tt)
+unsaid-silent a hears n e id due count links g u s (full l hl pos h) z =
+    absurd (subst T (sym (lt-ltb 0 (headOf s .fields) (omega (arith, h .fields, pos))) ∙ or-left (ltb 0 (headOf s .fields)) _ z) tt)
+
+-- an announced structure that is shown is all there: it was known to be whole, or nothing more can come of it
+record Complete (s zs : List ℕ) (su : Bool) : Type 0 where
+  mark : ℕ
+  links : ℕ
+  some : 0 < length zs
+  holds : Holds s (length zs) zs mark links
+  known : (su || eqb mark 1) ≡ true
+
+complete : (a : Air) (hears : ℕ → Bool) (n e id due count links : ℕ) (g u : Bool) (s : List ℕ) (su : Bool) → Next a hears n e id due count links g u s
+    → (su ≡ true → (u ≡ true) × Settled (a .config e id) (a .config (suc e) id) count g) → settledHead su (headOf s) .whole ≡ 1
+    → Complete s (a .config (suc e) id) su
+unfolding settledHead
+complete a hears n e id due count links g u s true (none em x y) heard w =
+    let none-there : cond (ltb 0 (headOf s .fields) && leb (headOf s .fields) most) 1 (headOf s .whole) ≡ headOf s .whole =
+    ap (λ (n : ℕ). cond (ltb 0 n && leb n most) 1 (headOf s .whole)) (em .fields) in
+    absurd (omega (arith, w, em .whole, none-there))
+complete a hears n e id due count links g u s false (none em x y) heard w = absurd (omega (arith, w, em .whole))
+complete a hears n e id due count links g u s true (delete d q) heard w =
+    absurd (omega (
+      arith,
+      w,
+      ap (λ (x : List ℕ). cond (ltb 0 (headOf x .fields) && leb (headOf x .fields) most) 1 (headOf x .whole)) d
+          ∙ ap (λ (h : Structure). cond (ltb 0 (h .fields) && leb (h .fields) most) 1 (h .whole)) deletion-head,
+    ))
+complete a hears n e id due count links g u s false (delete d q) heard w =
+    absurd (omega (arith, w, ap (λ (x : List ℕ). headOf x .whole) d ∙ ap (λ (h : Structure). h .whole) deletion-head))
+complete a hears n e id due count links g u s true (piece b p q) heard w = absurd (subst T (sym (heard refl .0) ∙ b) tt)
+complete a hears n e id due count links g u s false (piece b p q) heard w = absurd (omega (arith, w, part-head s _ due q .0))
+complete a hears n e id due count links g u s true (sure i pos le c d hl h) heard w = go (heard refl .1)
+  where
+    go : Settled (a .config e id) (a .config (suc e) id) count g → Complete s (a .config (suc e) id) true
+    go (stayed z x y) = absurd (omega (arith, pos, c, z))
+    go (told p q) =
+        let z : i ≡ length (a .config (suc e) id) = omega (arith, le, q, c) in
+        record { mark = 0; links = links; some = p; holds = subst (λ (x : ℕ). Holds s x (a .config (suc e) id) 0 links) z h; known = refl }
+    go (ends z x) = absurd (omega (arith, pos, le, ap length z))
+complete a hears n e id due count links g u s false (sure i pos le c d hl h) heard w = absurd (omega (arith, w, h .whole))
+complete a hears n e id due count links g u s su (full l hl pos h) heard w = record { mark = 1; links = l; some = pos; holds = h; known = or-yes su }
+  where
+    or-yes : (x : Bool) → (x || true) ≡ true
+    or-yes true = refl
+    or-yes false = refl
+
+module _ (a : Air) (w : Orderly a) (hears : ℕ → Bool) (t : ℕ) (m : List ℕ) (u : Bool) (k : Known a hears t m u) (v id : ℕ) (hid : id < ids)
+    (lo : t ≤ v) (hi : v ≤ t + 128) (zero-number : shown m id (countAt (timed a) v) .number ≡ 0)
+    (some-fields : shownFields m id (countAt (timed a) v) ≡ [] → ⊥) where
+  abbrev c : ℕ
+  c = countAt (timed a) v
+
+  abbrev e : ℕ
+  e = epoch (timed a) t
+
+  record Shows : Type 0 where
+    pub from : ℕ
+    pub past : from ≤ epoch (timed a) v
+    pub fields : shownFields m id c ≡ a .config from id
+    pub quiet : Quiet a hears t from (epoch (timed a) v) id
+
+  gm : good m ≡ true
+  gm = shown-good m id c zero-number
+
+  whole-head : thenHead m id c .whole ≡ 1
+  whole-head = shown-whole m id c zero-number some-fields
+
+  -- a change falls before the frame that is asked for exactly where the next configuration runs then
+  changing-is : changing (framesOf m) c ≡ ltb e (epoch (timed a) v)
+  unfolding changing changes
+  changing-is = ap (λ (x : Frames). changing x c) (k .frames) ∙ go (ℕ-discrete v t)
+    where
+      go : Dec (v ≡ t) → changes (countAt (timed a) t) c ≡ ltb e (epoch (timed a) v)
+      go (yes q) =
+          ap (λ (n : ℕ). changes (countAt (timed a) t) (countAt (timed a) n)) q
+          ∙ ap (ltb (ahead 2 (countAt (timed a) t))) (since-same (countAt (timed a) t)) ∙ le-ltb (ahead 2 (countAt (timed a) t)) 0 (omega arith)
+          ∙ sym (le-ltb e (epoch (timed a) v) (omega (arith, ap (epoch (timed a)) q)))
+      go (no q) =
+          let at : t + (v - t) ≡ v = omega arith in
+          subst (λ (n : ℕ). changes (countAt (timed a) t) (countAt (timed a) n) ≡ ltb e (epoch (timed a) n)) at
+          (changes-epoch (timed a) t (v - t) (omega (arith, q)) (omega arith))
+
+  next-is : ltb e (epoch (timed a) v) ≡ true → epoch (timed a) v ≡ suc e
+  next-is q =
+      let at : t + (v - t) ≡ v = omega arith in
+      go (subst (λ (n : ℕ). (epoch (timed a) n ≡ e) ⊎ (epoch (timed a) n ≡ suc e)) at (epoch-either (timed a) t (v - t) (omega arith)))
+    where
+      go : (epoch (timed a) v ≡ e) ⊎ (epoch (timed a) v ≡ suc e) → epoch (timed a) v ≡ suc e
+      go (inl z) = absurd (omega (arith, z, ltb-true e (epoch (timed a) v) q))
+      go (inr z) = z
+
+  same-is : ltb e (epoch (timed a) v) ≡ false → epoch (timed a) v ≡ e
+  same-is q = omega (arith, ltb-false e (epoch (timed a) v) q, epoch-mono (timed a) t v lo)
+
+  quiet-shown : (j x : ℕ) → QuietTo a hears (suc t) j x id → Quiet a hears t j x id
+  quiet-shown j x q y hy hh l h = q y (omega (arith, hy)) hh l h
+
+  -- ---- the structure in force
+
+  silent-by : said (announced id m) ≡ false → Silent a hears (suc t) e id
+  unfolding announced
+  silent-by s = unsaid-silent a hears (suc t) e id _ _ _ _ u (structureAt id 1 m) (k .next id hid) s
+
+  front-shows : (changing (framesOf m) c && said (announced id m)) ≡ false → Front a hears (suc t) e id (later (oldIn id (a .carries t)) (lastOld a id t)) (structureAt id 0 m) → Shows
+  front-shows q (some p) =
+      absurd (omega (arith, whole-head, ap (λ (h : Structure). h .whole) (head-force m id c (k .size) gm q), part-head (structureAt id 0 m) _ _ p .0))
+  front-shows q (all j l hl hj pos h quiet) = go (ltb e (epoch (timed a) v)) refl
+    where
+      shows : shownFields m id c ≡ a .config j id
+      shows = seen-force m id c (k .size) gm q (a .config j id) (w .linked j id hid .few) (present l hl pos h) .fields
+
+      go : (b : Bool) → ltb e (epoch (timed a) v) ≡ b → Shows
+      go false z =
+          let on = same-is z in
+          record {
+            from = j;
+            past = omega (arith, hj, on);
+            fields = shows;
+            quiet = subst (λ (x : ℕ). Quiet a hears t j x id) (sym on) (quiet-shown j e quiet);
+          }
+      go true z =
+          let on = next-is z in
+          let unsaid : said (announced id m) ≡ false = sym (ap (λ (b : Bool). b && said (announced id m)) (changing-is ∙ z)) ∙ q in
+          record {
+            from = j;
+            past = omega (arith, hj, on);
+            fields = shows;
+            quiet = subst (λ (x : ℕ). Quiet a hears t j x id) (sym on)
+                (quiet-shown j (suc e) (quiet-over a hears (suc t) j e id quiet (silent-by unsaid)));
+          }
+
+  -- ---- the announced one
+
+  -- the next frame begins a configuration, and every frame of the running one was heard
+  all-told : allHeard (framesOf m) ≡ true → (u ≡ true) × Settled (a .config e id) (a .config (suc e) id) (newTo a id t) (goneTo a id t)
+  unfolding allHeard until ahead change countAt
+  all-told q =
+      let is : (eqb (cond u 1 0) 1 && eqb (until (countAt (timed a) t)) 1) ≡ true = sym (ap allHeard (k .frames)) ∙ q in
+      let marked : u ≡ true = sym (mark-is u) ∙ and-left (eqb (cond u 1 0) 1) _ is in
+      let one-more : until (countAt (timed a) t) ≡ 1 = eqb-true (until (countAt (timed a) t)) 1 (and-right (eqb (cond u 1 0) 1) _ is) in
+      (marked, settled-by (w .said t id hid (begins-next one-more) (k .begun marked)))
+    where
+      mark-is : (x : Bool) → eqb (cond x 1 0) 1 ≡ x
+      mark-is true = refl
+      mark-is false = refl
+
+      begins-next : until (countAt (timed a) t) ≡ 1 → change (timed a) (suc t) ≡ true
+      begins-next z = eq-eqb (countAt (timed a) (suc t) % 128) 2 (omega (arith, z))
+
+      settled-by : Said a t id → Settled (a .config e id) (a .config (suc e) id) (newTo a id t) (goneTo a id t)
+      settled-by (nothing z g s) = stayed z g s
+      settled-by (described p x) = told p x
+      settled-by (deleted z g) = ends z g
+
+  next-shows : (changing (framesOf m) c && said (announced id m)) ≡ true → Shows
+  next-shows q =
+      let on : epoch (timed a) v ≡ suc e = next-is (sym changing-is ∙ and-left (changing (framesOf m) c) _ q) in
+      let su = allHeard (framesOf m) in
+      let head = ap (λ (h : Structure). h .whole) (sym (head-coming m id c (k .size) gm q su refl)) ∙ whole-head in
+      let f = complete a hears (suc t) e id _ _ _ _ u (structureAt id 1 m) su (k .next id hid) all-told head in
+      record {
+        from = suc e;
+        past = omega (arith, on);
+        fields = seen-coming m id c (k .size) gm q su refl (a .config (suc e) id) (f .mark) (f .links) (f .known) (f .some) (w .linked (suc e) id hid .few) (f .holds) .fields;
+        quiet = λ x hx hh l h. absurd (omega (arith, l, h, on));
+      }
+
+  shows : Shows
+  shows = go (changing (framesOf m) c && said (announced id m)) refl
+    where
+      go : (b : Bool) → (changing (framesOf m) c && said (announced id m)) ≡ b → Shows
+      go true q = next-shows q
+      go false q = front-shows q (k .front id hid)
+
+-- ---- the theorem
+
+pub never-wrong : NeverWrong ours
+unfolding ours
+never-wrong = record { sound = λ a w hears L t v id ht lo hi hid number fields. go a w hears L t v id ht lo hi hid number fields (state-at a w hears L (suc t)) }
+  where
+    go : (a : Air) (w : Orderly a) (hears : ℕ → Bool) (L : Listener ours a hears) (t v id : ℕ) → hears t ≡ true → t ≤ v → v ≤ t + 128 → id < ids
+        → shown (kept ours a hears (suc t)) id (countAt (timed a) v) .number ≡ 0
+        → (shownFields (kept ours a hears (suc t)) id (countAt (timed a) v) ≡ [] → ⊥)
+        → State a hears (suc t) (kept ours a hears (suc t)) → Whole ours a hears t v id
+    go a w hears L t v id ht lo hi hid number fields (silent z q) = absurd (q t (omega arith) ht)
+    go a w hears L t v id ht lo hi hid number fields (since-one n u l gap c any k) =
+        let same : n ≡ t = omega (arith, l, gap t (omega arith) ht) in
+        let s = shows a w hears t (kept ours a hears (suc t)) u (subst (λ (x : ℕ). Known a hears x (kept ours a hears (suc t)) u) same k) v id hid lo hi number fields in
+        record { from = s .from; past = s .past; fields = s .fields; quiet = s .quiet }

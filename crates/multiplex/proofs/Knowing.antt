@@ -1,0 +1,325 @@
+-- What a map that was started anywhere and missed frames can hold of one component, and how that goes on.
+--
+--   QuietTo n j e id    of the frames before n none that was heard has announced a change of the component, from configuration j on to e
+--   Silent n e id       nor has one in configuration e
+--   Front               the structure in force: a part of configuration e's, or the whole one of a configuration j since which all was quiet
+--   Next                the announced one: nothing, a deletion, a part of configuration e + 1's, one of which nothing was missed, or a whole one
+--   front-gap, next-gap       frames are missed
+--   front-sure, front-unsure  a change
+--   front-old, next-new       a field
+--
+-- Assumes nothing.
+use mathlib.Core.Path.{_≡_, refl, sym, ap, _∙_, subst}
+use mathlib.Core.Bool.{Bool, true, false, cond, _&&_, _||_}
+use mathlib.Core.List.{List, []}
+use mathlib.Core.Logic.{_⊎_, inl, inr}
+use Prim.Native.Nat.{ℕ, zero, suc, _+_, _-_, _^_, _≤_, _<_}
+use native.Mathlib.Omega.{arith}
+use native.Mathlib.Decide.{ℕ-discrete, decLt}
+use borrow.Author.Tests.{eq-eqb, ne-eqb, lt-ltb}
+use lib.Dec.{T, ltb, eqb, lit<}
+use lib.ListN.{length, getD, drop}
+use Rattle.bits.specs.Bits.{blank}
+use Rattle.field.specs.Field.{key}
+use Rattle.structure.specs.Structure.{most, structureSize, headOf, withHead, gathered, spoiled, deletion, settledHead}
+use Rattle.structure.specs.declared.Structure.{Structure}
+use Rattle.structure.proofs.Gathering.{Holds, Empty, head-stored, with-head-length, begun, joined, completed, kept}
+use Rattle.structure.proofs.Kept.{spoiled-none}
+use Rattle.structure.proofs.Runs.{Fields, Stuck, Part, empty, stuck, run, spoiled-part, spoiled-whole, spoils, Took, partly, wholly, gathered-some, part-takes, whole-takes, rises-to}
+use Rattle.map.specs.Map.{ids, mapSize, structureAt, changedFrom}
+use Rattle.map.proofs.Places.{structure-length}
+use Rattle.map.proofs.Changing.{leftBy, stays, stays-unsaid, goes, settled, emptied, in-force, cleared, blank-empty}
+use Rattle.multiplex.specs.Broadcast.{epoch, Linked}
+use Rattle.multiplex.specs.Air.{Air, timed, turn}
+use Rattle.multiplex.specs.Sound.{announces}
+use Rattle.multiplex.proofs.Standing.{deletion-head, deletion-length}
+
+pub linked-fields : (xs : List ℕ) → Linked xs → Fields xs
+linked-fields xs k = record {
+  few = k .few;
+  wide = λ i h. k .fit i h .width;
+  stays = λ i h. k .fit i h .stays;
+  rising = k .rising;
+}
+
+abbrev pub QuietTo : Air → (ℕ → Bool) → ℕ → ℕ → ℕ → ℕ → Type 0
+QuietTo a hears n j e id =
+    (v : ℕ) → v < n → hears v ≡ true → j ≤ epoch (timed a) v → epoch (timed a) v < e → announces id (a .carries v) ≡ false
+
+abbrev pub Silent : Air → (ℕ → Bool) → ℕ → ℕ → ℕ → Type 0
+Silent a hears n e id = (v : ℕ) → v < n → hears v ≡ true → epoch (timed a) v ≡ e → announces id (a .carries v) ≡ false
+
+pub data Front (a : Air) (hears : ℕ → Bool) (n e id due : ℕ) (s : List ℕ) : Type 0 where
+  some : Part s (a .config e id) due → Front a hears n e id due s
+  all : (j l : ℕ) → l ≤ 1 → j ≤ e → 0 < length (a .config j id) → Holds s (length (a .config j id)) (a .config j id) 1 l
+      → QuietTo a hears n j e id → Front a hears n e id due s
+
+pub data Next (a : Air) (hears : ℕ → Bool) (n e id due count links : ℕ) (gone u : Bool) (s : List ℕ) : Type 0 where
+  none : Empty s → (u ≡ true → (count ≡ 0) × ((gone ≡ false) × (due ≡ 0))) → Silent a hears n e id → Next a hears n e id due count links gone u s
+  delete : s ≡ deletion → a .config (suc e) id ≡ [] → Next a hears n e id due count links gone u s
+  piece : u ≡ false → 0 < headOf s .fields → Part s (a .config (suc e) id) due → Next a hears n e id due count links gone u s
+  sure : (k : ℕ) → 0 < k → k ≤ length (a .config (suc e) id) → count ≡ k → due ≡ k → links ≤ 1 → Holds s k (a .config (suc e) id) 0 links
+      → Next a hears n e id due count links gone u s
+  full : (l : ℕ) → l ≤ 1 → 0 < length (a .config (suc e) id) → Holds s (length (a .config (suc e) id)) (a .config (suc e) id) 1 l
+      → Next a hears n e id due count links gone u s
+
+clash : {A : Type 0} → true ≡ false → A
+clash e = absurd (subst T e tt)
+
+-- ---- heads
+
+pub part-head : (s xs : List ℕ) (due : ℕ) → Part s xs due → (headOf s .whole ≡ 0) × ((headOf s .deleted ≡ 0) × (length s ≡ structureSize))
+part-head s xs due (empty e) = (e .whole, (e .deleted, e .size))
+part-head s xs due (stuck k) = (k .whole, (k .deleted, k .size))
+part-head s xs due (run i k l hl p q d h) = (h .whole, (h .deleted, h .size))
+
+empty-kept : (s : List ℕ) → Empty s → spoiled s ≡ s
+empty-kept s e = spoiled-none s (e .size) (λ i. eqb (e .whole i) 0 && ltb 0 (e .fields i))
+
+deletion-kept : spoiled deletion ≡ deletion
+deletion-kept =
+    spoiled-none deletion deletion-length
+    (ap (λ (h : Structure). eqb (h .whole) 0 && ltb 0 (h .fields)) deletion-head)
+
+-- what is whole stays
+whole-kept : (s xs : List ℕ) (k l : ℕ) → Holds s k xs 1 l → Holds (spoiled s) k xs 1 l
+whole-kept s xs k l h = subst (λ (x : List ℕ). Holds x k xs 1 l) (sym (spoiled-whole s (h .whole))) h
+
+-- a run from the first field on
+from-first : (s xs : List ℕ) (k l due : ℕ) → l ≤ 1 → 0 < k → k ≤ length xs → due ≡ k → Holds s k xs 0 l → Part s xs due
+from-first s xs k l due hl pos le d h = run 0 k l hl pos (omega (arith, le)) (d ∙ sym (plain k)) h
+  where
+    plain : (x : ℕ) → 0 + x ≡ x
+    plain x = omega arith
+
+-- ---- frames are missed
+
+module _ (a : Air) (hears : ℕ → Bool) (n e id : ℕ) where
+  pub front-gap : (due next : ℕ) (s : List ℕ) → Front a hears n e id due s → Front a hears n e id next (spoiled s)
+  front-gap due next s (some p) = some (spoiled-part s _ _ due next p)
+  front-gap due next s (all j l hl hj pos h q) = all j l hl hj pos (whole-kept s _ _ l h) q
+
+  stuck-fields : (s xs : List ℕ) (due : ℕ) → Part s xs due → 0 < headOf s .fields → 0 < headOf (spoiled s) .fields
+  stuck-fields s xs due p h = omega (arith, spoils s (part-head s xs due p .0) h .fields)
+
+  pub next-gap : (due count links : ℕ) (gone u : Bool) (s : List ℕ) → Next a hears n e id due count links gone u s
+      → (due' count' links' : ℕ) (gone' : Bool) → Next a hears n e id due' count' links' gone' false (spoiled s)
+  next-gap due count links gone u s (none em c q) due' count' links' gone' =
+      none (subst Empty (sym (empty-kept s em)) em) (λ z. clash (sym z)) q
+  next-gap due count links gone u s (delete d z) due' count' links' gone' = delete (ap spoiled d ∙ deletion-kept) z
+  next-gap due count links gone u s (piece w h p) due' count' links' gone' =
+      piece refl (stuck-fields s _ due p h) (spoiled-part s _ _ due due' p)
+  next-gap due count links gone u s (sure k pos le c d hl h) due' count' links' gone' =
+      let p = from-first s _ k links due hl pos le d h in
+      piece refl (stuck-fields s _ due p (omega (arith, h .fields, pos))) (spoiled-part s _ _ due due' p)
+  next-gap due count links gone u s (full l hl pos h) due' count' links' gone' =
+      full l hl pos (whole-kept s _ _ l h)
+
+-- ---- a change
+
+-- nothing was announced of it, up to the change
+pub quiet-over : (a : Air) (hears : ℕ → Bool) (n j e id : ℕ) → QuietTo a hears n j e id → Silent a hears n e id → QuietTo a hears n j (suc e) id
+quiet-over a hears n j e id q z v hv hh lo hi = go (ℕ-discrete (epoch (timed a) v) e)
+  where
+    go : Dec (epoch (timed a) v ≡ e) → announces id (a .carries v) ≡ false
+    go (yes s) = z v hv hh s
+    go (no s) = q v hv hh lo (omega (arith, hi, s))
+
+-- what the coming structure is by then, where the whole configuration was heard
+pub data Settled (xs zs : List ℕ) (count : ℕ) (gone : Bool) : Type 0 where
+  stayed : count ≡ 0 → gone ≡ false → zs ≡ xs → Settled xs zs count gone
+  told : 0 < length zs → length zs ≤ count → Settled xs zs count gone
+  ends : zs ≡ [] → gone ≡ true → Settled xs zs count gone
+
+module _ (a : Air) (hears : ℕ → Bool) (n e id : ℕ) (hid : id < ids) (m : List ℕ) (lm : length m ≡ mapSize) (k : Linked (a .config (suc e) id)) where
+  abbrev pub F : List ℕ
+  F = structureAt id 0 m
+
+  abbrev pub A : List ℕ
+  A = structureAt id 1 m
+
+  abbrev pub after : Bool → List ℕ
+  after b = changedFrom ids 0 b m
+
+  abbrev pub After : ℕ → Bool → Type 0
+  After due b = Front a hears n (suc e) id due (structureAt id 0 (after b)) × Empty (structureAt id 1 (after b))
+
+  -- a structure that is whole comes in force so
+  applied : (b : Bool) (next v r l : ℕ) → l ≤ 1 → 0 < length (a .config (suc e) id) → Holds A (length (a .config (suc e) id)) (a .config (suc e) id) v l
+      → (b || eqb v 1) ≡ true → After next b
+  applied b next v r l hl pos h w = (
+    all (suc e) l hl (omega arith) pos (settled b m lm id hid _ _ v l h pos w (k .few)) (λ x hx hh lo hi. absurd (omega (arith, lo, hi))),
+    emptied b m lm id hid _ _ v l h pos,
+  )
+
+  dropped : (b : Bool) (next : ℕ) → A ≡ deletion → After next b
+  dropped b next d =
+      let one : headOf A .deleted ≡ 1 = ap (λ (x : List ℕ). headOf x .deleted) d ∙ ap (λ (h : Structure). h .deleted) deletion-head in
+      (some (empty (goes b m lm id hid one 0 (lit< tt))), goes b m lm id hid one 1 (lit< tt))
+
+  -- nothing is announced
+  unsaid : (b : Bool) (next : ℕ) → Empty A → Front a hears n (suc e) id next (leftBy b F) → After next b
+  unsaid b next em f = (
+    subst (Front a hears n (suc e) id next) (sym (stays b m lm id hid (em .fields) (em .deleted))) f,
+    subst Empty (sym (stays-unsaid b m lm id hid (em .fields) (em .deleted))) em,
+  )
+
+  -- a part that comes in force by a change that is not sure
+  spoilt : (next due : ℕ) → 0 < headOf A .fields → Part A (a .config (suc e) id) due → After next false
+  unfolding settledHead
+  spoilt next due pos p =
+      let h = part-head A _ due p in
+      let head : headOf (withHead (settledHead false (headOf A)) A) ≡ settledHead false (headOf A) = head-stored A (h .1 .1) (settledHead false (headOf A)) in
+      let w : headOf (withHead (settledHead false (headOf A)) A) .whole ≡ 0 = ap (λ (x : Structure). x .whole) head ∙ h .0 in
+      let f : 0 < headOf (withHead (settledHead false (headOf A)) A) .fields = omega (arith, ap (λ (x : Structure). x .fields) head, pos) in (
+        subst (Front a hears n (suc e) id next) (sym (in-force false m lm id hid pos (h .1 .0))) (some (stuck (spoils _ w f))),
+        blank-empty _ (cleared false m lm id hid pos (h .1 .0)),
+      )
+
+  pub front-unsure : (due next dn count links : ℕ) (gone u : Bool) → Front a hears n e id due F → Next a hears n e id dn count links gone u A → After next false
+  front-unsure due next dn count links gone u (some p) (none em c q) = unsaid false next em (some (spoiled-part F _ _ due next p))
+  front-unsure due next dn count links gone u (all j l hl hj pos h z) (none em c q) =
+      unsaid false next em
+      (all j l hl (omega arith) pos (whole-kept F _ _ l h) (quiet-over a hears n j e id z q))
+  front-unsure due next dn count links gone u f (delete d z) = dropped false next d
+  front-unsure due next dn count links gone u f (piece w h p) = spoilt next dn h p
+  front-unsure due next dn count links gone u f (sure i pos le c d hl h) =
+      spoilt next dn (omega (arith, h .fields, pos)) (from-first A _ i links dn hl pos le d h)
+  front-unsure due next dn count links gone u f (full l hl pos h) = applied false next 1 l l hl pos h refl
+
+  pub front-sure : (due next dn count links : ℕ) (gone : Bool) → (a .config (suc e) id ≡ a .config e id → next ≡ due)
+      → Settled (a .config e id) (a .config (suc e) id) count gone
+      → Front a hears n e id due F → Next a hears n e id dn count links gone true A → After next true
+  front-sure due next dn count links gone on (stayed c0 g0 z) (some p) (none em c q) =
+      unsaid true next em (some (subst (λ (x : List ℕ). Part F x next) (sym z) (subst (Part F (a .config e id)) (sym (on z)) p)))
+  front-sure due next dn count links gone on (stayed c0 g0 z) (all j l hl hj pos h y) (none em c q) =
+      unsaid true next em (all j l hl (omega arith) pos h (quiet-over a hears n j e id y q))
+  front-sure due next dn count links gone on (told p le) f (none em c q) = absurd (omega (arith, p, le, c refl .0))
+  front-sure due next dn count links gone on (ends z g1) f (none em c q) = clash (sym g1 ∙ c refl .1 .0)
+  front-sure due next dn count links gone on st f (delete d z) = dropped true next d
+  front-sure due next dn count links gone on st f (piece w h p) = clash w
+  front-sure due next dn count links gone on (stayed c0 g0 z) f (sure i pos le c d hl h) = absurd (omega (arith, pos, c, c0))
+  front-sure due next dn count links gone on (told p le2) f (sure i pos le c d hl h) =
+      let z : i ≡ length (a .config (suc e) id) = omega (arith, le, le2, c) in
+      applied true next 0 links links hl p (subst (λ (x : ℕ). Holds A x (a .config (suc e) id) 0 links) z h) refl
+  front-sure due next dn count links gone on (ends z g1) f (sure i pos le c d hl h) = absurd (omega (arith, pos, le, ap length z))
+  front-sure due next dn count links gone on st f (full l hl pos h) = applied true next 1 l l hl pos h refl
+
+-- ---- a field
+
+module _ (a : Air) (hears : ℕ → Bool) (n e id : ℕ) (now : epoch (timed a) n ≡ e) where
+  quiet-on : (j : ℕ) → QuietTo a hears n j e id → QuietTo a hears (suc n) j e id
+  quiet-on j q v hv hh lo hi = go (decLt v n)
+    where
+      go : Dec (v < n) → announces id (a .carries v) ≡ false
+      go (yes h) = q v h hh lo hi
+      go (no h) =
+          let z : v ≡ n = omega (arith, hv, h) in
+          absurd (omega (arith, hi, ap (epoch (timed a)) z ∙ now))
+
+  pub silent-on : announces id (a .carries n) ≡ false → Silent a hears n e id → Silent a hears (suc n) e id
+  silent-on here q v hv hh z = go (decLt v n)
+    where
+      go : Dec (v < n) → announces id (a .carries v) ≡ false
+      go (yes h) = q v h hh z
+      go (no h) = ap (λ (i : ℕ). announces id (a .carries i)) (same-place v n h hv) ∙ here
+        where
+          same-place : (x y : ℕ) → (x < y → ⊥) → x < suc y → x ≡ y
+          same-place x y p r = omega (arith, p, r)
+
+  -- nothing was carried of its present structure
+  pub front-on : (due : ℕ) (s : List ℕ) → Front a hears n e id due s → Front a hears (suc n) e id due s
+  front-on due s (some p) = some p
+  front-on due s (all j l hl hj pos h q) = all j l hl hj pos h (quiet-on j q)
+
+  took-front : (due : ℕ) (s : List ℕ) → 0 < length (a .config e id) → Took s (a .config e id) due → Front a hears (suc n) e id due s
+  took-front due s pos (partly p) = some p
+  took-front due s pos (wholly l hl h) = all e l hl (omega arith) pos h (λ v hv hh lo hi. absurd (omega (arith, lo, hi)))
+
+  pub front-old : Linked (a .config e id) → (i l due : ℕ) (s : List ℕ) → i < length (a .config e id) → l ≤ 1
+      → ((k : ℕ) → due ≡ suc k → i ≡ turn (length (a .config e id)) k)
+      → Front a hears n e id due s → Front a hears (suc n) e id (suc i) (gathered s (getD (a .config e id) i 0) l)
+  unfolding turn
+  front-old k i l due s hi hl order (some p) =
+      took-front (suc i) _ (omega arith) (part-takes _ (linked-fields _ k) i hi l hl s due order p)
+  front-old k i l due s hi hl order (all j m hm hj pos h q) =
+      go (whole-takes _ (linked-fields _ k) i hi l hl s (h .whole))
+    where
+      go : (gathered s (getD (a .config e id) i 0) l ≡ s) ⊎ Took (gathered s (getD (a .config e id) i 0) l) (a .config e id) (suc i)
+          → Front a hears (suc n) e id (suc i) (gathered s (getD (a .config e id) i 0) l)
+      go (inl z) = subst (Front a hears (suc n) e id (suc i)) (sym z) (all j m hm hj pos h (quiet-on j q))
+      go (inr t) = took-front (suc i) _ (omega arith) t
+
+  -- nothing was said of what comes
+  pub next-on : (due count links : ℕ) (gone u : Bool) (s : List ℕ) → announces id (a .carries n) ≡ false
+      → Next a hears n e id due count links gone u s → Next a hears (suc n) e id due count links gone u s
+  next-on due count links gone u s here (none em c q) = none em c (silent-on here q)
+  next-on due count links gone u s here (delete d z) = delete d z
+  next-on due count links gone u s here (piece w h p) = piece w h p
+  next-on due count links gone u s here (sure k pos le c d hl h) = sure k pos le c d hl h
+  next-on due count links gone u s here (full l hl pos h) = full l hl pos h
+
+  took-next : (due count links : ℕ) (gone u : Bool) (s : List ℕ) → u ≡ false → 0 < length (a .config (suc e) id) → 0 < headOf s .fields
+      → Took s (a .config (suc e) id) due → Next a hears (suc n) e id due count links gone u s
+  took-next due count links gone u s w pos f (partly p) = piece w f p
+  took-next due count links gone u s w pos f (wholly l hl h) = full l hl pos h
+
+  module _ (k : Linked (a .config (suc e) id)) (i l : ℕ) (hi : i < length (a .config (suc e) id)) (hl : l ≤ 1) where
+    abbrev zs : List ℕ
+    zs = a .config (suc e) id
+
+    abbrev t : ℕ
+    t = getD zs i 0
+
+    small : t < 2 ^ 64
+    small = omega (arith, k .fit i hi .width)
+
+    -- the next of a run of which nothing was missed
+    sure-takes : (c links : ℕ) (s : List ℕ) → 0 < c → c ≤ length zs → i ≡ cond (eqb c (length zs)) 0 c → (i ≡ c → l ≡ links)
+        → Holds s c zs 0 links → (count : ℕ) (gone u : Bool) → count ≡ c → Next a hears (suc n) e id (suc i) (count + 1) l gone u (gathered s t l)
+    sure-takes c links s pos le at linked h count gone u ec = go (ℕ-discrete c (length zs))
+      where
+        f : Fields zs
+        f = linked-fields zs k
+
+        go : Dec (c ≡ length zs) → Next a hears (suc n) e id (suc i) (count + 1) l gone u (gathered s t l)
+        go (yes q) =
+            let z : i ≡ 0 = at ∙ ap (λ (b : Bool). cond b 0 c) (eq-eqb c (length zs) q) in
+            full l hl (omega arith)
+            (subst (λ (x : ℕ). Holds (gathered s t l) x zs 1 l) q
+            (completed s zs c t l links h pos (omega (arith, k .few, q)) (ap (λ (j : ℕ). getD zs j 0) z) (falls z (ℕ-discrete (c - 1) 0))))
+          where
+            falls : i ≡ 0 → Dec (c - 1 ≡ 0) → key t ≤ key (getD zs (c - 1) 0)
+            falls z (yes r) = omega (arith, ap (λ (j : ℕ). key (getD zs j 0)) (z ∙ sym r))
+            falls z (no r) = omega (arith, rises-to zs f i (c - 1) (omega (arith, z, r)) (omega (arith, q, pos)))
+        go (no q) =
+            let z : i ≡ c = at ∙ ap (λ (b : Bool). cond b 0 c) (ne-eqb c (length zs) q) in
+            let up = rises-to zs f (c - 1) i (omega (arith, z, pos)) hi in
+            sure (c + 1) (omega arith) (omega (arith, le, q)) (ap (λ (x : ℕ). x + 1) ec) (next-one z) hl
+            (joined s zs c t l (subst (λ (x : ℕ). Holds s c zs 0 x) (sym (linked z)) h) pos (omega (arith, k .few, le, q)) small (ap (λ (j : ℕ). getD zs j 0) z) up)
+          where
+            next-one : i ≡ c → suc i ≡ c + 1
+            next-one z = omega (arith, z)
+
+    pub next-new : (due count links : ℕ) (gone u : Bool) (s : List ℕ)
+        → ((j : ℕ) → due ≡ suc j → (i ≡ turn (length zs) j) × (i ≡ suc j → l ≡ links)) → (u ≡ true → due ≡ 0 → i ≡ 0)
+        → Next a hears n e id due count links gone u s → Next a hears (suc n) e id (suc i) (count + 1) l gone u (gathered s t l)
+    unfolding turn
+    next-new due count links gone true s order first (none em c q) =
+        let z : i ≡ 0 = first refl (c refl .1 .1) in
+        sure 1 (lit< tt) (omega arith) (ap (λ (x : ℕ). x + 1) (c refl .0)) (ap suc z) hl
+        (begun s em t l zs small (ap (λ (j : ℕ). getD zs j 0) z))
+    next-new due count links gone false s order first (none em c q) =
+        took-next (suc i) (count + 1) l gone false _ refl (omega arith) (gathered-some s t l (em .size) (em .whole) small)
+        (part-takes zs (linked-fields zs k) i hi l hl s due (λ j e. order j e .0) (empty em))
+    next-new due count links gone u s order first (delete d z) = absurd (omega (arith, hi, ap length z))
+    next-new due count links gone u s order first (piece w h p) =
+        let x = part-head s zs due p in
+        took-next (suc i) (count + 1) l gone u _ w (omega arith) (gathered-some s t l (x .1 .1) (x .0) small)
+        (part-takes zs (linked-fields zs k) i hi l hl s due (λ j e. order j e .0) p)
+    next-new due count links gone u s order first (sure c pos le ec d hk h) =
+        let z : suc (c - 1) ≡ c = omega (arith, pos) in
+        let o = order (c - 1) (d ∙ sym z) in
+        sure-takes c links s pos le (o .0 ∙ ap (λ (x : ℕ). cond (eqb x (length zs)) 0 x) z) (λ q. o .1 (q ∙ sym z)) h count gone u ec
+    next-new due count links gone u s order first (full m hm pos h) =
+        full m hm pos (subst (λ (x : List ℕ). Holds x (length zs) zs 1 m) (sym (kept s zs (length zs) t l m i h (k .few) hi refl)) h)

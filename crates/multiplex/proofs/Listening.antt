@@ -1,0 +1,299 @@
+-- A map that was started anywhere in a broadcast and missed frames: what it holds from one frame that is heard to the next.
+--
+--   Known a hears t m u      what it holds when it has taken in the field of frame t; u: every frame of the running configuration was heard
+--   Before a hears t m u     what it holds before that, behind the changes up to frame t
+--   field-known              the field of frame t
+--   near-known, far-known    the next frame is heard; frames are missed before it
+--   first-known              nothing was heard before it
+--
+-- Assumes nothing.
+use mathlib.Core.Path.{_≡_, refl, sym, ap, ap₂, _∙_, subst}
+use mathlib.Core.Bool.{Bool, true, false, cond, not, _&&_, _||_}
+use mathlib.Core.List.{List, [], _∷_}
+use Prim.Native.Nat.{ℕ, zero, suc, _+_, _-_, _*_, _^_, _≤_, _<_}
+use native.Mathlib.Omega.{arith}
+use native.Mathlib.Decide.{ℕ-discrete, decLt}
+use borrow.Author.Tests.{eq-eqb, ne-eqb, eqb-true, eqb-false, le-ltb, lt-ltb}
+use lib.Dec.{T, ltb, eqb, lit<, lit≤}
+use lib.ListN.{length, getD}
+use Rattle.bits.specs.Bits.{blank}
+use Rattle.bits.proofs.Storing.{blank-length}
+use Rattle.slot.specs.Part.{part}
+use Rattle.slot.proofs.Laws.{blank-at}
+use Rattle.field.specs.Field.{deletes, panning}
+use Rattle.field.specs.declared.Field.{Field}
+use Rattle.structure.specs.Structure.{structureSize, gathered, spoiled, deletion}
+use Rattle.structure.proofs.Gathering.{Empty}
+use Rattle.structure.proofs.Kept.{gathered-length}
+use Rattle.structure.proofs.Runs.{empty}
+use Rattle.frames.specs.declared.Frames.{Frames}
+use Rattle.map.specs.Map.{ids, mapSize, blockSize, structureAt, withStructure, framesOf, withFrames, eachFrom, changedFrom, spoiledBoth}
+use Rattle.map.specs.Calls.{putIn, takenIn}
+use Rattle.map.proofs.Places.{structure-length, structure-same, structure-other, with-structure-length, with-frames-length, structures-kept, frames-stored}
+use Rattle.map.proofs.Changing.{blank-empty, part-blank, gap-length, gap-structure, from-length}
+use Rattle.multiplex.specs.Broadcast.{Broadcast, countAt, change, epoch, begun, Linked}
+use Rattle.multiplex.specs.Air.{Carries, new, old, gone, vectors, Air, timed, carriedAs, fieldOn, newIn, oldIn, goneIn, later, same, lastOld, lastNew, linkOf, linksNew, one, newBefore, newTo, goneBefore, goneTo, inForce, coming, InTurn, Said, nothing, described, deleted, Orderly}
+use Rattle.multiplex.specs.Sound.{announces}
+use Rattle.multiplex.proofs.Standing.{deletion-length}
+use Rattle.multiplex.proofs.Knowing.{Front, some, all, Next, none, delete, piece, sure, full, QuietTo, Silent, Settled, stayed, told, ends, front-gap, next-gap, front-unsure, front-sure, silent-on, front-on, front-old, next-on, next-new}
+
+-- ---- what is held
+
+abbrev oldLast : Air → ℕ → ℕ → ℕ
+oldLast a id t = later (oldIn id (a .carries t)) (lastOld a id t)
+
+abbrev newLast : Air → ℕ → ℕ → ℕ
+newLast a id t = later (newIn id (a .carries t)) (lastNew a id t)
+
+abbrev linkLast : Air → ℕ → ℕ → ℕ
+linkLast a id t = cond (eqb (newIn id (a .carries t)) 0) (linksNew a id t) (linkOf (a .carries t))
+
+pub record Known (a : Air) (hears : ℕ → Bool) (t : ℕ) (m : List ℕ) (u : Bool) : Type 0 where
+  pub size : length m ≡ mapSize
+  pub frames : framesOf m ≡ record { last = countAt (timed a) t; heard = 1; unbroken = cond u 1 0 }
+  pub begun : u ≡ true → begun (timed a) t ≡ true
+  pub front : (id : ℕ) → id < ids → Front a hears (suc t) (epoch (timed a) t) id (oldLast a id t) (structureAt id 0 m)
+  pub next : (id : ℕ) → id < ids
+      → Next a hears (suc t) (epoch (timed a) t) id (newLast a id t) (newTo a id t) (linkLast a id t) (goneTo a id t) u (structureAt id 1 m)
+
+pub record Before (a : Air) (hears : ℕ → Bool) (t : ℕ) (m : List ℕ) (u : Bool) : Type 0 where
+  pub size : length m ≡ mapSize
+  pub begun : u ≡ true → begun (timed a) t ≡ true
+  pub front : (id : ℕ) → id < ids → Front a hears t (epoch (timed a) t) id (lastOld a id t) (structureAt id 0 m)
+  pub next : (id : ℕ) → id < ids
+      → Next a hears t (epoch (timed a) t) id (lastNew a id t) (newBefore a id t) (linksNew a id t) (goneBefore a id t) u (structureAt id 1 m)
+
+pub front-as : (a : Air) (hears : ℕ → Bool) (n e id due : ℕ) (s : List ℕ) (e' due' : ℕ) → e ≡ e' → due ≡ due'
+    → Front a hears n e id due s → Front a hears n e' id due' s
+front-as a hears n e id due s e' due' p q f = subst (λ (x : ℕ). Front a hears n x id due' s) p (subst (λ (x : ℕ). Front a hears n e id x s) q f)
+
+pub next-as : (a : Air) (hears : ℕ → Bool) (n e id due count links : ℕ) (g u : Bool) (s : List ℕ) (e' due' count' links' : ℕ) (g' : Bool)
+    → e ≡ e' → due ≡ due' → count ≡ count' → links ≡ links' → g ≡ g'
+    → Next a hears n e id due count links g u s → Next a hears n e' id due' count' links' g' u s
+next-as a hears n e id due count links g u s e' due' count' links' g' p q r v w f =
+    subst (λ (x : ℕ). Next a hears n x id due' count' links' g' u s) p
+    (subst (λ (x : ℕ). Next a hears n e id x count' links' g' u s) q
+    (subst (λ (x : ℕ). Next a hears n e id due x links' g' u s) r
+    (subst (λ (x : ℕ). Next a hears n e id due count x g' u s) v
+    (subst (λ (x : Bool). Next a hears n e id due count links x u s) w f))))
+
+-- ---- the field of a frame
+
+or-no : (x : Bool) → x ≡ (x || false)
+or-no true = refl
+or-no false = refl
+
+module _ (a : Air) (hears : ℕ → Bool) (t id : ℕ) (c : Carries) (is : a .carries t ≡ c) where
+  -- it says nothing of the component's present structure, or of what comes
+  front-plain : (s : List ℕ) → oldIn id c ≡ 0 → Front a hears t (epoch (timed a) t) id (lastOld a id t) s
+      → Front a hears (suc t) (epoch (timed a) t) id (later (oldIn id c) (lastOld a id t)) s
+  unfolding later
+  front-plain s z f =
+      subst (λ (x : ℕ). Front a hears (suc t) (epoch (timed a) t) id x s) (sym (ap (λ (x : ℕ). later x (lastOld a id t)) z))
+      (front-on a hears t (epoch (timed a) t) id refl (lastOld a id t) s f)
+
+  next-plain : (u : Bool) (s : List ℕ) → newIn id c ≡ 0 → goneIn id c ≡ false
+      → Next a hears t (epoch (timed a) t) id (lastNew a id t) (newBefore a id t) (linksNew a id t) (goneBefore a id t) u s
+      → Next a hears (suc t) (epoch (timed a) t) id (later (newIn id c) (lastNew a id t)) (newBefore a id t + one (newIn id c))
+      (cond (eqb (newIn id c) 0) (linksNew a id t) (linkOf c)) (goneBefore a id t || goneIn id c) u s
+  unfolding later announces
+  next-plain u s z g f =
+      next-as a hears (suc t) (epoch (timed a) t) id (lastNew a id t) (newBefore a id t) (linksNew a id t) (goneBefore a id t) u s
+      (epoch (timed a) t) (later (newIn id c) (lastNew a id t)) (newBefore a id t + one (newIn id c))
+      (cond (eqb (newIn id c) 0) (linksNew a id t) (linkOf c)) (goneBefore a id t || goneIn id c) refl
+      (sym (ap (λ (x : ℕ). later x (lastNew a id t)) z)) (plus (newBefore a id t) ∙ sym (ap (λ (x : ℕ). newBefore a id t + one x) z))
+      (sym (ap (λ (x : ℕ). cond (eqb x 0) (linksNew a id t) (linkOf c)) z))
+      (or-no (goneBefore a id t) ∙ sym (ap (λ (b : Bool). goneBefore a id t || b) g))
+      (next-on a hears t (epoch (timed a) t) id refl _ _ _ _ u s
+      (ap (λ (x : Carries). goneIn id x || cond (eqb (newIn id x) 0) false true) is ∙ ap₂ (λ (b : Bool) (x : ℕ). b || cond (eqb x 0) false true) g z) f)
+    where
+      plus : (n : ℕ) → n ≡ n + 0
+      plus n = omega arith
+
+module _ (a : Air) (w : Orderly a) (hears : ℕ → Bool) (t : ℕ) (m : List ℕ) (u : Bool) (h : Before a hears t m u) where
+  abbrev now : ℕ
+  now = epoch (timed a) t
+
+  -- what is held when the field is taken in, but for the frames that were heard
+  record Taken (c : Carries) (x : List ℕ) : Type 0 where
+    pub size : length x ≡ mapSize
+    pub front : (id : ℕ) → id < ids → Front a hears (suc t) now id (later (oldIn id c) (lastOld a id t)) (structureAt id 0 x)
+    pub next : (id : ℕ) → id < ids
+        → Next a hears (suc t) now id (later (newIn id c) (lastNew a id t)) (newBefore a id t + one (newIn id c))
+        (cond (eqb (newIn id c) 0) (linksNew a id t) (linkOf c)) (goneBefore a id t || goneIn id c) u (structureAt id 1 x)
+
+  -- the announced structure of one component, by its bytes
+  abbrev AtIs : Carries → ℕ → List ℕ → Type 0
+  AtIs c id x =
+      Next a hears (suc t) now id (later (newIn id c) (lastNew a id t)) (newBefore a id t + one (newIn id c))
+      (cond (eqb (newIn id c) 0) (linksNew a id t) (linkOf c)) (goneBefore a id t || goneIn id c) u x
+
+  abbrev At : Carries → ℕ → List ℕ → Type 0
+  At c id x = AtIs c id (structureAt id 1 x)
+
+  no-vectors : (j id : ℕ) → 0 < length (a .config j id) → id ≡ panning → ⊥
+  no-vectors j id p z = omega (arith, p, ap length (ap (a .config j) z ∙ w .vectors j))
+
+  -- one structure is replaced
+  module _ (k v : ℕ) (hk : k < ids) (hv : v < 2) (s : List ℕ) (ls : length s ≡ structureSize) where
+    put-at : structureAt k v (withStructure k v s m) ≡ s
+    put-at = structure-same m (h .size) k v s hk hv ls
+
+    put-off : (j x : ℕ) → x < 2 → (j ≡ k → x ≡ v → ⊥) → structureAt j x (withStructure k v s m) ≡ structureAt j x m
+    put-off = structure-other m (h .size) k v s hk hv ls
+
+    put-long : length (withStructure k v s m) ≡ mapSize
+    put-long = with-structure-length m (h .size) k v s hk hv ls
+
+  pick : {A : Type 0} (x y : ℕ) → (x ≡ y → A) → ((x ≡ y → ⊥) → A) → A
+  pick {A} x y f g = go (ℕ-discrete x y)
+    where
+      go : Dec (x ≡ y) → A
+      go (yes e) = f e
+      go (no e) = g e
+
+  abbrev gather : ℕ → ℕ → ℕ → ℕ → List ℕ
+  gather k v t l = gathered (structureAt k v m) t l
+
+  gather-long : (k v t l : ℕ) → k < ids → v < 2 → length (gather k v t l) ≡ structureSize
+  gather-long k v t l hk hv = gathered-length (structureAt k v m) t l (structure-length m (h .size) k v hk hv)
+
+  taken-new : (k i l : ℕ) → a .carries t ≡ new k i l → InTurn a t (new k i l)
+      → Taken (new k i l) (withStructure k 1 (gather k 1 (getD (coming a t k) i 0) l) m)
+  unfolding newIn oldIn goneIn linkOf later InTurn
+  taken-new k i l is law =
+      let hk = law .0 in
+      let s = gather k 1 (getD (coming a t k) i 0) l in
+      let ls = gather-long k 1 (getD (coming a t k) i 0) l hk (lit< tt) in
+      record {
+        size = put-long k 1 hk (lit< tt) s ls;
+        front = λ id hid.
+            subst (Front a hears (suc t) now id (lastOld a id t)) (sym (put-off k 1 hk (lit< tt) s ls id 0 (lit< tt) (λ p q. omega (arith, q))))
+            (front-plain a hears t id (new k i l) is (structureAt id 0 m) refl (h .front id hid));
+        next = λ id hid. pick id k
+            (λ e. subst (λ (j : ℕ). At (new k i l) j (withStructure k 1 s m)) (sym e) (here hk ls))
+            (λ e. subst (λ (x : List ℕ). AtIs (new k i l) id x) (sym (put-off k 1 hk (lit< tt) s ls id 1 (lit< tt) (λ p q. e p)))
+            (next-plain a hears t id (new k i l) is u (structureAt id 1 m) (ap (λ (b : Bool). cond b (suc i) 0) (ne-eqb k id (λ q. e (sym q)))) refl (h .next id hid)));
+      }
+    where
+      here : (hk : k < ids) → length (gather k 1 (getD (coming a t k) i 0) l) ≡ structureSize
+          → At (new k i l) k (withStructure k 1 (gather k 1 (getD (coming a t k) i 0) l) m)
+      here hk ls =
+          let yes-k : newIn k (new k i l) ≡ suc i = ap (λ (b : Bool). cond b (suc i) 0) (eq-eqb k k refl) in
+          let some-k : eqb (newIn k (new k i l)) 0 ≡ false = ap (λ (x : ℕ). eqb x 0) yes-k ∙ ne-eqb (suc i) 0 (λ z. omega (arith, z)) in
+          subst (λ (x : List ℕ). AtIs (new k i l) k x) (sym (put-at k 1 hk (lit< tt) _ ls))
+          (next-as a hears (suc t) now k (suc i) (newBefore a k t + 1) l (goneBefore a k t) u _ now (later (newIn k (new k i l)) (lastNew a k t))
+          (newBefore a k t + one (newIn k (new k i l))) (cond (eqb (newIn k (new k i l)) 0) (linksNew a k t) l) (goneBefore a k t || false) refl
+          (sym (ap (λ (x : ℕ). later x (lastNew a k t)) yes-k)) (sym (ap (λ (b : Bool). newBefore a k t + cond b 0 1) some-k))
+          (sym (ap (λ (b : Bool). cond b (linksNew a k t) l) some-k)) (or-no (goneBefore a k t))
+          (next-new a hears t now k refl (w .linked (suc now) k hk) i l (law .1 .0) (omega (arith, law .1 .1 .0)) _ _ _ _ u (structureAt k 1 m)
+          (law .1 .1 .1 .0) (λ b z. law .1 .1 .1 .1 z (h .begun b)) (h .next k hk)))
+
+  taken-old : (k i l : ℕ) → a .carries t ≡ old k i l → InTurn a t (old k i l)
+      → Taken (old k i l) (withStructure k 0 (gather k 0 (getD (inForce a t k) i 0) l) m)
+  unfolding newIn oldIn goneIn later InTurn
+  taken-old k i l is law =
+      let hk = law .0 in
+      let s = gather k 0 (getD (inForce a t k) i 0) l in
+      let ls = gather-long k 0 (getD (inForce a t k) i 0) l hk (lit< tt) in
+      record {
+        size = put-long k 0 hk (lit< tt) s ls;
+        front = λ id hid. pick id k
+            (λ e. subst (λ (j : ℕ). Front a hears (suc t) now j (later (oldIn j (old k i l)) (lastOld a j t)) (structureAt j 0 (withStructure k 0 s m))) (sym e)
+            (here hk ls))
+            (λ e. subst (Front a hears (suc t) now id (later (oldIn id (old k i l)) (lastOld a id t)))
+            (sym (put-off k 0 hk (lit< tt) s ls id 0 (lit< tt) (λ p q. e p)))
+            (front-plain a hears t id (old k i l) is (structureAt id 0 m) (ap (λ (b : Bool). cond b (suc i) 0) (ne-eqb k id (λ q. e (sym q)))) (h .front id hid)));
+        next = λ id hid.
+            subst (λ (x : List ℕ). AtIs (old k i l) id x) (sym (put-off k 0 hk (lit< tt) s ls id 1 (lit< tt) (λ p q. omega (arith, q))))
+            (next-plain a hears t id (old k i l) is u (structureAt id 1 m) refl refl (h .next id hid));
+      }
+    where
+      here : (hk : k < ids) → length (gather k 0 (getD (inForce a t k) i 0) l) ≡ structureSize
+          → Front a hears (suc t) now k (later (oldIn k (old k i l)) (lastOld a k t)) (structureAt k 0 (withStructure k 0 (gather k 0 (getD (inForce a t k) i 0) l) m))
+      here hk ls =
+          let yes-k : oldIn k (old k i l) ≡ suc i = ap (λ (b : Bool). cond b (suc i) 0) (eq-eqb k k refl) in
+          subst (Front a hears (suc t) now k (later (oldIn k (old k i l)) (lastOld a k t))) (sym (put-at k 0 hk (lit< tt) _ ls))
+          (subst (λ (x : ℕ). Front a hears (suc t) now k x (gather k 0 (getD (inForce a t k) i 0) l)) (sym (ap (λ (x : ℕ). later x (lastOld a k t)) yes-k))
+          (front-old a hears t now k refl (w .linked now k hk) i l (lastOld a k t) (structureAt k 0 m) (law .1 .0) (omega (arith, law .1 .1 .0))
+          (law .1 .1 .1) (h .front k hk)))
+
+  -- all ones: at once, or by the next change
+  taken-gone : (k tdms l : ℕ) → a .carries t ≡ gone 0 k tdms l → k < ids → Taken (gone 0 k tdms l) (withStructure k 0 (blank structureSize) m)
+  unfolding newIn oldIn goneIn later
+  taken-gone k tdms l is hk =
+      let ls = blank-length structureSize in
+      record {
+        size = put-long k 0 hk (lit< tt) _ ls;
+        front = λ id hid. pick id k
+            (λ e. subst (λ (j : ℕ). Front a hears (suc t) now j (lastOld a j t) (structureAt j 0 (withStructure k 0 (blank structureSize) m))) (sym e)
+            (subst (Front a hears (suc t) now k (lastOld a k t)) (sym (put-at k 0 hk (lit< tt) _ ls)) (some (empty (blank-empty _ refl)))))
+            (λ e. subst (Front a hears (suc t) now id (lastOld a id t)) (sym (put-off k 0 hk (lit< tt) _ ls id 0 (lit< tt) (λ p q. e p)))
+            (front-plain a hears t id (gone 0 k tdms l) is (structureAt id 0 m) refl (h .front id hid)));
+        next = λ id hid.
+            subst (λ (x : List ℕ). AtIs (gone 0 k tdms l) id x) (sym (put-off k 0 hk (lit< tt) _ ls id 1 (lit< tt) (λ p q. omega (arith, q))))
+            (next-plain a hears t id (gone 0 k tdms l) is u (structureAt id 1 m) refl refl (h .next id hid));
+      }
+
+  taken-ends : (k tdms l : ℕ) → a .carries t ≡ gone 1 k tdms l → k < ids → coming a t k ≡ [] → Taken (gone 1 k tdms l) (withStructure k 1 deletion m)
+  unfolding newIn oldIn goneIn later
+  taken-ends k tdms l is hk z =
+      record {
+        size = put-long k 1 hk (lit< tt) _ deletion-length;
+        front = λ id hid.
+            subst (Front a hears (suc t) now id (lastOld a id t)) (sym (put-off k 1 hk (lit< tt) _ deletion-length id 0 (lit< tt) (λ p q. omega (arith, q))))
+            (front-plain a hears t id (gone 1 k tdms l) is (structureAt id 0 m) refl (h .front id hid));
+        next = λ id hid. pick id k
+            (λ e. subst (λ (j : ℕ). At (gone 1 k tdms l) j (withStructure k 1 deletion m)) (sym e)
+            (delete (put-at k 1 hk (lit< tt) _ deletion-length) z))
+            (λ e. subst (λ (x : List ℕ). AtIs (gone 1 k tdms l) id x) (sym (put-off k 1 hk (lit< tt) _ deletion-length id 1 (lit< tt) (λ p q. e p)))
+            (next-plain a hears t id (gone 1 k tdms l) is u (structureAt id 1 m) refl (ne-eqb k id (λ q. e (sym q))) (h .next id hid)));
+      }
+
+  taken-vectors : (flag tdms l : ℕ) → a .carries t ≡ vectors flag tdms l → Taken (vectors flag tdms l) m
+  unfolding newIn oldIn goneIn later
+  taken-vectors flag tdms l is = record {
+    size = h .size;
+    front = λ id hid. front-plain a hears t id (vectors flag tdms l) is (structureAt id 0 m) refl (h .front id hid);
+    next = λ id hid. next-plain a hears t id (vectors flag tdms l) is u (structureAt id 1 m) refl refl (h .next id hid);
+  }
+
+  -- whatever the frame carries
+  taken-as : (c : Carries) → a .carries t ≡ c → InTurn a t c → Taken c (takenIn (carriedAs a t c) m)
+  unfolding carriedAs takenIn putIn InTurn
+  taken-as (new k i l) is law =
+      let x = getD (coming a t k) i 0 in
+      let go : takenIn (carriedAs a t (new k i l)) m ≡ withStructure k 1 (gather k 1 x l) m =
+      (λ j. cond (ne-eqb k panning (no-vectors (suc now) k (omega (arith, law .1 .0))) j) m
+      (withStructure k 1 (cond (w .linked (suc now) k (law .0) .fit i (law .1 .0) .stays j) deletion (gather k 1 x l)) m)) in
+      subst (Taken (new k i l)) (sym go) (taken-new k i l is law)
+  taken-as (old k i l) is law =
+      let x = getD (inForce a t k) i 0 in
+      let go : takenIn (carriedAs a t (old k i l)) m ≡ withStructure k 0 (gather k 0 x l) m =
+      (λ j. cond (ne-eqb k panning (no-vectors now k (omega (arith, law .1 .0))) j) m
+      (withStructure k 0 (cond (w .linked now k (law .0) .fit i (law .1 .0) .stays j) (blank structureSize) (gather k 0 x l)) m)) in
+      subst (Taken (old k i l)) (sym go) (taken-old k i l is law)
+  taken-as (gone zero k tdms l) is law =
+      let go : takenIn (carriedAs a t (gone 0 k tdms l)) m ≡ withStructure k 0 (blank structureSize) m =
+      (λ j. cond (ne-eqb k panning (law .1 .0) j) m (withStructure k 0 (cond (law .1 .1 .1 .0 j) (blank structureSize) (gather k 0 tdms l)) m)) in
+      subst (Taken (gone 0 k tdms l)) (sym go) (taken-gone k tdms l is (law .0))
+  taken-as (gone (suc zero) k tdms l) is law =
+      let go : takenIn (carriedAs a t (gone 1 k tdms l)) m ≡ withStructure k 1 deletion m =
+      (λ j. cond (ne-eqb k panning (law .1 .0) j) m (withStructure k 1 (cond (law .1 .1 .1 .0 j) deletion (gather k 1 tdms l)) m)) in
+      subst (Taken (gone 1 k tdms l)) (sym go) (taken-ends k tdms l is (law .0) (law .1 .1 .0))
+  taken-as (gone (suc (suc f)) k tdms l) is law = absurd (omega (arith, law .1 .1 .1 .1 .1 .flags))
+  taken-as (vectors flag tdms l) is law = taken-vectors flag tdms l is
+
+  pub field-known : (f : Frames) → f ≡ record { last = countAt (timed a) t; heard = 1; unbroken = cond u 1 0 }
+      → Known a hears t (withFrames f (takenIn (fieldOn a t) m)) u
+  unfolding fieldOn
+  field-known f e =
+      let k = taken-as (a .carries t) refl (w .turns t) in
+      let x = takenIn (carriedAs a t (a .carries t)) m in
+      record {
+        size = with-frames-length x (k .size) f;
+        frames = frames-stored x (k .size) f ∙ e;
+        begun = h .begun;
+        front = λ id hid. subst (Front a hears (suc t) now id _) (sym (structures-kept x (k .size) f id 0 hid (lit< tt))) (k .front id hid);
+        next = λ id hid. subst (λ (y : List ℕ). AtIs (a .carries t) id y) (sym (structures-kept x (k .size) f id 1 hid (lit< tt))) (k .next id hid);
+      }

@@ -1,0 +1,196 @@
+-- From one frame that is heard to the next, up to 128 frames later.
+--
+--   near-same, near-change     the next frame is heard, in the same configuration or as the first of the next one
+--   far-same, far-change       frames are missed before it
+--   first-before               nothing was heard before
+--
+-- Assumes nothing.
+use mathlib.Core.Path.{_≡_, refl, sym, ap, ap₂, _∙_, subst}
+use mathlib.Core.Bool.{Bool, true, false, cond, not, _&&_, _||_}
+use mathlib.Core.List.{List, [], _∷_}
+use Prim.Native.Nat.{ℕ, zero, suc, _+_, _-_, _*_, _≤_, _<_}
+use native.Mathlib.Omega.{arith}
+use borrow.Author.Tests.{eq-eqb}
+use lib.Dec.{T, eqb, lit<, lit≤}
+use lib.ListN.{length}
+use Rattle.bits.specs.Bits.{blank}
+use Rattle.bits.proofs.Storing.{blank-length}
+use Rattle.structure.specs.Structure.{structureSize, spoiled}
+use Rattle.structure.proofs.Gathering.{Empty}
+use Rattle.structure.proofs.Runs.{empty}
+use Rattle.map.specs.Map.{ids, mapSize, blockSize, structureAt, eachFrom, changedFrom, spoiledBoth}
+use Rattle.map.proofs.Changing.{blank-empty, part-blank, gap-length, gap-structure, from-length}
+use Rattle.multiplex.specs.Broadcast.{countAt, change, epoch, begun}
+use Rattle.multiplex.specs.Air.{Air, timed, newIn, oldIn, goneIn, later, same, lastOld, lastNew, linkOf, linksNew, one, newBefore, newTo, goneBefore, goneTo, inForce, coming, Said, nothing, described, deleted, Orderly}
+use Rattle.multiplex.specs.Sound.{announces}
+use Rattle.multiplex.proofs.Distances.{epoch-step, epoch-mono}
+use Rattle.multiplex.proofs.Knowing.{Front, some, all, Next, none, delete, piece, sure, full, Silent, Settled, stayed, told, ends, front-gap, next-gap, front-unsure, front-sure}
+use Rattle.multiplex.proofs.Listening.{Known, Before, front-as, next-as}
+
+same-refl : (xs : List ℕ) → same xs xs ≡ true
+unfolding same
+same-refl [] = refl
+same-refl (x ∷ xs) = ap₂ (λ (a b : Bool). a && b) (eq-eqb x x refl) (same-refl xs)
+
+same-eq : (xs ys : List ℕ) → xs ≡ ys → same xs ys ≡ true
+same-eq xs ys e = ap (same xs) (sym e) ∙ same-refl xs
+
+-- none was heard between frame t and frame n
+abbrev pub Gap : (ℕ → Bool) → ℕ → ℕ → Type 0
+Gap hears t n = (v : ℕ) → v < n → hears v ≡ true → v < suc t
+
+module _ (a : Air) (hears : ℕ → Bool) (t n : ℕ) (gap : Gap hears t n) where
+  front-later : (e id due : ℕ) (s : List ℕ) → Front a hears (suc t) e id due s → Front a hears n e id due s
+  front-later e id due s (some p) = some p
+  front-later e id due s (all j l hl hj pos h q) = all j l hl hj pos h (λ v hv hh lo hi. q v (gap v hv hh) hh lo hi)
+
+  next-later : (e id due count links : ℕ) (g u : Bool) (s : List ℕ) → Next a hears (suc t) e id due count links g u s → Next a hears n e id due count links g u s
+  next-later e id due count links g u s (none em c q) = none em c (λ v hv hh z. q v (gap v hv hh) hh z)
+  next-later e id due count links g u s (delete d z) = delete d z
+  next-later e id due count links g u s (piece w h p) = piece w h p
+  next-later e id due count links g u s (sure k pos le c d hl h) = sure k pos le c d hl h
+  next-later e id due count links g u s (full l hl pos h) = full l hl pos h
+
+  -- in the next configuration nothing was said before its first frame
+  silent-new : (e id : ℕ) → epoch (timed a) t < e → Silent a hears n e id
+  silent-new e id h v hv hh z = absurd (omega (arith, h, z, epoch-mono (timed a) v t (omega (arith, gap v hv hh))))
+
+module _ (a : Air) (w : Orderly a) (hears : ℕ → Bool) (t : ℕ) (m : List ℕ) (u : Bool) (k : Known a hears t m u) where
+  abbrev e : ℕ
+  e = epoch (timed a) t
+
+  -- ---- the next frame
+
+  pub near-same : change (timed a) (suc t) ≡ false → Before a hears (suc t) m u
+  unfolding lastOld lastNew linksNew newBefore goneBefore begun
+  near-same c =
+      let on : epoch (timed a) (suc t) ≡ e = epoch-step (timed a) t false c in
+      record {
+        size = k .size;
+        begun = λ q. ap (λ (b : Bool). change (timed a) (suc t) || b) (k .begun q) ∙ or-yes (change (timed a) (suc t));
+        front = λ id hid. front-as a hears (suc t) e id _ _ (epoch (timed a) (suc t)) (lastOld a id (suc t)) (sym on)
+            (sym (ap (λ (b : Bool). cond b (later (oldIn id (a .carries t)) (lastOld a id t)) 0) (same-eq _ _ (ap (λ (x : ℕ). a .config x id) (sym on)))))
+            (k .front id hid);
+        next = λ id hid. next-as a hears (suc t) e id _ _ _ _ u _ (epoch (timed a) (suc t)) (lastNew a id (suc t)) (newBefore a id (suc t))
+            (linksNew a id (suc t)) (goneBefore a id (suc t)) (sym on)
+            (sym (ap (λ (b : Bool). cond b 0 (later (newIn id (a .carries t)) (lastNew a id t))) c))
+            (sym (ap (λ (b : Bool). cond b 0 (newTo a id t)) c)) refl (sym (ap (λ (b : Bool). cond b false (goneTo a id t)) c)) (k .next id hid);
+      }
+    where
+      or-yes : (x : Bool) → (x || true) ≡ true
+      or-yes true = refl
+      or-yes false = refl
+
+  -- nothing is announced in the first frame of a configuration
+  fresh : (n : ℕ) → Gap hears t n → epoch (timed a) n ≡ suc e → (v : Bool)
+      → ((id : ℕ) → v ≡ true → (newBefore a id n ≡ 0) × ((goneBefore a id n ≡ false) × (lastNew a id n ≡ 0)))
+      → (id : ℕ) (s : List ℕ) → Empty s
+      → Next a hears n (epoch (timed a) n) id (lastNew a id n) (newBefore a id n) (linksNew a id n) (goneBefore a id n) v s
+  fresh n gap on v zeros id s em = none em (zeros id) (silent-new a hears t n gap (epoch (timed a) n) id (omega (arith, on)))
+
+  settled-by : (id : ℕ) → Said a t id → Settled (inForce a t id) (coming a t id) (newTo a id t) (goneTo a id t)
+  settled-by id (nothing z g s) = stayed z g s
+  settled-by id (described p q) = told p q
+  settled-by id (deleted z g) = ends z g
+
+  abbrev Then : Bool → ℕ → Type 0
+  Then v id =
+      Front a hears (suc t) (suc e) id (lastOld a id (suc t)) (structureAt id 0 (changedFrom ids 0 v m)) × Empty (structureAt id 1 (changedFrom ids 0 v m))
+
+  change-both : change (timed a) (suc t) ≡ true → epoch (timed a) (suc t) ≡ suc e → (id : ℕ) → id < ids → (v : Bool) → u ≡ v → Then u id
+  unfolding lastOld
+  change-both c on id hid true q =
+      subst (λ (x : Bool). Then x id) (sym q)
+      (front-sure a hears (suc t) e id hid m (k .size) (w .linked (suc e) id hid) (later (oldIn id (a .carries t)) (lastOld a id t)) (lastOld a id (suc t))
+      (later (newIn id (a .carries t)) (lastNew a id t)) (newTo a id t) (cond (eqb (newIn id (a .carries t)) 0) (linksNew a id t) (linkOf (a .carries t))) (goneTo a id t)
+      (λ z. ap (λ (b : Bool). cond b (later (oldIn id (a .carries t)) (lastOld a id t)) 0) (same-eq _ _ (sym z ∙ ap (λ (x : ℕ). a .config x id) (sym on))))
+      (settled-by id (w .said t id hid c (k .begun q))) (k .front id hid)
+      (subst (λ (x : Bool). Next a hears (suc t) e id (later (newIn id (a .carries t)) (lastNew a id t)) (newTo a id t)
+      (cond (eqb (newIn id (a .carries t)) 0) (linksNew a id t) (linkOf (a .carries t))) (goneTo a id t) x (structureAt id 1 m)) q (k .next id hid)))
+  change-both c on id hid false q =
+      subst (λ (x : Bool). Then x id) (sym q)
+      (front-unsure a hears (suc t) e id hid m (k .size) (w .linked (suc e) id hid) _ (lastOld a id (suc t)) _ _ _ _ u (k .front id hid) (k .next id hid))
+
+  pub near-change : change (timed a) (suc t) ≡ true → Before a hears (suc t) (changedFrom ids 0 u m) true
+  unfolding lastOld lastNew newBefore goneBefore begun
+  near-change c =
+      let on : epoch (timed a) (suc t) ≡ suc e = epoch-step (timed a) t true c in
+      record {
+        size = from-length u ids 0 m (lit≤ tt) (k .size);
+        begun = λ q. ap (λ (b : Bool). b || begun (timed a) t) c;
+        front = λ id hid. subst (λ (x : ℕ). Front a hears (suc t) x id (lastOld a id (suc t)) (structureAt id 0 (changedFrom ids 0 u m))) (sym on) (change-both c on id hid u refl .0);
+        next = λ id hid. fresh (suc t) (λ v hv hh. hv) on true
+            (λ j z. (ap (λ (b : Bool). cond b 0 (newTo a j t)) c, (ap (λ (b : Bool). cond b false (goneTo a j t)) c, ap (λ (b : Bool). cond b 0 (later (newIn j (a .carries t)) (lastNew a j t))) c)))
+            id _ (change-both c on id hid u refl .1);
+      }
+
+  -- ---- frames are missed
+
+  module _ (n : ℕ) (gap : Gap hears t n) where
+    abbrev gaps : List ℕ
+    gaps = eachFrom ids 0 spoiledBoth m
+
+    gap-front : (id : ℕ) → id < ids → (due : ℕ) → Front a hears (suc t) e id due (structureAt id 0 gaps)
+    gap-front id hid due = subst (Front a hears (suc t) e id due) (sym (gap-structure m (k .size) id 0 hid (lit< tt))) (front-gap a hears (suc t) e id _ due _ (k .front id hid))
+
+    gap-next : (id : ℕ) → id < ids → (due count links : ℕ) (g : Bool) → Next a hears (suc t) e id due count links g false (structureAt id 1 gaps)
+    gap-next id hid due count links g =
+        subst (Next a hears (suc t) e id due count links g false) (sym (gap-structure m (k .size) id 1 hid (lit< tt)))
+        (next-gap a hears (suc t) e id _ _ _ _ u _ (k .next id hid) due count links g)
+
+    no : {A : Type 0} → false ≡ true → A
+    no z = absurd (subst T (sym z) tt)
+
+    pub far-same : epoch (timed a) n ≡ e → Before a hears n gaps false
+    far-same on = record {
+      size = gap-length m (k .size);
+      begun = λ z. no z;
+      front = λ id hid. subst (λ (x : ℕ). Front a hears n x id (lastOld a id n) (structureAt id 0 gaps)) (sym on)
+          (front-later a hears t n gap e id _ _ (gap-front id hid (lastOld a id n)));
+      next = λ id hid. subst (λ (x : ℕ). Next a hears n x id (lastNew a id n) (newBefore a id n) (linksNew a id n) (goneBefore a id n) false (structureAt id 1 gaps)) (sym on)
+          (next-later a hears t n gap e id _ _ _ _ false _ (gap-next id hid (lastNew a id n) (newBefore a id n) (linksNew a id n) (goneBefore a id n)));
+    }
+
+    far-both : (id : ℕ) → id < ids
+        → Front a hears (suc t) (suc e) id (lastOld a id n) (structureAt id 0 (changedFrom ids 0 false gaps)) × Empty (structureAt id 1 (changedFrom ids 0 false gaps))
+    far-both id hid =
+        front-unsure a hears (suc t) e id hid gaps (gap-length m (k .size)) (w .linked (suc e) id hid) 0 (lastOld a id n) 0 0 0 false false
+        (gap-front id hid 0) (gap-next id hid 0 0 0 false)
+
+    pub far-change : epoch (timed a) n ≡ suc e → Before a hears n (changedFrom ids 0 false gaps) false
+    far-change on =
+        let lg = gap-length m (k .size) in
+        record {
+          size = from-length false ids 0 gaps (lit≤ tt) lg;
+          begun = λ z. no z;
+          front = λ id hid. subst (λ (x : ℕ). Front a hears n x id (lastOld a id n) (structureAt id 0 (changedFrom ids 0 false gaps))) (sym on)
+              (front-later a hears t n gap (suc e) id _ _ (far-both id hid .0));
+          next = λ id hid. fresh n gap on false (λ j z. no z) id _ (far-both id hid .1);
+        }
+
+-- ---- nothing was heard before
+
+blank-structure : (id v : ℕ) → id < ids → v < 2 → Empty (structureAt id v (blank mapSize))
+unfolding structureAt
+blank-structure id v hid hv = blank-empty _ (part-blank (id * blockSize + v * structureSize) structureSize mapSize (omega arith))
+
+starts : (a : Air) (n : ℕ) → change (timed a) n ≡ true → begun (timed a) n ≡ true
+unfolding begun
+starts a zero c = c
+starts a (suc n) c = ap (λ (b : Bool). b || begun (timed a) n) c
+
+none-yet : (a : Air) (n id : ℕ) → change (timed a) n ≡ true → (newBefore a id n ≡ 0) × ((goneBefore a id n ≡ false) × (lastNew a id n ≡ 0))
+unfolding newBefore goneBefore lastNew
+none-yet a zero id c = (refl, (refl, refl))
+none-yet a (suc n) id c = (
+  ap (λ (b : Bool). cond b 0 (newTo a id n)) c,
+  (ap (λ (b : Bool). cond b false (goneTo a id n)) c, ap (λ (b : Bool). cond b 0 (later (newIn id (a .carries n)) (lastNew a id n))) c),
+)
+
+pub first-before : (a : Air) (hears : ℕ → Bool) (t : ℕ) → ((v : ℕ) → v < t → hears v ≡ true → ⊥) → Before a hears t (blank mapSize) (change (timed a) t)
+first-before a hears t quiet = record {
+  size = blank-length mapSize;
+  begun = starts a t;
+  front = λ id hid. some (empty (blank-structure id 0 hid (lit< tt)));
+  next = λ id hid. none (blank-structure id 1 hid (lit< tt)) (none-yet a t id) (λ v hv hh z. absurd (quiet v hv hh));
+}

@@ -1,0 +1,292 @@
+-- Never sure without reason: a map started anywhere, that misses frames.
+--
+--   take-known        one frame that is heard, by what the map holds before it
+--   reach-known       from the last frame heard, up to 128 frames before
+--   State, state-at   what the map has heard before a frame
+--
+-- Assumes nothing.
+use mathlib.Core.Path.{_≡_, refl, sym, ap, ap₂, _∙_, subst}
+use mathlib.Core.Bool.{Bool, true, false, cond, not, _&&_, _||_}
+use mathlib.Core.List.{List, [], _∷_}
+use mathlib.Core.Logic.{_⊎_, inl, inr}
+use Prim.Native.Nat.{ℕ, zero, suc, _+_, _-_, _^_, _≤_, _<_}
+use native.Mathlib.Omega.{arith}
+use native.Mathlib.Decide.{ℕ-discrete}
+use borrow.Author.Tests.{ne-eqb, le-ltb, lt-ltb}
+use lib.Dec.{T, ltb, eqb}
+use lib.ListN.{length, getD}
+use Rattle.bits.specs.Bits.{blank}
+use Rattle.bits.proofs.Rows.{done-passed}
+use Rattle.slot.proofs.Laws.{blank-at}
+use Rattle.field.specs.Field.{fieldOf, fieldBytes, panning}
+use Rattle.field.specs.declared.Field.{Field}
+use Rattle.field.proofs.RoundTrip.{read-written}
+use Rattle.frames.specs.Counts.{since, changes, changing, again, skips, begins, sureAt, framesAfter}
+use Rattle.frames.specs.declared.Frames.{Frames}
+use Rattle.map.specs.Map.{ids, mapSize, framesOf, withFrames, eachFrom, changedFrom, spoiledBoth}
+use Rattle.map.specs.Calls.{takenIn, overGap, upTo, frameTaken, takeAnswer, takeAfter}
+use Rattle.multiplex.specs.Broadcast.{countAt, change, epoch}
+use Rattle.multiplex.specs.Heard.{ours}
+use Rattle.multiplex.specs.Air.{Carries, new, old, gone, vectors, Air, timed, carriedAs, fieldOn, InTurn, Orderly}
+use Rattle.multiplex.specs.Sound.{kept, missedBefore, anyBefore, Listener}
+use Rattle.multiplex.proofs.Counting.{begins-change, count-lt}
+use Rattle.multiplex.proofs.Distances.{since-is, count-apart, changes-epoch, epoch-either, epoch-step}
+use Rattle.multiplex.proofs.Listening.{Known, Before, field-known}
+use Rattle.multiplex.proofs.Reaching.{Gap, near-same, near-change, far-same, far-change, first-before}
+
+-- ---- the field's numbers
+
+record Wide (r : Field) (c : ℕ) : Type 0 where
+  count : r .count ≡ c
+  flag : r .flag < 2
+  id : r .id < 256
+  tdms : r .tdms < 2 ^ 62
+  links : r .links < 2
+
+wide-as : (a : Air) (w : Orderly a) (t : ℕ) (c : Carries) → InTurn a t c → Wide (carriedAs a t c) (countAt (timed a) t)
+unfolding carriedAs InTurn
+wide-as a w t (new k i l) law = record {
+  count = refl;
+  flag = omega arith;
+  id = law .0;
+  tdms = w .linked (suc (epoch (timed a) t)) k (law .0) .fit i (law .1 .0) .width;
+  links = law .1 .1 .0;
+}
+wide-as a w t (old k i l) law = record {
+  count = refl;
+  flag = omega arith;
+  id = law .0;
+  tdms = w .linked (epoch (timed a) t) k (law .0) .fit i (law .1 .0) .width;
+  links = law .1 .1 .0;
+}
+wide-as a w t (gone flag k tdms l) law =
+    let b = law .1 .1 .1 .1 .1 in
+    record { count = refl; flag = b .flags; id = law .0; tdms = b .width; links = b .links }
+wide-as a w t (vectors flag tdms l) law =
+    record { count = refl; flag = law .flags; id = omega arith; tdms = law .width; links = law .links }
+
+wide : (a : Air) (w : Orderly a) (t : ℕ) → Wide (fieldOn a t) (countAt (timed a) t)
+unfolding fieldOn
+wide a w t = wide-as a w t (a .carries t) (w .turns t)
+
+abbrev framesAt : Air → ℕ → Bool → Frames
+framesAt a t u = record { last = countAt (timed a) t; heard = 1; unbroken = cond u 1 0 }
+
+-- ---- one frame
+
+module _ (a : Air) (w : Orderly a) (hears : ℕ → Bool) (t : ℕ) (m : List ℕ) (not-refused : takeAnswer m (fieldBytes (fieldOn a t)) ≡ 0) where
+  take-known : (M : List ℕ) (u : Bool) → Before a hears t M u → upTo m (countAt (timed a) t) ≡ M → again (framesOf m) (countAt (timed a) t) ≡ false
+      → framesAfter (framesOf m) (countAt (timed a) t) ≡ framesAt a t u → Known a hears t (takeAfter m (fieldBytes (fieldOn a t))) u
+  unfolding takeAfter frameTaken
+  take-known M u h up fresh then =
+      let r : Field = fieldOn a t in
+      let s = wide a w t in
+      let back : fieldOf (fieldBytes r) ≡ r = read-written r (omega (arith, s .count, count-lt (timed a) t)) (s .flag) (s .id) (s .tdms) (s .links) in
+      let is : takeAfter m (fieldBytes r) ≡ withFrames (framesAfter (framesOf m) (countAt (timed a) t)) (takenIn r M) =
+      done-passed (takeAnswer m (fieldBytes r)) (frameTaken m (fieldOf (fieldBytes r))) m not-refused ∙ ap (frameTaken m) back
+      ∙ ap (λ (c : ℕ). cond (again (framesOf m) c) m (withFrames (framesAfter (framesOf m) c) (takenIn r (upTo m c)))) (s .count)
+      ∙ (λ i. cond (fresh i) m (withFrames (framesAfter (framesOf m) (countAt (timed a) t)) (takenIn r (up i)))) in
+      subst (λ (x : List ℕ). Known a hears t x u) (sym is) (field-known a w hears t M u h _ then)
+
+-- ---- from the last frame that was heard
+
+module _ (a : Air) (w : Orderly a) (hears : ℕ → Bool) (T g : ℕ) (pos : 0 < g) (most : g ≤ 128) (m : List ℕ) (u : Bool) (k : Known a hears T m u)
+    (not-refused : takeAnswer m (fieldBytes (fieldOn a (T + g))) ≡ 0) (gap : Gap hears T (T + g)) where
+  abbrev t : ℕ
+  t = T + g
+
+  abbrev c : ℕ
+  c = countAt (timed a) t
+
+  abbrev f : Frames
+  f = framesAt a T u
+
+  fresh : again (framesOf m) c ≡ false
+  unfolding again
+  fresh = ap (λ (x : Frames). again x c) (k .frames) ∙ ne-eqb (countAt (timed a) T) c (count-apart (timed a) T g pos most)
+
+  changing-is : changing (framesOf m) c ≡ ltb (epoch (timed a) T) (epoch (timed a) t)
+  unfolding changing
+  changing-is = ap (λ (x : Frames). changing x c) (k .frames) ∙ changes-epoch (timed a) T g pos most
+
+  skips-is : skips (framesOf m) c ≡ ltb 1 g
+  unfolding skips
+  skips-is = ap (λ (x : Frames). skips x c) (k .frames) ∙ ap (ltb 1) (since-is (timed a) T g pos most)
+
+  mark-is : (x : Bool) → eqb (cond x 1 0) 1 ≡ x
+  mark-is true = refl
+  mark-is false = refl
+
+  and-true : (x : Bool) → (x && true) ≡ x
+  and-true true = refl
+  and-true false = refl
+
+  and-false : (x : Bool) → (x && false) ≡ false
+  and-false true = refl
+  and-false false = refl
+
+  sure-near : skips (framesOf m) c ≡ false → sureAt (framesOf m) c ≡ u
+  unfolding sureAt
+  sure-near s =
+      ap (λ (b : Bool). eqb (framesOf m .unbroken) 1 && not b) s ∙ and-true (eqb (framesOf m .unbroken) 1)
+      ∙ ap (λ (x : Frames). eqb (x .unbroken) 1) (k .frames) ∙ mark-is u
+
+  sure-far : skips (framesOf m) c ≡ true → sureAt (framesOf m) c ≡ false
+  unfolding sureAt
+  sure-far s = ap (λ (b : Bool). eqb (framesOf m .unbroken) 1 && not b) s ∙ and-false (eqb (framesOf m .unbroken) 1)
+
+  frames-near : skips (framesOf m) c ≡ false → (x : Bool) → change (timed a) t ≡ x → framesAfter (framesOf m) c ≡ framesAt a t (cond x true u)
+  unfolding framesAfter
+  frames-near s x e =
+      (λ i. record { last = c; heard = 1; unbroken = cond (s i) 0 (cond ((begins-change (timed a) t ∙ e) i) 1 (k .frames i .unbroken)) }) ∙ go x
+    where
+      go : (y : Bool) → _≡_ {A = Frames} (record { last = c; heard = 1; unbroken = cond y 1 (cond u 1 0) }) (framesAt a t (cond y true u))
+      go true = refl
+      go false = refl
+
+  frames-far : skips (framesOf m) c ≡ true → framesAfter (framesOf m) c ≡ framesAt a t false
+  unfolding framesAfter
+  frames-far s = λ i. record { last = c; heard = 1; unbroken = cond (s i) 0 (cond (begins c) 1 (framesOf m .unbroken)) }
+
+  up-to : (x s y : Bool) → changing (framesOf m) c ≡ x → skips (framesOf m) c ≡ s → sureAt (framesOf m) c ≡ y
+      → upTo m c ≡ cond x (changedFrom ids 0 y (cond s (eachFrom ids 0 spoiledBoth m) m)) (cond s (eachFrom ids 0 spoiledBoth m) m)
+  unfolding upTo overGap
+  up-to x s y ex es ey = λ i. cond (ex i) (changedFrom ids 0 (ey i) (cond (es i) (eachFrom ids 0 spoiledBoth m) m)) (cond (es i) (eachFrom ids 0 spoiledBoth m) m)
+
+  far : 1 < g → Known a hears t (takeAfter m (fieldBytes (fieldOn a t))) false
+  far h =
+      let s = skips-is ∙ lt-ltb 1 g h in
+      go s (epoch-either (timed a) T g most)
+    where
+      go : skips (framesOf m) c ≡ true → (epoch (timed a) t ≡ epoch (timed a) T) ⊎ (epoch (timed a) t ≡ suc (epoch (timed a) T))
+          → Known a hears t (takeAfter m (fieldBytes (fieldOn a t))) false
+      go s (inl e) =
+          take-known a w hears t m not-refused _ false (far-same a w hears T m u k t gap e)
+          (up-to false true false (changing-is ∙ le-ltb (epoch (timed a) T) (epoch (timed a) t) (omega (arith, e))) s (sure-far s)) fresh (frames-far s)
+      go s (inr e) =
+          take-known a w hears t m not-refused _ false (far-change a w hears T m u k t gap e)
+          (up-to true true false (changing-is ∙ lt-ltb (epoch (timed a) T) (epoch (timed a) t) (omega (arith, e))) s (sure-far s)) fresh (frames-far s)
+
+  near : g ≡ 1 → t ≡ suc T → Known a hears t (takeAfter m (fieldBytes (fieldOn a t))) (cond (change (timed a) t) true u)
+  near one e =
+      let s : skips (framesOf m) c ≡ false = skips-is ∙ le-ltb 1 g (omega (arith, one)) in
+      go s (change (timed a) t) refl
+    where
+      back : (x : Bool) → change (timed a) t ≡ x → change (timed a) (suc T) ≡ x
+      back x q = ap (change (timed a)) (sym e) ∙ q
+
+      go : skips (framesOf m) c ≡ false → (x : Bool) → change (timed a) t ≡ x → Known a hears t (takeAfter m (fieldBytes (fieldOn a t))) (cond x true u)
+      go s true q =
+          let up : epoch (timed a) t ≡ suc (epoch (timed a) T) = ap (epoch (timed a)) e ∙ epoch-step (timed a) T true (back true q) in
+          take-known a w hears t m not-refused _ true
+          (subst (λ (n : ℕ). Before a hears n (changedFrom ids 0 u m) true) (sym e) (near-change a w hears T m u k (back true q)))
+          (up-to true false u (changing-is ∙ lt-ltb (epoch (timed a) T) (epoch (timed a) t) (omega (arith, up))) s (sure-near s)) fresh (frames-near s true q)
+      go s false q =
+          let up : epoch (timed a) t ≡ epoch (timed a) T = ap (epoch (timed a)) e ∙ epoch-step (timed a) T false (back false q) in
+          take-known a w hears t m not-refused m u
+          (subst (λ (n : ℕ). Before a hears n m u) (sym e) (near-same a w hears T m u k (back false q)))
+          (up-to false false u (changing-is ∙ le-ltb (epoch (timed a) T) (epoch (timed a) t) (omega (arith, up))) s (sure-near s)) fresh (frames-near s false q)
+
+-- ---- the first frame
+
+module _ (a : Air) (w : Orderly a) (hears : ℕ → Bool) (t : ℕ) (quiet : (v : ℕ) → v < t → hears v ≡ true → ⊥)
+    (not-refused : takeAnswer (blank mapSize) (fieldBytes (fieldOn a t)) ≡ 0) where
+  blank-frames : framesOf (blank mapSize) ≡ record { last = 0; heard = 0; unbroken = 0 }
+  unfolding framesOf
+  blank-frames =
+      λ i. record { last = blank-at mapSize 34816 i; heard = blank-at mapSize 34817 i; unbroken = blank-at mapSize 34818 i }
+
+  first-up : upTo (blank mapSize) (countAt (timed a) t) ≡ blank mapSize
+  unfolding upTo overGap changing skips
+  first-up =
+      λ i. cond (eqb (blank-frames i .heard) 1 && changes (blank-frames i .last) (countAt (timed a) t))
+      (changedFrom ids 0 (sureAt (framesOf (blank mapSize)) (countAt (timed a) t)) (none i)) (none i)
+    where
+      none : overGap (blank mapSize) (countAt (timed a) t) ≡ blank mapSize
+      none = λ i. cond (eqb (blank-frames i .heard) 1 && ltb 1 (since (blank-frames i .last) (countAt (timed a) t))) (eachFrom ids 0 spoiledBoth (blank mapSize)) (blank mapSize)
+
+  first-fresh : again (framesOf (blank mapSize)) (countAt (timed a) t) ≡ false
+  unfolding again
+  first-fresh = ap (λ (x : Frames). again x (countAt (timed a) t)) blank-frames
+
+  first-frames : framesAfter (framesOf (blank mapSize)) (countAt (timed a) t) ≡ framesAt a t (change (timed a) t)
+  unfolding framesAfter skips
+  first-frames =
+      ap (λ (x : Frames). framesAfter x (countAt (timed a) t)) blank-frames
+      ∙ ap (λ (b : Bool). record { last = countAt (timed a) t; heard = 1; unbroken = cond b 1 0 }) (begins-change (timed a) t)
+
+  first-known : Known a hears t (takeAfter (blank mapSize) (fieldBytes (fieldOn a t))) (change (timed a) t)
+  first-known = take-known a w hears t (blank mapSize) not-refused (blank mapSize) (change (timed a) t) (first-before a hears t quiet) first-up first-fresh first-frames
+
+-- ---- all frames
+
+pub data State (a : Air) (hears : ℕ → Bool) (t : ℕ) (m : List ℕ) : Type 0 where
+  silent : m ≡ blank mapSize → ((v : ℕ) → v < t → hears v ≡ true → ⊥) → State a hears t m
+  since-one : (T : ℕ) (u : Bool) → T < t → Gap hears T t → missedBefore hears t ≡ t - suc T → anyBefore hears t ≡ true → Known a hears T m u → State a hears t m
+
+module _ (a : Air) (w : Orderly a) (hears : ℕ → Bool) (L : Listener ours a hears) where
+  missed-step : (t : ℕ) → hears t ≡ false → (m : List ℕ) → State a hears t m → State a hears (suc t) m
+  unfolding missedBefore anyBefore
+  missed-step t e m (silent z q) = silent z (λ v hv hh. go v hh (ℕ-discrete v t) hv)
+    where
+      go : (v : ℕ) → hears v ≡ true → Dec (v ≡ t) → v < suc t → ⊥
+      go v hh (yes s) hv = subst lib.Dec.T (sym hh ∙ ap hears s ∙ e) tt
+      go v hh (no s) hv = q v (omega (arith, hv, s)) hh
+  missed-step t e m (since-one T u l gap c any k) =
+      since-one T u (omega arith) (λ v hv hh. go v hh (ℕ-discrete v t) hv)
+      (ap (λ (b : Bool). cond b 0 (suc (missedBefore hears t))) e ∙ ap suc c ∙ minus t T l)
+      (ap₂ (λ (x y : Bool). x || y) e any) k
+    where
+      minus : (x y : ℕ) → y < x → suc (x - suc y) ≡ suc x - suc y
+      minus x y h = omega arith
+
+      go : (v : ℕ) → hears v ≡ true → Dec (v ≡ t) → v < suc t → v < suc T
+      go v hh (yes s) hv = absurd (subst lib.Dec.T (sym hh ∙ ap hears s ∙ e) tt)
+      go v hh (no s) hv = gap v (omega (arith, hv, s)) hh
+
+  heard-step : (t : ℕ) → hears t ≡ true → (m : List ℕ) → takeAnswer m (fieldBytes (fieldOn a t)) ≡ 0 → State a hears t m
+      → State a hears (suc t) (takeAfter m (fieldBytes (fieldOn a t)))
+  unfolding missedBefore anyBefore
+  heard-step t e m ok (silent z q) =
+      now (change (timed a) t)
+      (subst (λ (x : List ℕ). Known a hears t (takeAfter x (fieldBytes (fieldOn a t))) (change (timed a) t)) (sym z)
+      (first-known a w hears t q (subst (λ (x : List ℕ). takeAnswer x (fieldBytes (fieldOn a t)) ≡ 0) z ok)))
+    where
+      now : (u : Bool) → Known a hears t (takeAfter m (fieldBytes (fieldOn a t))) u → State a hears (suc t) (takeAfter m (fieldBytes (fieldOn a t)))
+      now u k = since-one t u (omega arith) (λ v hv hh. hv) (ap (λ (b : Bool). cond b 0 (suc (missedBefore hears t))) e ∙ none t) (ap (λ (b : Bool). b || anyBefore hears t) e) k
+        where
+          none : (x : ℕ) → 0 ≡ suc x - suc x
+          none x = omega arith
+  heard-step t e m ok (since-one T u l gap c any k) =
+      let g = t - T in
+      let at : T + g ≡ t = omega arith in
+      let most : g ≤ 128 = omega (arith, L .near t e any, c) in
+      subst (λ (n : ℕ). State a hears (suc n) (takeAfter m (fieldBytes (fieldOn a n)))) at
+      (go g (omega arith) most (subst (λ (n : ℕ). takeAnswer m (fieldBytes (fieldOn a n)) ≡ 0) (sym at) ok) (subst (Gap hears T) (sym at) gap)
+      (ap hears at ∙ e) (ℕ-discrete g 1))
+    where
+      now : (n : ℕ) → hears n ≡ true → (v : Bool) → Known a hears n (takeAfter m (fieldBytes (fieldOn a n))) v → State a hears (suc n) (takeAfter m (fieldBytes (fieldOn a n)))
+      now n q v x = since-one n v (omega arith) (λ y hy hh. hy) (ap (λ (b : Bool). cond b 0 (suc (missedBefore hears n))) q ∙ none n) (ap (λ (b : Bool). b || anyBefore hears n) q) x
+        where
+          none : (x : ℕ) → 0 ≡ suc x - suc x
+          none x = omega arith
+
+      go : (g : ℕ) → 0 < g → g ≤ 128 → takeAnswer m (fieldBytes (fieldOn a (T + g))) ≡ 0 → Gap hears T (T + g) → hears (T + g) ≡ true → Dec (g ≡ 1)
+          → State a hears (suc (T + g)) (takeAfter m (fieldBytes (fieldOn a (T + g))))
+      go g pos most not-refused away q (yes s) = now (T + g) q _ (near a w hears T g pos most m u k not-refused away s (one-on g s))
+        where
+          one-on : (x : ℕ) → x ≡ 1 → T + x ≡ suc T
+          one-on x p = omega (arith, p)
+      go g pos most not-refused away q (no s) = now (T + g) q false (far a w hears T g pos most m u k not-refused away (omega (arith, pos, s)))
+
+  pub state-at : (t : ℕ) → State a hears t (kept ours a hears t)
+  unfolding kept ours
+  state-at zero = silent refl (λ v hv hh. absurd (omega arith))
+  state-at (suc t) = go (hears t) refl (state-at t)
+    where
+      m : List ℕ
+      m = kept ours a hears t
+
+      go : (b : Bool) → hears t ≡ b → State a hears t m → State a hears (suc t) (cond (hears t) (takeAfter m (fieldBytes (fieldOn a t))) m)
+      go true e s = subst (λ (b : Bool). State a hears (suc t) (cond b (takeAfter m (fieldBytes (fieldOn a t))) m)) (sym e) (heard-step t e m (L .taken t e) s)
+      go false e s = subst (λ (b : Bool). State a hears (suc t) (cond b (takeAfter m (fieldBytes (fieldOn a t))) m)) (sym e) (missed-step t e m s)
