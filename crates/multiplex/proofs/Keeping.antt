@@ -20,10 +20,10 @@ use Rattle.multiplex.specs.Example.{one, two, other, burst, configs, pic
 
 -- ---- structures
 
-fitting : (t : ℕ) → T (ltb t (2 ^ 62)) → badTdms t ≡ false → deletes t ≡ false → Fit t
+pub fitting : (t : ℕ) → T (ltb t (2 ^ 62)) → badTdms t ≡ false → deletes t ≡ false → Fit t
 fitting t w p d = record { width = lit< w; pairs = p; stays = d }
 
-none-linked : Linked []
+pub none-linked : Linked []
 none-linked = record { few = lit≤ tt; fit = λ i h. absurd (omega arith); rising = λ i h. absurd (omega arith) }
 
 one-linked : (x : ℕ) → Fit x → Linked (x ∷ [])
@@ -33,7 +33,7 @@ one-linked x f = record { few = lit≤ tt; fit = fits; rising = λ i h. absurd (
     fits zero h = f
     fits (suc i) h = absurd (omega arith)
 
-two-linked : (x y : ℕ) → Fit x → Fit y → key x < key y → Linked (x ∷ y ∷ [])
+pub two-linked : (x y : ℕ) → Fit x → Fit y → key x < key y → Linked (x ∷ y ∷ [])
 two-linked x y f g l = record { few = lit≤ tt; fit = fits; rising = rise }
   where
     fits : (i : ℕ) → i < 2 → Fit (getD (x ∷ y ∷ []) i 0)

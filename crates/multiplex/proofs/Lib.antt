@@ -14,4 +14,5 @@ pub mod Seeing
 pub mod Telling
 pub mod Keeping
 pub mod Examples
+pub mod Steady
 pub mod Refuting
