@@ -7,6 +7,7 @@ use lib.ListN.{length}
 use borrow.Author.Needs.{needs}
 use Rattle.parts.proofs.rows.run.Statement.{statement}
 use Rattle.parts.proofs.rows.run.Tie as tie
+
 abbrev Inv-loop : tie.InvT-loop
 Inv-loop map₀ first frames count₀ k₀ map count k = length map ≡ length map₀
 
