@@ -238,7 +238,7 @@ fn put(map: &mut [u8], at: usize, value: u8) {
 }
 
 // Two repetitions, and the first field of a third: the first field with the other LINKS ends a repetition. One field too many for
-// the room is never whole.
+// the room is never whole. No change falls between.
 fn linked(fields: u8)
     requires { ⌜ 0 < fields ⌝ }
 {
@@ -257,7 +257,7 @@ fn part(k: u32, fields: u8) -> Field
 {
     let line = k % fields as u32;
     Field {
-        count: (k % 256) as u8,
+        count: 3 + (k % 128) as u8,
         flag: 0,
         id: 7,
         tdms: call::packed([line, line, 1023, 1023, 0, 99]),
@@ -271,7 +271,7 @@ fn told(map: &[u8], k: u32, fields: u8, number: u8)
 {
     let at = k % fields as u32;
     if (at == 0) | (at == fields as u32 - 1) {
-        let shown = map::show(map, 7, (k % 256) as u8);
+        let shown = map::show(map, 7, 3 + (k % 128) as u8);
         call::numbers(
             b"fields, heard, taken, number, bytes",
             &[

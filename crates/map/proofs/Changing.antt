@@ -1,10 +1,12 @@
 -- What a change does: every announced structure is put in force, once.
 --
+--   anew-moved, anew-stayed    worked: a change that is not sure, and one field announced or in force, not known to be whole
 --   changed-length        a component's block keeps its length
 --   each-*, from-*        the loop over all components, by any rule and by a change's: each block is changed, and nothing else
 --   both-*                a missed frame: each structure is spoiled, and nothing else
 --   leftBy sure s, left-*    what a change leaves of the structure in force: all of it, unless the change is not sure and it is being
 --                         gathered; a component is there exactly where it was
+--   unsure-begins         behind a change that is not sure, whatever field comes begins a structure anew that is not whole
 --   stays .. settled      what is in force and announced behind a change, by what was announced
 --
 -- Assumes nothing.
@@ -22,12 +24,15 @@ use Rattle.bits.specs.Bits.{blank}
 use Rattle.bits.proofs.Storing.{blank-length, drop-blank}
 use Rattle.slot.specs.Part.{part, put}
 use Rattle.slot.proofs.Laws.{part-length, put-length, blank-at}
-use Rattle.structure.specs.Structure.{most, structureSize, headOf, withHead, spoiled, settledHead}
+use Rattle.slot.specs.Slot.{four, fourAt}
+use Rattle.field.specs.Field.{deletes, eight, eightAt}
+use Rattle.structure.specs.Structure.{most, structureSize, allOnes, headOf, withHead, nth, withNth, turnOf, turned, spoiled, settledHead}
 use Rattle.map.specs.Map.{ids, mapSize, blockSize, framesOf, blockAt, withBlock, structureAt, movedDown, spoiledFirst, applied, changed, eachFrom, changedFrom, spoiledBoth}
 use Rattle.structure.specs.declared.Structure.{Structure}
+use Rattle.structure.specs.declared.Turn.the-variants.{Begins}
 use Rattle.map.proofs.Places.{structure-length, block-length, block-structure, block-same, block-other, block-frames, with-block-length}
 use Rattle.structure.proofs.Gathering.{Holds, Empty, head-stored, nth-head, with-head-length}
-use Rattle.structure.proofs.Kept.{spoiled-length, spoiled-none, spoiled-some}
+use Rattle.structure.proofs.Kept.{spoiled-length, spoiled-none, spoiled-some, spoiled-begins}
 
 -- ---- blank structures
 
@@ -66,9 +71,9 @@ module _ (sure : Bool) (b : List ℕ) (lb : length b ≡ blockSize) where
   unsaid f d =
       λ i. cond (eqb (d i) 1) (blank blockSize) (cond (eqb (f i) 0) b (withHead (settledHead sure (headOf (comingIn b))) (movedDown b)))
 
-  deletes : headOf (comingIn b) .deleted ≡ 1 → applied sure b ≡ blank blockSize
+  erased : headOf (comingIn b) .deleted ≡ 1 → applied sure b ≡ blank blockSize
   unfolding applied
-  deletes d =
+  erased d =
       λ i. cond (eqb (d i) 1) (blank blockSize)
       (cond (eqb (headOf (comingIn b) .fields) 0) b (withHead (settledHead sure (headOf (comingIn b))) (movedDown b)))
 
@@ -100,6 +105,21 @@ module _ (sure : Bool) (b : List ℕ) (lb : length b ≡ blockSize) where
       go false false =
           put-length 0 4 (h .fields ∷ h .whole ∷ h .links ∷ h .deleted ∷ []) (comingIn b ++ blank structureSize) (omega (arith, moved)) refl
           ∙ moved
+
+-- ---- a change that is not sure, worked: a structure of which one field is known, announced or in force
+
+abbrev known : List ℕ
+known = turned Begins (blank structureSize) 11 0
+
+anew-moved : nth 0 (part 0 structureSize (changed false (blank structureSize ++ known))) ≡ allOnes
+unfolding changed applied spoiledFirst spoiled settledHead movedDown turned headOf withHead withNth nth eightAt eight four fourAt part put blank
+anew-moved = refl
+
+anew-stayed : nth 0 (part 0 structureSize (changed false (known ++ blank structureSize))) ≡ allOnes
+unfolding changed applied spoiledFirst spoiled settledHead movedDown turned headOf withHead withNth nth eightAt eight four fourAt part put blank
+anew-stayed = refl
+
+-- ---- what is left of a block
 
 -- the structure in force, as a change leaves it
 abbrev pub leftBy : Bool → List ℕ → List ℕ
@@ -290,6 +310,15 @@ module _ (sure : Bool) (m : List ℕ) (l : length m ≡ mapSize) (k : ℕ) (hk :
   coming-behind : structureAt k 1 (changedFrom ids 0 sure m) ≡ comingIn (applied sure (blockAt k m))
   coming-behind = behind 1 (lit< tt) ∙ changed-coming (blockAt k m) lb sure
 
+  pub unsure-begins : sure ≡ false → headOf (structureAt k 0 (changedFrom ids 0 sure m)) .whole ≡ 0 → 0 < headOf (structureAt k 0 (changedFrom ids 0 sure m)) .fields
+      → (t r : ℕ) → deletes t ≡ false → turnOf (structureAt k 0 (changedFrom ids 0 sure m)) t r ≡ Begins
+  unsure-begins q w f t r d =
+      let s : List ℕ = part 0 structureSize (applied sure (blockAt k m)) in
+      let e : structureAt k 0 (changedFrom ids 0 sure m) ≡ spoiled s = force-behind ∙ ap (λ (x : Bool). leftBy x s) q in
+      let ls : length s ≡ structureSize = part-length 0 structureSize (applied sure (blockAt k m)) (omega (arith, applied-length sure (blockAt k m) lb)) in
+      ap (λ (x : List ℕ). turnOf x t r) e
+      ∙ spoiled-begins s ls (ap (λ (x : List ℕ). headOf x .whole) (sym e) ∙ w) (subst (λ (x : List ℕ). 0 < headOf x .fields) e f) t r d
+
   -- nothing was announced
   module _ (f : headOf (structureAt k 1 m) .fields ≡ 0) (d : headOf (structureAt k 1 m) .deleted ≡ 0) where
     as-was : applied sure (blockAt k m) ≡ blockAt k m
@@ -305,7 +334,7 @@ module _ (sure : Bool) (m : List ℕ) (l : length m ≡ mapSize) (k : ℕ) (hk :
   -- a deletion was announced
   module _ (d : headOf (structureAt k 1 m) .deleted ≡ 1) where
     all-gone : applied sure (blockAt k m) ≡ blank blockSize
-    all-gone = deletes sure (blockAt k m) lb (ap (λ (x : List ℕ). headOf x .deleted) coming-is ∙ d)
+    all-gone = erased sure (blockAt k m) lb (ap (λ (x : List ℕ). headOf x .deleted) coming-is ∙ d)
 
     pub gone : (w : ℕ) → w < 2 → structureAt k w (changedFrom ids 0 sure m) ≡ blank structureSize
     gone zero hw =

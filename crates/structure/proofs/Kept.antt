@@ -5,7 +5,8 @@
 --   spoiled-length, spoiled-good, spoiled-deleted    a structure that may lack a field
 --   spoiled-some            it still has fields, exactly where it had
 --   spoiled-head, spoiled-none    its head: one field, where it is being gathered; otherwise all of it stays as it was
---   spoiled-open            where it is being gathered, whatever field comes next begins it anew: none completes it, and none joins on
+--   spoiled-two             worked: of two fields none is kept
+--   spoiled-open, spoiled-begins    where it is being gathered, whatever field comes next begins it anew: none completes it, and none joins on
 --   deletion-length, deletion-good, blank-good    a structure that is to be deleted, and one of 0 alone
 --   settled-good            a head as a change puts it in force
 --   good-deleted            a good head that is not to be deleted says so
@@ -22,6 +23,7 @@ use lib.ListN.{length}
 use Rattle.bits.specs.Bits.{blank}
 use Rattle.bits.proofs.Search.{and-left, and-right}
 use Rattle.bits.proofs.Storing.{blank-length}
+use Rattle.slot.specs.Part.{put}
 use Rattle.field.specs.Field.{fln1, fcp, deletes, key}
 use Rattle.structure.specs.Structure.{most, structureSize, allOnes, headOf, withHead, nth, withNth, stored, member, goesOn, turnOf, turned, gathered, spoiled, deletion, goodHead, settledHead}
 use Rattle.structure.specs.declared.Structure.{Structure}
@@ -139,6 +141,10 @@ module _ (s : List ℕ) (t l : ℕ) (ls : length s ≡ structureSize) where
 
 -- ---- a structure that may lack a field
 
+spoiled-two : headOf (spoiled (withHead (record { fields = 2; whole = 0; links = 1; deleted = 0 }) (blank structureSize))) ≡ made 1 0 0
+unfolding spoiled turned headOf withHead withNth put blank
+spoiled-two = refl
+
 module _ (s : List ℕ) (l : length s ≡ structureSize) where
   abbrev ones : List ℕ
   ones = turned Begins s allOnes 0
@@ -220,6 +226,19 @@ module _ (s : List ℕ) (l : length s ≡ structureSize) where
       go true true ew ef = still-some (eqb-true (headOf s .whole) 0 ew) (ltb-true 0 (headOf s .fields) ef) ∙ sym ef
       go true false ew ef = ap (λ (x : List ℕ). ltb 0 (headOf x .fields)) (spoiled-none (λ i. ew i && ef i))
       go false f ew ef = ap (λ (x : List ℕ). ltb 0 (headOf x .fields)) (spoiled-none (λ i. ew i && ltb 0 (headOf s .fields)))
+
+  -- whatever it was before: where it is not whole now, the next field begins it anew
+  pub spoiled-begins : headOf (spoiled s) .whole ≡ 0 → 0 < headOf (spoiled s) .fields → (t r : ℕ) → deletes t ≡ false → turnOf (spoiled s) t r ≡ Begins
+  spoiled-begins w f t r d = go (eqb (headOf s .whole) 0 && ltb 0 (headOf s .fields)) refl
+    where
+      go : (b : Bool) → (eqb (headOf s .whole) 0 && ltb 0 (headOf s .fields)) ≡ b → turnOf (spoiled s) t r ≡ Begins
+      go true e =
+          spoiled-open (eqb-true (headOf s .whole) 0 (and-left _ _ e)) (ltb-true 0 (headOf s .fields) (and-right (eqb (headOf s .whole) 0) _ e)) t r d
+      go false e =
+          let same : spoiled s ≡ s = spoiled-none e in
+          let whole : headOf s .whole ≡ 0 = ap (λ (x : List ℕ). headOf x .whole) (sym same) ∙ w in
+          let some : 0 < headOf s .fields = omega (arith, f, ap (λ (x : List ℕ). headOf x .fields) same) in
+          absurd (true≢false (sym (λ i. eqb (whole i) 0 && lt-ltb 0 (headOf s .fields) some i) ∙ e))
 
 -- ---- to be deleted, and 0 alone
 

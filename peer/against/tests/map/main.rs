@@ -6,7 +6,7 @@ mod numbers;
 mod program;
 
 use both::Both;
-use second::map::{Field, IDS, MAP};
+use second::map::{pack, Field, IDS, MAP, PANNING};
 use second::samples::broadcast::Broadcast;
 use second::samples::{maps, rounds};
 use second::xorshift::Xorshift;
@@ -64,6 +64,92 @@ fn broadcasts_with_frames_lost() {
         }
     }
     assert!(unfinished > 100, "{unfinished}");
+}
+
+/// From the middle on, with up to 127 frames lost in a row.
+#[test]
+fn broadcasts_from_the_middle_on() {
+    let mut random = Xorshift::new(411);
+    let mut unfinished = 0;
+    for seed in 0..rounds(12) as u64 {
+        let most = [1, 3, 20, 128][seed as usize % 4];
+        let mut broadcast = Broadcast::in_turn(700 + seed, random.below(256) as u8, most);
+        let mut both = started();
+        for _ in 0..128 + random.below(384) {
+            broadcast.frame();
+        }
+        for _ in 0..200 {
+            let gap = [0, 0, 0, 0, 0, 0, 1, 127, random.below(128)][random.below(9)];
+            for _ in 0..gap {
+                broadcast.frame();
+            }
+            let frame = broadcast.frame();
+            both.take(&frame.field);
+            for &id in frame.present.keys().chain(frame.next.keys()) {
+                unfinished += usize::from(both.show(id, frame.count) == 46);
+                both.show(id, frame.count.wrapping_add(1));
+            }
+            both.list(frame.count, IDS);
+        }
+    }
+    assert!(unfinished > 100, "{unfinished}");
+}
+
+/// A part is not shown as the whole: each row is (count, flag, line) of component 7, heard one after the other, and what is shown in
+/// the last frame. The frames that a row leaves out are of no matter where it says so, and otherwise missed.
+#[test]
+fn parts() {
+    let cut_off: [&[(u8, bool, u32)]; 3] = [
+        &[(0, true, 21), (1, true, 11), (2, false, 11)],
+        &[(1, true, 11), (2, false, 11)],
+        &[(1, false, 11), (2, false, 11)],
+    ];
+    for row in cut_off {
+        assert_eq!(heard(row, 0..0).show(7, 2), 46, "{row:?}");
+    }
+    let missed = [(124, true, 11), (129, true, 11), (130, false, 11)];
+    assert_eq!(heard(&missed, 2..124).show(7, 130), 46);
+    let known =
+        [121, 122, 123, 124].map(|count| (count, false, [11, 21, 31, 11][count as usize - 121]));
+    assert_eq!(heard(&known, 0..0).show(7, 124), 0);
+    let again = [
+        (125, true, 21),
+        (126, true, 31),
+        (127, true, 11),
+        (130, false, 31),
+        (131, false, 11),
+    ];
+    assert_eq!(heard(&[&known[..], &again].concat(), 0..0).show(7, 131), 46);
+    // 127 frames are missed, and the change is seen.
+    for (last, next) in [(1, 129), (129, 1)] {
+        assert_eq!(heard(&[(last, true, 11)], 0..0).show(7, next), 46);
+        let mut both = heard(&[(last, true, 11), (next, true, 11)], 0..0);
+        assert_eq!(both.show(7, next), 46);
+    }
+}
+
+/// A map that has heard frames of no matter, and then fields of component 7.
+fn heard(row: &[(u8, bool, u32)], before: std::ops::Range<u8>) -> Both {
+    let mut both = started();
+    for count in before {
+        both.take(&field(count, false, PANNING, 5).encode());
+    }
+    for &(count, flag, line) in row {
+        assert_eq!(both.take(&field(count, flag, 7, line).encode()), 0);
+    }
+    both
+}
+
+fn field(count: u8, flag: bool, id: u8, line: u32) -> Field {
+    let (number, tdms) = pack([line, line, 1023, 1023, 0, 99]);
+    assert_eq!(number, 0);
+    Field {
+        count,
+        flag,
+        id,
+        tdms,
+        links: false,
+    }
 }
 
 /// How often each number came of fields of any sort, in a row.

@@ -10,7 +10,7 @@ pub const COMPONENT: usize = 2 * STRUCTURE;
 /// How many fields have room, and the number that stands for more.
 const ROOMS: usize = 8;
 const MORE: u8 = 9;
-/// What no field of a structure is: it would be a deletion.
+/// What no field of a structure is: it would be a deletion. None has a greater key.
 const ALL_ONES: u64 = (1 << 62) - 1;
 
 #[derive(Clone, Debug, Default, PartialEq, Eq)]
@@ -125,11 +125,11 @@ impl Structure {
         }
     }
 
-    /// What a missed frame leaves of it: of a list that is being gathered a field may be missing, so no repetition may find its first
-    /// field again.
+    /// What is left of it where a field may be missing: of a list that is being gathered, one that is no field. No field goes on from
+    /// there and none is found again, so that whatever comes begins it anew.
     fn spoil(&mut self) {
         if !self.whole && self.has_list() {
-            self.rooms[0] = ALL_ONES;
+            *self = Structure::begun(ALL_ONES, false);
         }
     }
 
@@ -175,18 +175,21 @@ impl Component {
         self.announced.spoil();
     }
 
-    /// As a change leaves it.
+    /// As a change leaves it. Unless all was heard, the broadcaster may have cut a repetition off, and a list that is not whole does not
+    /// go on, wherever it came from.
     pub fn behind_change(&self, all_heard: bool) -> Component {
-        if self.announced.deleted {
-            return Component::default();
+        let mut next = match &self.announced {
+            gone if gone.deleted => Component::default(),
+            list if list.has_list() => Component {
+                in_force: list.put_in_force(all_heard),
+                announced: Structure::default(),
+            },
+            _ => self.clone(),
+        };
+        if !all_heard {
+            next.in_force.spoil();
         }
-        if !self.announced.has_list() {
-            return self.clone();
-        }
-        Component {
-            in_force: self.announced.put_in_force(all_heard),
-            announced: Structure::default(),
-        }
+        next
     }
 }
 

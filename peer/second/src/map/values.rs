@@ -149,18 +149,28 @@ impl Map {
         }
     }
 
-    /// Whether a change falls behind the last frame, up to the frame of a count.
+    /// Whether a change falls behind the last frame, up to the frame of a count: one of these frames begins a configuration.
     fn changing(&self, count: u8) -> bool {
-        self.heard && ahead(CHANGE, count) < ahead(self.last, count)
+        let mut frames = 1..=self.frames_to(count);
+        frames.any(|k| begins(self.last.wrapping_add(k)))
     }
 
     /// Whether a count is that of the last frame: a field is sent five times.
     fn again(&self, count: u8) -> bool {
-        self.heard && ahead(self.last, count) == 0
+        self.heard && self.last == count
     }
 
     fn skips(&self, count: u8) -> bool {
-        self.heard && ahead(self.last, count) > 1
+        self.frames_to(count) > 1
+    }
+
+    /// How many frames behind the last one the frame of a count is: none if it is that one, or if there was none; otherwise 1 to 128, as
+    /// the counts are told apart modulo 128.
+    fn frames_to(&self, count: u8) -> u8 {
+        if !self.heard || self.last == count {
+            return 0;
+        }
+        1 + ahead(self.last.wrapping_add(1), count) as u8
     }
 }
 
@@ -178,7 +188,7 @@ fn begins(count: u8) -> bool {
     i32::from(count) % CYCLE == i32::from(CHANGE)
 }
 
-/// How many frames from one count to another. Half of the eight bits is told apart.
+/// How many frames from one count to another, modulo 128.
 fn ahead(from: u8, to: u8) -> i32 {
     (i32::from(to) - i32::from(from)).rem_euclid(CYCLE)
 }

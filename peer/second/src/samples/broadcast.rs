@@ -9,7 +9,7 @@ use std::collections::{BTreeMap, BTreeSet};
 /// The TDMS numbers of each component that there is, rising in (FLN1, FCP).
 pub type Configuration = BTreeMap<u8, Vec<u64>>;
 
-/// Components of a configuration at most.
+/// Components of a configuration at most, unless it is said otherwise.
 const COMPONENTS: usize = 20;
 
 /// A frame, and what is true in it.
@@ -28,9 +28,13 @@ pub struct Frame {
 
 pub struct Broadcast {
     random: Xorshift,
+    /// Components of a configuration at most.
+    most: usize,
     /// The count of the frame that comes next.
     count: u8,
     present: Configuration,
+    /// How far the fields of each component in force have come round; without it they come in any order.
+    rounds: Option<BTreeMap<u8, Speaker>>,
     next: Configuration,
     announced: BTreeSet<u8>,
     speakers: Vec<Speaker>,
@@ -55,12 +59,24 @@ impl Broadcast {
     pub fn new(seed: u64, count: u8) -> Broadcast {
         Broadcast {
             random: Xorshift::new(seed),
+            most: COMPONENTS,
             count,
             present: Configuration::new(),
+            rounds: None,
             next: Configuration::new(),
             announced: BTreeSet::new(),
             speakers: Vec::new(),
             turns: Vec::new(),
+        }
+    }
+
+    /// One with so many components at most, in which the fields of a component in force go round in order: a repetition is sent whole,
+    /// over a change too where the component stays as it is.
+    pub fn in_turn(seed: u64, count: u8, most: usize) -> Broadcast {
+        Broadcast {
+            most,
+            rounds: Some(BTreeMap::new()),
+            ..Broadcast::new(seed, count)
         }
     }
 
@@ -88,6 +104,9 @@ impl Broadcast {
     /// Puts in force what was announced, and thinks of what comes next.
     fn change(&mut self) {
         self.present = self.next.clone();
+        if let Some(rounds) = &mut self.rounds {
+            rounds.retain(|id, speaker| self.present.get(id) == Some(&speaker.list));
+        }
         self.announced.clear();
         self.speakers.clear();
         let frames = to_change(self.count);
@@ -110,7 +129,7 @@ impl Broadcast {
     fn attempts(&mut self) -> usize {
         match self.random.below(3) {
             0 => 0,
-            _ => self.random.below(COMPONENTS),
+            _ => self.random.below(self.most + 1),
         }
     }
 
@@ -126,7 +145,7 @@ impl Broadcast {
             (_, 0) => vec![DELETION],
             (Some(list), 1) => list.clone(),
             (Some(list), 2 | 3) => altered(random, list),
-            (None, _) if self.next.len() >= COMPONENTS => return None,
+            (None, _) if self.next.len() >= self.most => return None,
             _ => list(random),
         };
         (!taken).then(|| Speaker::new(random, id, list))
@@ -166,10 +185,19 @@ impl Broadcast {
                 let speaker = &mut self.speakers[place];
                 self.announced.insert(speaker.id);
                 let (tdms, links) = speaker.speak(random);
-                (1, speaker.id, tdms, links.into())
+                (1, speaker.id, tdms, links)
             }
             Turn::Present => match choose(random, &self.present) {
-                Some((id, list)) => (0, id, list[random.below(list.len())], any_links),
+                Some((id, list)) => {
+                    let (tdms, links) = match &mut self.rounds {
+                        Some(rounds) => rounds
+                            .entry(id)
+                            .or_insert_with(|| Speaker::new(random, id, list.to_vec()))
+                            .speak(random),
+                        None => (list[random.below(list.len())], any_links),
+                    };
+                    (0, id, tdms, links)
+                }
                 None => panning(random),
             },
             Turn::Absent => match any_id(random) {
@@ -185,7 +213,7 @@ impl Broadcast {
     }
 }
 
-/// A component's announcement, sent over and over.
+/// A component's fields, announced or in force, sent over and over.
 struct Speaker {
     id: u8,
     list: Vec<u64>,
@@ -208,14 +236,14 @@ impl Speaker {
     }
 
     /// The next field's TDMS and LINKS.
-    fn speak(&mut self, random: &mut Xorshift) -> (u64, bool) {
+    fn speak(&mut self, random: &mut Xorshift) -> (u64, u8) {
         let place = self.sent % self.list.len();
         if place == 0 {
             // A broadcaster that alternates may forget to.
             self.links ^= self.alternates && random.below(8) != 0;
         }
         self.sent += 1;
-        (self.list[place], self.links)
+        (self.list[place], self.links.into())
     }
 }
 

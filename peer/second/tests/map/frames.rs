@@ -38,10 +38,15 @@ fn a_change_comes_behind_a_gap_too() {
         (1, 3, true),
         (1, 0, true),
         (1, 127, true),
-        (1, 129, false),
+        (1, 129, true),
         (2, 3, false),
         (2, 1, false),
-        (2, 130, false),
+        (2, 130, true),
+        (129, 1, true),
+        (129, 2, true),
+        (129, 130, true),
+        (130, 131, false),
+        (130, 2, true),
         (3, 2, true),
         (3, 1, false),
         (3, 130, true),
@@ -59,17 +64,17 @@ fn a_change_comes_behind_a_gap_too() {
         listener.hears(0, 0x81, "z", 0);
         let now = match (changes, last, count) {
             (false, _, _) => said(0, ""),
-            (true, 1, 2) => said(0, "a"),
+            (true, 1, 2) | (true, 129, 2) | (true, 129, 130) => said(0, "a"),
             (true, _, _) => said(46, ""),
         };
         assert_eq!(listener.now(7), now, "{last} {count}");
         // Before the gap, nothing is missed yet: behind frame 1, no more could be announced.
-        let all = changes && last == 1;
+        let all = changes && last % 128 == 1;
         assert_eq!(before, if all { said(0, "a") } else { now });
     }
 }
 
-/// Counts are told apart modulo 128, so 127 and 255 are both followed by 0 and by 128.
+/// Distances are modulo 128, so 127 and 255 are both followed by 0 and by 128; but a count is not 0 frames from another.
 #[test]
 fn the_distance_across_the_wrap() {
     for (last, count, unbroken) in [
@@ -83,7 +88,10 @@ fn the_distance_across_the_wrap() {
         (255, 1, 0),
         (0, 127, 0),
         (0, 255, 0),
-        (0, 128, 1),
+        (0, 128, 0),
+        (128, 0, 0),
+        (0, 0, 1),
+        (0, 129, 1),
     ] {
         let mut listener = Listener::new(last);
         listener.hears(0, 7, "a", 0);
@@ -122,13 +130,17 @@ fn five_identical_blocks_count_once() {
             listener.hears(flag, 7, "a", 0);
             assert!(listener.map == once);
         }
-        // Nor does another field of this frame count, or of one half the counts away.
-        for count in [20, 148] {
-            listener.count = count;
-            listener.hears(flag, 7, "b", 0);
-            assert_eq!(listener.hear(flag, 7, GONE, 0), 0);
-            listener.map.copy_from_slice(&once);
-        }
+        // Nor does another field of this frame count.
+        listener.count = 20;
+        listener.hears(flag, 7, "b", 0);
+        listener.count = 20;
+        assert_eq!(listener.hear(flag, 7, GONE, 0), 0);
+        assert!(listener.map == once);
+        // The frame half the counts away is another one.
+        listener.count = 148;
+        listener.hears(flag, 7, "b", 0);
+        assert!(listener.map != once);
+        assert_eq!(listener.marks(), [1, 0]);
     }
 }
 
@@ -180,7 +192,11 @@ fn it_is_finished_later() {
     listener.count = 2;
     listener.idle_to(3);
     assert_eq!(listener.now(7), said(46, ""));
-    for (letter, expected) in [("a", said(46, "")), ("b", said(46, "")), ("a", said(0, "ab"))] {
+    for (letter, expected) in [
+        ("a", said(46, "")),
+        ("b", said(46, "")),
+        ("a", said(0, "ab")),
+    ] {
         listener.hears(0, 7, letter, 0);
         assert_eq!(listener.now(7), expected);
     }

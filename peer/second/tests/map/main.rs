@@ -7,4 +7,6 @@ mod limits;
 mod listener;
 mod lists;
 mod maps;
+mod missed;
+mod parts;
 mod sets;
