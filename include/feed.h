@@ -167,8 +167,10 @@ uint8_t feed_map_start(uint8_t *map, size_t map_len);
 
 /*
  * Takes in the field of one frame. Whatever was announced comes in force first, if a change falls between the last field's frame and
- * this one's, by their counts modulo 128: so no more than 127 frames may be missed in a row. A field with the last one's count is one
- * of the same frame's five blocks: it changes nothing. Panning vectors only move the count.
+ * this one's, by their counts: up to 127 frames may be missed in a row. A field with the last one's count, all eight bits of it, is one
+ * of the same frame's five blocks: it changes nothing. Panning vectors only move the count. A list of fields that is being gathered
+ * while a frame is missed, or over a change of whose configuration not every frame was heard, is begun anew: no part of a structure is
+ * ever shown as the whole.
  * Refused, in this order, and then the map stays as it was: 20, 34, 44 (first after last, or last alone all ones; panning vectors
  * never), 45 (a further component where its set, old or new, has 128).
  */
@@ -176,8 +178,8 @@ uint8_t feed_map_take(uint8_t *map, size_t map_len, const uint8_t *field, size_t
 
 /*
  * What is known of a component in the frame with a count, which is taken as the next frame with it modulo 128, from the last field's
- * frame on: the last count itself asks for the frame that has ended, the next one for the frame that runs, further ones for what is
- * announced. With 0 the structure's fields are the part of the map from *at on, *len bytes long, eight bytes a field in rising order;
+ * frame on, up to 128 frames later: the last count itself asks for the frame that has ended, the next one for the frame that runs, further
+ * ones for what is announced. With 0 the structure's fields are the part of the map from *at on, *len bytes long, eight bytes a field in rising order;
  * where *len is 0 there is no such component. The part is good until the map is next changed.
  * *announced is 1 where something new was said of the component since the last change, and then *frames is in how many frames behind
  * the last field's the change comes, 1 to 128; both are given with 46, too.
