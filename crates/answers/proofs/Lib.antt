@@ -1,0 +1,5 @@
+pub mod Numbers
+pub mod Speaking
+pub mod Stores
+pub mod Telling
+pub mod Writing

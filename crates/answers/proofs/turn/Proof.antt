@@ -1,0 +1,120 @@
+use borrow.Author.Needs.{needs}
+use Rattle.answers.proofs.turn.Statement.{statement}
+use Rattle.answers.proofs.turn.Tie as tie
+use Rattle.answers.proofs.turn.Reads as reads
+use Rattle.answers.proofs.turn.Lts as lts
+use Rattle.answers.proofs.chunk.answered.Reads as answered-reads
+use Rattle.answers.proofs.print.Reads as print-reads
+use Rattle.answers.proofs.stopped.Reads as stopped-reads
+use Rattle.io.proofs.count.Reads as count-reads
+use Rattle.libc.proofs.read.Reads as read-reads
+use Rattle.os.proofs.fail.Reads as fail-reads
+
+sub-read : tie.Need-sub-read
+sub-read c = search needs
+
+part-read-start : tie.Need-part-read-start
+part-read-start c = search needs
+
+part-read-end : tie.Need-part-read-end
+part-read-end c = search needs
+
+read-requires : tie.Need-read-requires
+read-requires c κs = search needs
+
+slice-aggregate-fail : tie.Need-slice-aggregate-fail
+slice-aggregate-fail c = search needs
+
+fail-requires : tie.Need-fail-requires
+fail-requires c κs = search needs
+
+stopped-requires : tie.Need-stopped-requires
+stopped-requires c κs = search needs
+
+same-length : tie.Need-same-length
+same-length c = search needs
+
+returns : tie.Need-returns
+returns c = ?
+
+sub-count : tie.Need-sub-count
+sub-count c = search needs
+
+part-count-start : tie.Need-part-count-start
+part-count-start c = search needs
+
+part-count-end : tie.Need-part-count-end
+part-count-end c = search needs
+
+count-requires : tie.Need-count-requires
+count-requires c κs = search needs
+
+answered-requires : tie.Need-answered-requires
+answered-requires c κs = search needs
+
+slice-reshare-prefix-print : tie.Need-slice-reshare-prefix-print
+slice-reshare-prefix-print c = search needs
+
+slice-aggregate-print : tie.Need-slice-aggregate-print
+slice-aggregate-print c = ?
+
+print-requires : tie.Need-print-requires
+print-requires c κs = ?
+
+same-length-2 : tie.Need-same-length-2
+same-length-2 c = search needs
+
+same-length-3 : tie.Need-same-length-3
+same-length-3 c = search needs
+
+same-length-4 : tie.Need-same-length-4
+same-length-4 c = search needs
+
+returns-2 : tie.Need-returns-2
+returns-2 c = ?
+
+stopped-requires-2 : tie.Need-stopped-requires-2
+stopped-requires-2 c κs = search needs
+
+same-length-5 : tie.Need-same-length-5
+same-length-5 c = search needs
+
+same-length-6 : tie.Need-same-length-6
+same-length-6 c = search needs
+
+same-length-7 : tie.Need-same-length-7
+same-length-7 c = search needs
+
+returns-3 : tie.Need-returns-3
+returns-3 c = ?
+
+pub turn-spec : {M : Type 1} → statement M
+turn-spec =
+    tie.close
+    (tie.spec
+    sub-read
+    part-read-start
+    part-read-end
+    read-requires
+    slice-aggregate-fail
+    fail-requires
+    stopped-requires
+    same-length
+    returns
+    sub-count
+    part-count-start
+    part-count-end
+    count-requires
+    answered-requires
+    slice-reshare-prefix-print
+    slice-aggregate-print
+    print-requires
+    same-length-2
+    same-length-3
+    same-length-4
+    returns-2
+    stopped-requires-2
+    same-length-5
+    same-length-6
+    same-length-7
+    returns-3)
