@@ -1,8 +1,7 @@
 // What the program does with what a read gave, on slices: nothing is read or written here.
 ghost use mathlib.Core.Path.{_≡_};
 ghost use mathlib.Core.Bool.{true, false};
-ghost use mathlib.Core.List.{List};
-ghost use Prim.Native.Nat.{ℕ, _+_, _-_, _≤_, _<_};
+ghost use Prim.Native.Nat.{_+_, _-_, _≤_, _<_};
 ghost use lib.ListN.{length, take, drop};
 ghost use Rattle.serving.specs.Served.{pass, cut};
 ghost use Rattle.answers.specs.Text.{lines};
@@ -49,27 +48,27 @@ pub fn answered(
     ensures { λ r. ⌜ (r .going ≡ true → r .kept ≤ 97) ⌝ }
 {
     if more == 0 {
-        return ended(kept, number, out);
+        return ended(&buffer[..kept], number, out);
     }
     served(state, buffer, kept + more, number, out)
 }
 
 // The end of the file: what is kept is a record cut short.
-fn ended(kept: usize, number: u64, out: &mut [u8]) -> Progress
+fn ended(kept: &[u8], number: u64, out: &mut [u8]) -> Progress
     requires { ⌜ length (now out) ≡ 65536 ⌝ }
     requires { ⌜ number + 1025 < 18446744073709551616 ⌝ }
-    ensures { λ r. ⌜ ((b : List ℕ) → length b ≡ kept → take (r .len) (now (out .exit)) ≡ lines number (cut b)) ⌝ }
+    ensures { λ r. ⌜ take (r .len) (now (out .exit)) ≡ lines number (cut (now (kept .entry))) ⌝ }
     ensures { λ r. ⌜ r .len ≤ length (now (out .exit)) ⌝ }
-    ensures { λ r. ⌜ (r .kept ≡ kept) × (r .number ≡ number) × (r .going ≡ false) ⌝ }
+    ensures { λ r. ⌜ (r .kept ≡ length (now (kept .entry))) × (r .number ≡ number) × (r .going ≡ false) ⌝ }
 {
     let mut len: usize = 0;
-    if kept != 0 {
+    if kept.len() != 0 {
         let answers = [35u8; 1];
         len = text::put_lines(out, number, &answers);
     }
     Progress {
         number,
-        kept,
+        kept: kept.len(),
         going: false,
         len,
     }

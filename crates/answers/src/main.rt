@@ -26,8 +26,8 @@ fn main() {
     }
 }
 
-// A proved loop has to end, and nothing says that a file does: it counts its turns down from a number that no run uses up, of which
-// the numbers of the records are far from their end, too.
+// A proved loop has to end, and nothing says that a file does: it counts its turns down from a number that no run uses up. A turn has
+// 1,025 lines at most, so that the records' numbers stay within their 64 bits.
 fn run(state: &mut [u8], buffer: &mut [u8], out: &mut [u8])
     requires { ⌜ Reached (held (now state) (now buffer) 0 1 true) ⌝ }
     requires { ⌜ length (now buffer) ≡ 4096 ⌝ }
@@ -47,7 +47,11 @@ fn run(state: &mut [u8], buffer: &mut [u8], out: &mut [u8])
         progress = turn(state, buffer, out, progress);
         turns -= 1;
     }
-    io::write_all(STDERR_FILENO, b"answers: the file does not end\n");
+    endless();
+}
+
+fn endless() {
+    io::write_all(STDERR_FILENO, b"answers: standard input does not end\n");
 }
 
 // One read, and what is to be printed for it.

@@ -1,13 +1,12 @@
+-- `answers::main` meets its contract: the first that it prints is the heading, and it begins on a state that is started. Assumes nothing.
+use mathlib.Core.Path.{refl, sym}
+use native.Mathlib.Omega.{arith}
 use borrow.Author.Needs.{needs}
+use Rattle.answers.specs.Text.{heading}
+use Rattle.answers.specs.Said.{first}
+use Rattle.answers.proofs.Turning.{reached-first}
 use Rattle.answers.proofs.main.Statement.{statement}
 use Rattle.answers.proofs.main.Tie as tie
-use Rattle.answers.proofs.main.Reads as reads
-use Rattle.answers.proofs.main.Lts as lts
-use Rattle.answers.proofs.print.Reads as print-reads
-use Rattle.answers.proofs.run.Reads as run-reads
-use Rattle.io.proofs.buffer.Reads as buffer-reads
-use Rattle.io.proofs.large_buffer.Reads as large-buffer-reads
-use Rattle.table.proofs.start.Reads as start-reads
 
 slice-aggregate-start : tie.Need-slice-aggregate-start
 slice-aggregate-start c = search needs
@@ -25,7 +24,8 @@ slice-aggregate-print : tie.Need-slice-aggregate-print
 slice-aggregate-print c = search needs
 
 print-requires : tie.Need-print-requires
-print-requires c κs = ?
+unfolding heading
+print-requires c κs = first refl
 
 slice-aggregate-run : tie.Need-slice-aggregate-run
 slice-aggregate-run c = search needs
@@ -37,7 +37,8 @@ slice-aggregate-run-3 : tie.Need-slice-aggregate-run-3
 slice-aggregate-run-3 c = search needs
 
 run-requires : tie.Need-run-requires
-run-requires c κs = ?
+run-requires c κs =
+    (reached-first _ _ _ ? (c .before .before .before .before .before .before .before .before .before .start .ensures .1), (sym (c .before .before .before .before .before .before .before .buffer .ensures), sym (c .before .before .before .before .before .before .large-buffer .ensures)))
 
 returns : tie.Need-returns
 returns c = search needs

@@ -1,14 +1,19 @@
+-- `answers::turn` meets its contract: what it prints is told of the read, and the progress after it is reached. Assumes nothing.
+use mathlib.Core.Path.{_≡_, sym, ap, _∙_, subst}
+use mathlib.Core.Bool.{true, true≢false}
+use native.Mathlib.Omega.{arith}
 use borrow.Author.Needs.{needs}
+use lib.Seq.{length-take-le}
+use Rattle.answers.specs.Said.{held, Reached, further}
+use Rattle.answers.proofs.Turning.{held-read, reached-next}
 use Rattle.answers.proofs.turn.Statement.{statement}
 use Rattle.answers.proofs.turn.Tie as tie
-use Rattle.answers.proofs.turn.Reads as reads
-use Rattle.answers.proofs.turn.Lts as lts
-use Rattle.answers.proofs.chunk.answered.Reads as answered-reads
-use Rattle.answers.proofs.print.Reads as print-reads
-use Rattle.answers.proofs.stopped.Reads as stopped-reads
-use Rattle.io.proofs.count.Reads as count-reads
-use Rattle.libc.proofs.read.Reads as read-reads
-use Rattle.os.proofs.fail.Reads as fail-reads
+
+-- what the read left is still the progress reached
+before : (c : tie.After-answered) → Reached (held _ _ _ _ true)
+before c =
+    let start = c .before .before .before .before .before .before .before .before .before .before .before .before .before .before .before in
+    subst Reached (held-read _ _ (c .before .before .before .before .before .before .before .before .before .before .read .last .1 .0) _ _ _ true (omega arith)) (start .pre .0)
 
 sub-read : tie.Need-sub-read
 sub-read c = search needs
@@ -35,7 +40,9 @@ same-length : tie.Need-same-length
 same-length c = search needs
 
 returns : tie.Need-returns
-returns c = ?
+returns c =
+    let off = c .stopped .ensures in
+    (λ e. absurd (true≢false (sym e ∙ off .1)), (omega (arith, off .0), λ e. absurd (true≢false (sym e ∙ off .1))))
 
 sub-count : tie.Need-sub-count
 sub-count c = search needs
@@ -56,10 +63,10 @@ slice-reshare-prefix-print : tie.Need-slice-reshare-prefix-print
 slice-reshare-prefix-print c = search needs
 
 slice-aggregate-print : tie.Need-slice-aggregate-print
-slice-aggregate-print c = ?
+slice-aggregate-print c = sym (length-take-le _ _ (c .before .before .before .before .before .before .before .answered .ensures .1 .1 .0))
 
 print-requires : tie.Need-print-requires
-print-requires c κs = ?
+print-requires c κs = further _ _ (before (c .before .before .before .before .before .before .before)) (c .before .before .before .before .before .before .before .answered .ensures .0)
 
 same-length-2 : tie.Need-same-length-2
 same-length-2 c = search needs
@@ -71,7 +78,9 @@ same-length-4 : tie.Need-same-length-4
 same-length-4 c = search needs
 
 returns-2 : tie.Need-returns-2
-returns-2 c = ?
+returns-2 c =
+    let said = c .before .before .before .before .before .before .before .before .before .answered .ensures in
+    (reached-next _ _ _ _ _ _ _ (before (c .before .before .before .before .before .before .before .before .before)) (said .1 .0), (said .1 .1 .1 .0, said .1 .1 .1 .1))
 
 stopped-requires-2 : tie.Need-stopped-requires-2
 stopped-requires-2 c κs = search needs
@@ -86,7 +95,9 @@ same-length-7 : tie.Need-same-length-7
 same-length-7 c = search needs
 
 returns-3 : tie.Need-returns-3
-returns-3 c = ?
+returns-3 c =
+    let off = c .stopped2 .ensures in
+    (λ e. absurd (true≢false (sym e ∙ off .1)), (omega (arith, off .0), λ e. absurd (true≢false (sym e ∙ off .1))))
 
 pub turn-spec : {M : Type 1} → statement M
 turn-spec =

@@ -1,9 +1,11 @@
+-- `answers::chunk::ended` meets its contract. Assumes nothing.
+use mathlib.Core.Path.{refl, sym, ap, _∙_}
+use native.Mathlib.Omega.{arith}
 use borrow.Author.Needs.{needs}
+use Rattle.answers.specs.Text.{lines}
+use Rattle.answers.proofs.Turning.{cut-some, cut-none}
 use Rattle.answers.proofs.chunk.ended.Statement.{statement}
 use Rattle.answers.proofs.chunk.ended.Tie as tie
-use Rattle.answers.proofs.chunk.ended.Reads as reads
-use Rattle.answers.proofs.chunk.ended.Lts as lts
-use Rattle.answers.proofs.text.put_lines.Reads as put-lines-reads
 
 slice-aggregate-put-lines : tie.Need-slice-aggregate-put-lines
 slice-aggregate-put-lines c = search needs
@@ -15,10 +17,16 @@ same-length : tie.Need-same-length
 same-length c = search needs
 
 returns : tie.Need-returns
-returns c = ?
+returns c =
+    let start = c .before .before .before .before .before .before .before .before .args in
+    let put = c .before .before .put-lines .ensures in
+    (put .0 ∙ ap (lines (start .number)) (sym (cut-some (start .kept .now) (c .before .before .before .before .before .if1 .taken))), (put .1, (refl, refl, refl)))
 
 returns-2 : tie.Need-returns-2
-returns-2 c = ?
+unfolding lines
+returns-2 c =
+    let start = c .before .before .before .args in
+    (ap (lines (start .number)) (sym (cut-none (start .kept .now) (c .if1 .left))), (omega arith, (refl, refl, refl)))
 
 pub ended-spec : {M : Type 1} → statement M
 ended-spec =
