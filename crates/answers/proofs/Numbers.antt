@@ -175,10 +175,10 @@ line-put l one two at k n b e p q =
     let rest = decimal n ++ (10 ∷ []) in (
       omega (arith, p .0, q .0, length-append (decimal k) (32 ∷ rest), length-append (decimal n) (10 ∷ [])),
       (λ i. sets (q .1 i) (q .0 i) (10 ∷ []))
-      ∙ sets-append mine (b + 1) (decimal n) (10 ∷ [])
-      ∙ ap (λ (i : ℕ). sets mine i rest) (add-one b)
-      ∙ (λ i. sets (p .1 i) (p .0 i) (32 ∷ rest))
-      ∙ sets-append l at (decimal k) (32 ∷ rest),
+          ∙ sets-append mine (b + 1) (decimal n) (10 ∷ [])
+          ∙ ap (λ (i : ℕ). sets mine i rest) (add-one b)
+          ∙ (λ i. sets (p .1 i) (p .0 i) (32 ∷ rest))
+          ∙ sets-append l at (decimal k) (32 ∷ rest),
     )
 
 -- ---- lines

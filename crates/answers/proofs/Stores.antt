@@ -46,10 +46,10 @@ moved-more whole buffer at k h l front back =
     ∙ getD-drop k whole at 0 ∙ ap (λ (i : ℕ). getD whole i 0) (add-comm k at) ∙ sym (getD-drop at whole k 0) in
     let v = getD buffer (at + k) 0 in (
       ap (λ (i : ℕ). take i (set buffer k v)) (add-one k)
-      ∙ take-suc-set buffer k v (omega arith)
-      ∙ (λ i. front i ++ (same i ∷ []))
-      ∙ sym (take-suc (drop at whole) k 0 (omega (arith, length-drop at whole)))
-      ∙ ap (λ (i : ℕ). take i (drop at whole)) (sym (add-one k)),
+          ∙ take-suc-set buffer k v (omega arith)
+          ∙ (λ i. front i ++ (same i ∷ []))
+          ∙ sym (take-suc (drop at whole) k 0 (omega (arith, length-drop at whole)))
+          ∙ ap (λ (i : ℕ). take i (drop at whole)) (sym (add-one k)),
       drop-set-lt (k + 1) buffer k v (omega arith) ∙ sym (drop-drop 1 k buffer) ∙ ap (drop 1) back ∙ drop-drop 1 k whole,
     )
 

@@ -6,8 +6,8 @@ ghost use lib.ListN.{length, take, drop};
 ghost use Rattle.serving.specs.Served.{pass, cut};
 ghost use Rattle.answers.specs.Text.{lines};
 ghost use Rattle.answers.specs.Said.{held, goes, spoken, turned, told, next};
-use records::Step;
 use crate::text;
+use records::Step;
 
 // How far the program has come: the number of the next record, how many bytes are kept at the buffer's front, whether it goes on; and
 // how many bytes of the output are to be printed.

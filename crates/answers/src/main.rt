@@ -8,13 +8,13 @@ ghost use mathlib.Core.Bool.{true, false};
 ghost use Prim.Native.Nat.{_+_, _≤_, _<_};
 ghost use lib.ListN.{length};
 ghost use Rattle.answers.specs.Said.{begun, held, Reached, Offered};
+use chunk::Progress;
 use libc::STDERR_FILENO;
 use libc::STDIN_FILENO;
 use libc::STDOUT_FILENO;
-use chunk::Progress;
 
-mod text;
 mod chunk;
+mod text;
 
 fn main() {
     let mut state = [0u8; 11776];
@@ -114,6 +114,9 @@ fn refused(got: isize) {
     if got < 0 {
         os::fail(b"answers: writing standard output");
     } else {
-        io::write_all(STDERR_FILENO, b"answers: writing standard output: nothing is taken\n");
+        io::write_all(
+            STDERR_FILENO,
+            b"answers: writing standard output: nothing is taken\n",
+        );
     }
 }

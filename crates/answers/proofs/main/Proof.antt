@@ -38,7 +38,7 @@ slice-aggregate-run-3 c = search needs
 
 run-requires : tie.Need-run-requires
 run-requires c κs =
-    (reached-first _ _ _ ? (c .before .before .before .before .before .before .before .before .before .start .ensures .1), (sym (c .before .before .before .before .before .before .before .buffer .ensures), sym (c .before .before .before .before .before .before .large-buffer .ensures)))
+    (reached-first _ _ _ refl (c .before .before .before .before .before .before .before .before .before .start .ensures .1), (sym (c .before .before .before .before .before .before .before .buffer .ensures), sym (c .before .before .before .before .before .before .large-buffer .ensures)))
 
 returns : tie.Need-returns
 returns c = search needs

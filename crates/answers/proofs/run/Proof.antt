@@ -1,7 +1,7 @@
 -- `answers::run` ends: it counts its turns down. The loop's invariant: while it goes on, the progress after some chunks is reached, and
 -- the records' numbers have room for the turns that are left. Assumes nothing.
 use mathlib.Core.Path.{_≡_, refl}
-use mathlib.Core.Bool.{true}
+use mathlib.Core.Bool.{Bool, true, false, not, true≢false}
 use Prim.Native.Nat.{_+_, _*_, _≤_, _<_}
 use native.Mathlib.Omega.{arith}
 use borrow.Author.Needs.{needs}
@@ -18,6 +18,10 @@ Inv-loop state₀ buffer₀ out₀ progress₀ turns₀ state buffer out progres
 
 abbrev μ-loop : tie.MeasureT-loop
 μ-loop state₀ buffer₀ out₀ progress₀ turns₀ state buffer out progress turns = turns
+
+still : (going : Bool) → not going ≡ false → going ≡ true
+still true e = refl
+still false e = absurd (true≢false e)
 
 loop-holds : tie.Need-loop-holds Inv-loop μ-loop
 loop-holds c = (refl, refl, refl, omega arith, λ _. omega arith, λ _. c .before .before .before .pre .0)
@@ -36,8 +40,9 @@ returns c = search needs
 
 turn-requires : tie.Need-turn-requires Inv-loop μ-loop
 turn-requires c κs =
-    let inv = c .before .before .before .before .before .before .loop .inv in
-    let on = c .before .before .before .if1 .left in ?
+    let turn = c .before .before .before .before .before .before .loop in
+    let on = still (turn .progress .going) (c .before .before .before .if1 .left) in
+    (turn .inv .5 on, (omega arith, (omega arith, (omega arith, turn .inv .4 on))))
 
 sub-turns : tie.Need-sub-turns Inv-loop μ-loop
 sub-turns c = omega arith

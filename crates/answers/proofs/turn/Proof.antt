@@ -1,19 +1,36 @@
 -- `answers::turn` meets its contract: what it prints is told of the read, and the progress after it is reached. Assumes nothing.
 use mathlib.Core.Path.{_≡_, sym, ap, _∙_, subst}
 use mathlib.Core.Bool.{true, true≢false}
+use mathlib.Core.List.{List}
+use Prim.Native.Nat.{ℕ, _-_}
 use native.Mathlib.Omega.{arith}
 use borrow.Author.Needs.{needs}
+use borrow.Rule.Slice.PartMut.{putMid}
+use lib.ListN.{length}
 use lib.Seq.{length-take-le}
 use Rattle.answers.specs.Said.{held, Reached, further}
 use Rattle.answers.proofs.Turning.{held-read, reached-next}
 use Rattle.answers.proofs.turn.Statement.{statement}
 use Rattle.answers.proofs.turn.Tie as tie
 
--- what the read left is still the progress reached
-before : (c : tie.After-answered) → Reached (held _ _ _ _ true)
-before c =
-    let start = c .before .before .before .before .before .before .before .before .before .before .before .before .before .before .before in
-    subst Reached (held-read _ _ (c .before .before .before .before .before .before .before .before .before .before .read .last .1 .0) _ _ _ true (omega arith)) (start .pre .0)
+module _ (c : tie.After-answered) where
+  abbrev start : tie.Start
+  start = c .before .before .before .before .before .before .before .before .before .before .before .before .before .before .before
+
+  abbrev kept : ℕ
+  kept = start .args .progress .kept
+
+  -- the buffer behind the read
+  abbrev buffer : List ℕ
+  buffer = putMid kept (length (start .args .buffer .now) - kept) (start .args .buffer .now) (c .before .before .before .before .before .before .before .before .before .before .read .last .1 .0)
+
+  -- what was kept is still there
+  before : Reached (held (start .args .state .now) buffer kept (start .args .progress .number) true)
+  before =
+      subst Reached
+      (held-read (start .args .state .now) (start .args .buffer .now) (c .before .before .before .before .before .before .before .before .before .before .read .last .1 .0) kept (length (start .args .buffer .now) - kept)
+      (start .args .progress .number) true (omega arith))
+      (start .pre .0)
 
 sub-read : tie.Need-sub-read
 sub-read c = search needs

@@ -33,7 +33,7 @@ returns c =
       end .0 ∙ sym (told-end (start .state .now) (start .buffer .now) (start .kept) (start .more) (start .number) none),
       (
         (λ i. held (start .state .now) (start .buffer .now) (size i) (end .1 .1 .1 i) (end .1 .1 .2 i))
-        ∙ sym (next-end (start .state .now) (start .buffer .now) (start .kept) (start .more) (start .number) none),
+            ∙ sym (next-end (start .state .now) (start .buffer .now) (start .kept) (start .more) (start .number) none),
         (end .1 .0, (omega (arith, end .1 .1 .1), λ e. absurd (true≢false (sym e ∙ end .1 .1 .2)))),
       ),
     )

@@ -69,8 +69,8 @@ returns c =
       put .0 ∙ ap (lines (start .args .number)) (said .0),
       (
         held-turned (start .args .state .now) (spoke .speak .last .0) (take (start .args .n) (start .args .buffer .now)) (spoke .speak .last .1 .1 .0)
-        (c .before .before .moved .last .0) (start .args .number) (spoke .speak .result .count) (spoke .speak .result .at) (c .before .before .moved .result)
-        (spoke .speak .result .going) (said .1 .0) (moved .1) (said .1 .1 .0) (said .1 .1 .1 .0) (room spoke) (said .0),
+            (c .before .before .moved .last .0) (start .args .number) (spoke .speak .result .count) (spoke .speak .result .at) (c .before .before .moved .result)
+            (spoke .speak .result .going) (said .1 .0) (moved .1) (said .1 .1 .0) (said .1 .1 .1 .0) (room spoke) (said .0),
         (put .1, (omega arith, λ e. omega (arith, said .1 .1 .1 .1 .1 .1 e, length-take-le (start .args .n) (start .args .buffer .now) (start .pre .0)))),
       ),
     )
