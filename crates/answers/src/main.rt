@@ -4,7 +4,7 @@
 // chunk    what it does with what a read gave
 // text     lines, put into a buffer
 ghost use mathlib.Core.Path.{_≡_};
-ghost use mathlib.Core.Bool.{true, false};
+ghost use mathlib.Core.Bool.{true};
 ghost use Prim.Native.Nat.{_+_, _≤_, _<_};
 ghost use lib.ListN.{length};
 ghost use Rattle.answers.specs.Said.{begun, held, Reached, Offered};
@@ -66,10 +66,16 @@ fn turn(state: &mut [u8], buffer: &mut [u8], out: &mut [u8], progress: Progress)
     ensures { λ r. ⌜ (r .going ≡ true → r .kept ≤ 97) ⌝ }
 {
     let kept = progress.kept;
+    let stopped = Progress {
+        number: progress.number,
+        kept: 0,
+        going: false,
+        len: 0,
+    };
     let got = libc::read(STDIN_FILENO, &mut buffer[kept..]);
     if got < 0 {
         os::fail(b"answers: reading standard input");
-        return stopped(progress.number);
+        return stopped;
     }
     let more = io::count(got, &buffer[kept..]);
     let next = chunk::answered(state, buffer, kept, more, progress.number, out);
@@ -77,18 +83,7 @@ fn turn(state: &mut [u8], buffer: &mut [u8], out: &mut [u8], progress: Progress)
     if print(&out[..len]) {
         return next;
     }
-    stopped(progress.number)
-}
-
-fn stopped(number: u64) -> Progress
-    ensures { λ r. ⌜ (r .number ≡ number) × (r .going ≡ false) ⌝ }
-{
-    Progress {
-        number,
-        kept: 0,
-        going: false,
-        len: 0,
-    }
+    stopped
 }
 
 // The one function that writes on standard output. It offers what is not taken yet until nothing is left, and stops at the first call

@@ -50,16 +50,11 @@ slice-aggregate-fail c = search needs
 fail-requires : tie.Need-fail-requires
 fail-requires c κs = search needs
 
-stopped-requires : tie.Need-stopped-requires
-stopped-requires c κs = search needs
-
 same-length : tie.Need-same-length
 same-length c = search needs
 
 returns : tie.Need-returns
-returns c =
-    let off = c .stopped .ensures in
-    (λ e. absurd (true≢false (sym e ∙ off .1)), (omega (arith, off .0), λ e. absurd (true≢false (sym e ∙ off .1))))
+returns c = (λ e. absurd (true≢false (sym e)), (omega arith, λ e. absurd (true≢false (sym e))))
 
 sub-count : tie.Need-sub-count
 sub-count c = search needs
@@ -96,11 +91,11 @@ same-length-4 c = search needs
 
 returns-2 : tie.Need-returns-2
 returns-2 c =
-    let said = c .before .before .before .before .before .before .before .before .before .answered .ensures in
-    (reached-next _ _ _ _ _ _ _ (before (c .before .before .before .before .before .before .before .before .before)) (said .1 .0), (said .1 .1 .1 .0, said .1 .1 .1 .1))
-
-stopped-requires-2 : tie.Need-stopped-requires-2
-stopped-requires-2 c κs = search needs
+    let done = c .before .before .before .before .before .before .before .before .before in
+    let said = done .answered .ensures in (
+      reached-next (held (start done .args .state .now) (buffer done) (kept done) (start done .args .progress .number) true) _ _ _ _ _ _ (before done) (said .1 .0),
+      (said .1 .1 .1 .0, said .1 .1 .1 .1),
+    )
 
 same-length-5 : tie.Need-same-length-5
 same-length-5 c = search needs
@@ -112,9 +107,7 @@ same-length-7 : tie.Need-same-length-7
 same-length-7 c = search needs
 
 returns-3 : tie.Need-returns-3
-returns-3 c =
-    let off = c .stopped2 .ensures in
-    (λ e. absurd (true≢false (sym e ∙ off .1)), (omega (arith, off .0), λ e. absurd (true≢false (sym e ∙ off .1))))
+returns-3 c = (λ e. absurd (true≢false (sym e)), (omega arith, λ e. absurd (true≢false (sym e))))
 
 pub turn-spec : {M : Type 1} → statement M
 turn-spec =
@@ -126,7 +119,6 @@ turn-spec =
     read-requires
     slice-aggregate-fail
     fail-requires
-    stopped-requires
     same-length
     returns
     sub-count
@@ -141,7 +133,6 @@ turn-spec =
     same-length-3
     same-length-4
     returns-2
-    stopped-requires-2
     same-length-5
     same-length-6
     same-length-7
