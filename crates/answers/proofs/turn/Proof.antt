@@ -6,9 +6,9 @@ use Prim.Native.Nat.{ℕ, _-_}
 use native.Mathlib.Omega.{arith}
 use borrow.Author.Needs.{needs}
 use borrow.Rule.Slice.PartMut.{putMid}
-use lib.ListN.{length}
+use lib.ListN.{length, take, drop}
 use lib.Seq.{length-take-le}
-use Rattle.answers.specs.Said.{held, Reached, further}
+use Rattle.answers.specs.Said.{Progress, told, held, Reached, further}
 use Rattle.answers.proofs.Turning.{held-read, reached-next}
 use Rattle.answers.proofs.turn.Statement.{statement}
 use Rattle.answers.proofs.turn.Tie as tie
@@ -24,13 +24,23 @@ module _ (c : tie.After-answered) where
   abbrev buffer : List ℕ
   buffer = putMid kept (length (start .args .buffer .now) - kept) (start .args .buffer .now) (c .before .before .before .before .before .before .before .before .before .before .read .last .1 .0)
 
+  abbrev chunk : List ℕ
+  chunk = take (c .before .before .before .before .count .result) (drop kept buffer)
+
+  abbrev stood : Progress
+  stood = held (start .args .state .now) buffer kept (start .args .progress .number) true
+
   -- what was kept is still there
-  before : Reached (held (start .args .state .now) buffer kept (start .args .progress .number) true)
+  before : Reached stood
   before =
       subst Reached
       (held-read (start .args .state .now) (start .args .buffer .now) (c .before .before .before .before .before .before .before .before .before .before .read .last .1 .0) kept (length (start .args .buffer .now) - kept)
       (start .args .progress .number) true (omega arith))
       (start .pre .0)
+
+  -- what is printed is told of the read
+  says : take (c .answered .result .len) (c .answered .last .1 .1 .1 .1 .1 .0) ≡ told stood chunk
+  says = c .answered .ensures .0
 
 sub-read : tie.Need-sub-read
 sub-read c = search needs
@@ -78,7 +88,9 @@ slice-aggregate-print : tie.Need-slice-aggregate-print
 slice-aggregate-print c = sym (length-take-le _ _ (c .before .before .before .before .before .before .before .answered .ensures .1 .1 .0))
 
 print-requires : tie.Need-print-requires
-print-requires c κs = further _ _ (before (c .before .before .before .before .before .before .before)) (c .before .before .before .before .before .before .before .answered .ensures .0)
+print-requires c κs =
+    let done = c .before .before .before .before .before .before .before in
+    further (stood done) (chunk done) (before done) (says done)
 
 same-length-2 : tie.Need-same-length-2
 same-length-2 c = search needs
@@ -92,10 +104,8 @@ same-length-4 c = search needs
 returns-2 : tie.Need-returns-2
 returns-2 c =
     let done = c .before .before .before .before .before .before .before .before .before in
-    let said = done .answered .ensures in (
-      reached-next (held (start done .args .state .now) (buffer done) (kept done) (start done .args .progress .number) true) _ _ _ _ _ _ (before done) (said .1 .0),
-      (said .1 .1 .1 .0, said .1 .1 .1 .1),
-    )
+    let said = done .answered .ensures in
+    (reached-next (stood done) (chunk done) _ _ _ _ _ (before done) (said .1 .0), (said .1 .1 .1 .0, said .1 .1 .1 .1))
 
 same-length-5 : tie.Need-same-length-5
 same-length-5 c = search needs
