@@ -1,3 +1,4 @@
+pub mod Examples
 pub mod Numbers
 pub mod Speaking
 pub mod Stores

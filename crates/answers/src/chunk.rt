@@ -5,7 +5,7 @@ ghost use Prim.Native.Nat.{_+_, _-_, _≤_, _<_};
 ghost use lib.ListN.{length, take, drop};
 ghost use Rattle.serving.specs.Served.{pass, cut};
 ghost use Rattle.answers.specs.Text.{lines};
-ghost use Rattle.answers.specs.Said.{held, goes, spoken, turned, told, next};
+ghost use Rattle.answers.specs.Said.{held, goes, spoken, told, next};
 use crate::text;
 use records::Step;
 
@@ -25,8 +25,8 @@ struct Spoken {
     going: bool,
 }
 
-// What is to be printed for what a read put behind the kept bytes, and the progress after it. A read that gives nothing is the end of
-// the file.
+// What is to be printed for what a read put behind the kept bytes, and the progress after it: the lines for what the buffer now holds,
+// of which the bytes behind the last whole record are kept. A read that gives nothing is the end of the file.
 pub fn answered(
     state: &mut [u8],
     buffer: &mut [u8],
@@ -50,7 +50,18 @@ pub fn answered(
     if more == 0 {
         return ended(&buffer[..kept], number, out);
     }
-    served(state, buffer, kept + more, number, out)
+    let n = kept + more;
+    let mut answers = io::buffer();
+    let told = speak(state, &buffer[..n], &mut answers);
+    let count = told.count;
+    let len = text::put_lines(out, number, &answers[..count]);
+    let left = moved(buffer, told.at, n);
+    Progress {
+        number: number + count as u64,
+        kept: left,
+        going: told.going,
+        len,
+    }
 }
 
 // The end of the file: what is kept is a record cut short.
@@ -70,32 +81,6 @@ fn ended(kept: &[u8], number: u64, out: &mut [u8]) -> Progress
         number,
         kept: kept.len(),
         going: false,
-        len,
-    }
-}
-
-// A chunk: the lines for what the buffer now holds, and what is behind the last whole record is kept.
-fn served(state: &mut [u8], buffer: &mut [u8], n: usize, number: u64, out: &mut [u8]) -> Progress
-    requires { ⌜ n ≤ length (now buffer) ⌝ }
-    requires { ⌜ length (now buffer) ≡ 4096 ⌝ }
-    requires { ⌜ length (now out) ≡ 65536 ⌝ }
-    requires { ⌜ number + 1025 < 18446744073709551616 ⌝ }
-    ensures { λ r. ⌜ take (r .len) (now (out .exit)) ≡ lines number (spoken (now (state .entry)) (take n (now (buffer .entry)))) ⌝ }
-    ensures { λ r. ⌜ held (now (state .exit)) (now (buffer .exit)) (r .kept) (r .number) (r .going)
-        ≡ turned (now (state .entry)) (take n (now (buffer .entry))) number ⌝ }
-    ensures { λ r. ⌜ r .len ≤ length (now (out .exit)) ⌝ }
-    ensures { λ r. ⌜ r .number ≤ number + 1025 ⌝ }
-    ensures { λ r. ⌜ (r .going ≡ true → r .kept ≤ 97) ⌝ }
-{
-    let mut answers = io::buffer();
-    let told = speak(state, &buffer[..n], &mut answers);
-    let count = told.count;
-    let len = text::put_lines(out, number, &answers[..count]);
-    let kept = moved(buffer, told.at, n);
-    Progress {
-        number: number + count as u64,
-        kept,
-        going: told.going,
         len,
     }
 }

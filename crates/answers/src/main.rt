@@ -7,7 +7,7 @@ ghost use mathlib.Core.Path.{_≡_};
 ghost use mathlib.Core.Bool.{true};
 ghost use Prim.Native.Nat.{_+_, _≤_, _<_};
 ghost use lib.ListN.{length};
-ghost use Rattle.answers.specs.Said.{begun, held, Reached, Offered};
+ghost use Rattle.answers.specs.Said.{held, Reached, Offered};
 use chunk::Progress;
 use libc::STDERR_FILENO;
 use libc::STDIN_FILENO;
