@@ -20,7 +20,7 @@ use native.Mathlib.Nat.{add-zero}
 use native.Mathlib.Decide.{decLe}
 use native.Mathlib.Numerals.{add-one}
 use borrow.Author.Tests.{lt-ltb, le-ltb, eq-eqb, ne-eqb}
-use lib.Dec.{ltb, eqb}
+use lib.Dec.{eqb}
 use lib.ListN.{length, take, getD, set, length-append}
 use lib.Seq.{take-suc, length-take-le, append-snoc, sets}
 use Rattle.answers.specs.Text.{digits, decimal, line, lines}

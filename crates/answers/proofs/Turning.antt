@@ -20,7 +20,7 @@ use Rattle.bits.proofs.Rows.{done-passed}
 use Rattle.table.specs.State.{stateSize}
 use Rattle.table.specs.Calls.{startAnswer, startAfter}
 use Rattle.table.proofs.Doing.{start-passed}
-use Rattle.serving.specs.Served.{Pass, pass, cut}
+use Rattle.serving.specs.Served.{pass, cut}
 use Rattle.answers.specs.Text.{lines}
 use Rattle.answers.specs.Said.{Progress, begun, goes, spoken, printed, turned, onward, atEnd, told, next, afterFrom, after, held, Reached}
 use Rattle.answers.proofs.Telling.{after-snoc}

@@ -1,15 +1,17 @@
 -- The record program's progress, as a function of what its reads give, without reads and writes.
 --
---   Progress          the state, the bytes kept of the last buffer, the number of the next record, and whether it goes on
---   begun             as it is before the first read
---   spoken t s        the answers that are printed for a buffer's bytes, on a state: those of its whole records, and 35 where
---                     the record behind them is bad
---   printed p c       what is printed for a chunk that a read gave, and
---   onward p c        the progress after it
---   atEnd p           what is printed at the end of the file: 35's line where bytes are kept
+--   Progress               the state, the bytes kept of the last buffer, the number of the next record, and whether it goes on
+--   begun                  as it is before the first read
+--   spoken t s             the answers that are printed for a buffer's bytes, on a state: those of its whole records, and 35 where the
+--                          record behind them is bad
+--   printed p c            what is printed for a chunk that a read gave
+--   turned t s k, onward p c     the progress after a buffer's bytes; after a chunk, which stands behind the kept bytes
+--   atEnd p                what is printed at the end of the file: 35's line where bytes are kept
 --   told p c, next p c     the same of a read that may give nothing, which is the end of the file
---   after cs, said cs     the progress after the chunks cs, and what is printed for them
---   Offered out       what may be written on standard output: the heading, or what is told of a read
+--   after cs, said cs      the progress after the chunks cs, and what is printed for them
+--   held                   the progress that the program's own values stand for
+--   Reached p              it is the progress after some chunks
+--   Offered out            what may be written on standard output: the heading, or what is told of a read
 use mathlib.Core.Path.{_≡_}
 use mathlib.Core.Bool.{Bool, true, false, cond}
 use mathlib.Core.List.{List, [], _∷_, _++_}

@@ -1,6 +1,5 @@
 -- `answers::main` meets its contract: the first that it prints is the heading, and it begins on a state that is started. Assumes nothing.
 use mathlib.Core.Path.{refl, sym}
-use native.Mathlib.Omega.{arith}
 use borrow.Author.Needs.{needs}
 use Rattle.answers.specs.Text.{heading}
 use Rattle.answers.specs.Said.{first}

@@ -1,6 +1,6 @@
 -- `answers::chunk::moved` meets its contract. The loop's invariant: so many bytes from the place on are at the front, and nothing behind
 -- them has changed. Assumes nothing.
-use mathlib.Core.Path.{_≡_, refl, sym, ap, _∙_}
+use mathlib.Core.Path.{_≡_, refl, _∙_}
 use Prim.Native.Nat.{_+_, _-_, _≤_}
 use native.Mathlib.Omega.{arith}
 use lib.ListN.{length, take, drop, length-set}

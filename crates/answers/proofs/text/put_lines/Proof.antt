@@ -1,8 +1,7 @@
 -- `answers::text::put_lines` meets its contract. The loop's invariant: the lines of the answers so far are stored. Assumes nothing.
 use mathlib.Core.Path.{_≡_, refl, ap, _∙_}
-use Prim.Native.Nat.{ℕ, _*_, _-_, _≤_}
+use Prim.Native.Nat.{_*_, _-_, _≤_}
 use native.Mathlib.Omega.{arith}
-use borrow.Author.Needs.{needs}
 use lib.ListN.{length, take}
 use lib.Seq.{sets, length-take-le, take-all}
 use Rattle.answers.specs.Text.{lines}
