@@ -1,53 +1,31 @@
-// Lines of a record's number and its answer, gathered in a buffer.
-ghost use Prim.Native.Nat.{_+_, _≤_};
-ghost use lib.ListN.{length};
-use libc::STDOUT_FILENO;
+// Lines of a record's number and its answer, put into a buffer.
+ghost use mathlib.Core.Path.{_≡_};
+ghost use Prim.Native.Nat.{_+_, _*_, _≤_, _<_};
+ghost use lib.ListN.{length, take};
+ghost use lib.Seq.{sets};
+ghost use Rattle.answers.specs.Text.{decimal, line, lines};
 
-pub struct Line {}
-
-impl Line {
-    // More than a line takes: two numbers of at most twenty digits, a space, a line end.
-    pub const LONGEST: usize = 42;
-}
-
-// A line for each answer, numbered from `first` on.
-pub fn lines(first: u64, answers: &[u8]) -> bool {
-    let mut space = io::large_buffer();
-    gathered(first, answers, &mut space)
-}
-
-// They are written out when the buffer is nearly full, and at the end.
-fn gathered(first: u64, answers: &[u8], out: &mut [u8]) -> bool
-    requires { ⌜ 42 ≤ length (now out) ⌝ }
+// Puts a line for each answer, numbered from `first` on, at the front of the buffer, and answers how many bytes they are.
+pub fn put_lines(out: &mut [u8], first: u64, answers: &[u8]) -> usize
+    requires { ⌜ 42 * length (now answers) ≤ length (now out) ⌝ }
+    requires { ⌜ first + length (now answers) < 18446744073709551616 ⌝ }
+    ensures { λ r. ⌜ take r (now (out .exit)) ≡ lines first (now (answers .entry)) ⌝ }
+    ensures { λ r. ⌜ r ≤ length (now (out .exit)) ⌝ }
 {
     let mut len: usize = 0;
     let mut k: usize = 0;
     while k < answers.len() {
-        let at = flushed(out, len);
-        let number = std::num::wrapping_add_u64(first, k as u64);
-        len = put(out, at, number, answers[k]);
+        len = put_line(out, len, first + k as u64, answers[k]);
         k += 1;
-    }
-    io::write_all(STDOUT_FILENO, &out[..len])
-}
-
-// Where the next line begins: where the last one ended, or at the front once the lines so far are written out.
-fn flushed(out: &[u8], len: usize) -> usize
-    requires { ⌜ 42 ≤ length (now out) ⌝ }
-    requires { ⌜ len ≤ length (now out) ⌝ }
-    ensures { λ r. ⌜ r + 42 ≤ length (now (out .entry)) ⌝ }
-{
-    if out.len() - Line::LONGEST < len {
-        io::write_all(STDOUT_FILENO, &out[..len]);
-        return 0;
     }
     len
 }
 
 // Puts a line at a place of the buffer, and answers the place behind it.
-fn put(out: &mut [u8], at: usize, number: u64, answer: u8) -> usize
+fn put_line(out: &mut [u8], at: usize, number: u64, answer: u8) -> usize
     requires { ⌜ at + 42 ≤ length (now out) ⌝ }
-    ensures { λ r. ⌜ r ≤ at + 42 ⌝ }
+    ensures { λ r. ⌜ r ≡ at + length (line number answer) ⌝ }
+    ensures { λ _. ⌜ now (out .exit) ≡ sets (now (out .entry)) at (line number answer) ⌝ }
 {
     let behind = spell(out, at, number);
     out[behind] = b' ';
@@ -59,7 +37,8 @@ fn put(out: &mut [u8], at: usize, number: u64, answer: u8) -> usize
 // Puts a number's decimal digits at a place of the buffer, and answers the place behind them.
 fn spell(out: &mut [u8], at: usize, n: u64) -> usize
     requires { ⌜ at + 20 ≤ length (now out) ⌝ }
-    ensures { λ r. ⌜ r ≤ at + 20 ⌝ }
+    ensures { λ r. ⌜ r ≡ at + length (decimal n) ⌝ }
+    ensures { λ _. ⌜ now (out .exit) ≡ sets (now (out .entry)) at (decimal n) ⌝ }
 {
     let count = places(n);
     let mut rest = n;
@@ -74,7 +53,7 @@ fn spell(out: &mut [u8], at: usize, n: u64) -> usize
 
 // How many digits a number has: a u64 has twenty at most.
 fn places(n: u64) -> usize
-    ensures { λ r. ⌜ r ≤ 20 ⌝ }
+    ensures { λ r. ⌜ r ≡ length (decimal n) ⌝ }
 {
     let mut count: usize = 1;
     let mut rest = n / 10;
@@ -86,10 +65,4 @@ fn places(n: u64) -> usize
         count += 1;
     }
     count
-}
-
-// One line.
-pub fn one(number: u64, answer: u8) -> bool {
-    let answers = [answer; 1];
-    lines(number, &answers)
 }

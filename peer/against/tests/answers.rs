@@ -1,6 +1,8 @@
 //! The record program as it is built, against the second one, on whole files: long ones, cut ones, and fed in pieces of every size.
 
 use std::io::Write;
+use std::os::fd::OwnedFd;
+use std::os::unix::net::UnixStream;
 use std::path::PathBuf;
 use std::process::{Command, Stdio};
 use std::thread;
@@ -11,10 +13,13 @@ use second::samples::rounds;
 use second::table::{self, STATE};
 use second::xorshift::Xorshift;
 
+fn program() -> PathBuf {
+    [env!("CARGO_MANIFEST_DIR"), "..", "..", "target", "bin", "answers"].iter().collect()
+}
+
 /// What the program prints, its input written in pieces of the given size.
 fn ours(input: &[u8], piece: usize) -> String {
-    let program: PathBuf = [env!("CARGO_MANIFEST_DIR"), "..", "..", "target", "bin", "answers"].iter().collect();
-    let mut child = Command::new(program)
+    let mut child = Command::new(program())
         .stdin(Stdio::piped())
         .stdout(Stdio::piped())
         .spawn()
@@ -111,4 +116,17 @@ fn bad_heads() {
 #[test]
 fn nothing_at_all() {
     assert_eq!(ours(&[], 1), "answers 1\n");
+}
+
+/// A read that fails inside a record: no 35 for it, and one line on standard error.
+#[test]
+fn a_read_that_fails() {
+    let (mut near, mut far) = UnixStream::pair().expect("a pair of sockets");
+    near.write_all(&[0, 7, 1]).expect("the beginning of a record");
+    // A socket that is closed on a byte that nobody took resets the other one.
+    far.write_all(&[0]).expect("a byte");
+    drop(near);
+    let output = Command::new(program()).stdin(OwnedFd::from(far)).output().expect("it ends");
+    assert_eq!(output.stdout, b"answers 1\n");
+    assert_eq!(String::from_utf8_lossy(&output.stderr).lines().count(), 1);
 }
