@@ -19,7 +19,8 @@
  *   45  more than 128 components          46  structure unfinished            (the map)
  *
  * A call is refused with the first number of its order that applies. A refused call changes nothing that was lent to it, but for one
- * case: a packet refused with 28, 29, 30, 31 or 32 drops the unfinished group of its address and marks a gap there.
+ * case: a packet refused with 28, 29, 30, 31 or 32 drops the unfinished group of its address and marks a gap there. Values that a call
+ * hands out by pointers are set by a refused one, too, as the call says.
  *
  * The library allocates nothing, keeps nothing between calls and has no global state: everything it knows is in the state that you
  * lend. Calls on different states may run at the same time.
@@ -180,19 +181,20 @@ uint8_t feed_map_take(uint8_t *map, size_t map_len, const uint8_t *field, size_t
  * What is known of a component in the frame with a count, which is taken as the next frame with it modulo 128, from the last field's
  * frame on, up to 128 frames later: the last count itself asks for the frame that has ended, the next one for the frame that runs, further
  * ones for what is announced. With 0 the structure's fields are the part of the map from *at on, *len bytes long, eight bytes a field in rising order;
- * where *len is 0 there is no such component. The part is good until the map is next changed.
+ * where *len is 0 nothing was heard of the component since the start, or all ones were heard of it last: a map that was started a moment
+ * ago does not know yet which components there are. The part is good until the map is next changed.
  * *announced is 1 where something new was said of the component since the last change, and then *frames is in how many frames behind
  * the last field's the change comes, 1 to 128; both are given with 46, too.
  * Refused, in this order: 20, 34, 46 (fields were heard, but it is not known that these are all: that is known when the first of them
  * comes again, and of announced ones at the change, if every frame of the configuration before it was heard; a frame missed on the
- * way has the gathering begin anew).
+ * way has the gathering begin anew). With 20 and 34 every value is 0, with 46 *at and *len are.
  */
 uint8_t feed_map_show(const uint8_t *map, size_t map_len, uint8_t id, uint8_t count, size_t *at, size_t *len, uint8_t *announced,
                       uint8_t *frames);
 
 /*
  * A mark for each component in the frame with a count, as feed_map_show has it: out[id] is 1 where its structure is whole, 2 where it
- * is unfinished, 0 where there is none. out_len is 256.
+ * is unfinished, 0 where nothing was heard of it or all ones were heard last. out_len is 256.
  * Refused, in this order, and then out stays as it was: 20, 34.
  */
 uint8_t feed_map_list(const uint8_t *map, size_t map_len, uint8_t count, uint8_t *out, size_t out_len);

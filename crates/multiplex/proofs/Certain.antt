@@ -1,6 +1,5 @@
 -- Whatever a map shows is a whole structure, and was announced away in no frame that was heard.
 --
---   shown-good, shown-whole    what number 0 with fields says of the map
 --   front-shows, next-shows    by the structure in force, and by the announced one
 --   never-wrong                the theorem, of our machine
 --
@@ -29,47 +28,14 @@ use Rattle.map.specs.declared.Shown.{Shown}
 use Rattle.multiplex.specs.Broadcast.{countAt, change, epoch, begun}
 use Rattle.multiplex.specs.Heard.{ours, fieldsFrom, shownFields}
 use Rattle.multiplex.specs.Air.{Air, timed, oldIn, later, lastOld, newTo, goneTo, coming, Said, nothing, described, deleted, Orderly}
-use Rattle.multiplex.specs.Sound.{kept, Listener, Quiet, Whole, NeverWrong}
+use Rattle.multiplex.specs.Sound.{kept, Listener, Quiet, there, wordFor, Whole, NeverWrong}
 use Rattle.multiplex.proofs.Standing.{present, deletion-head}
 use Rattle.multiplex.proofs.Seeing.{head-force, seen-force, head-coming, seen-coming}
 use Rattle.multiplex.proofs.Distances.{since-same, changes-epoch, epoch-either, epoch-mono, count-lt}
 use Rattle.multiplex.proofs.Knowing.{Front, some, all, Next, none, delete, piece, sure, full, QuietTo, Silent, Settled, stayed, told, ends, part-head, quiet-over}
 use Rattle.multiplex.proofs.Listening.{Known}
+use Rattle.multiplex.proofs.Asked.{shown-good, shown-whole, changing-now, next-now, same-now, not-blank}
 use Rattle.multiplex.proofs.Soundness.{State, silent, since-one, state-at}
-
--- ---- what is shown at all
-
-module _ (m : List ℕ) (id c : ℕ) (zero-number : shown m id c .number ≡ 0) where
-  answered : showAnswer m ≡ 0
-  unfolding shown shownBy
-  answered = go (showAnswer m) zero-number
-    where
-      go : (n : ℕ) → shownBy n (shownAt m id c) .number ≡ 0 → n ≡ 0
-      go zero e = refl
-      go (suc n) e = e
-
-  shown-good : good m ≡ true
-  unfolding showAnswer
-  shown-good =
-      let first = refusal-passed (not (eqb (length m) mapSize)) 20 _ (omega arith) answered .1 in
-      flipped (good m) (refusal-passed (not (good m)) 34 [] (omega arith) first .0)
-    where
-      flipped : (b : Bool) → not b ≡ false → b ≡ true
-      flipped true e = refl
-      flipped false e = sym e
-
-  shown-whole : (shownFields m id c ≡ [] → ⊥) → thenHead m id c .whole ≡ 1
-  unfolding shownFields shown shownBy shownAt foundOf fieldsFrom
-  shown-whole some-fields = go (ℕ-discrete (thenHead m id c .whole) 1)
-    where
-      is : shown m id c ≡ shownAt m id c
-      is = ap (λ (n : ℕ). shownBy n (shownAt m id c)) answered
-
-      go : Dec (thenHead m id c .whole ≡ 1) → thenHead m id c .whole ≡ 1
-      go (yes e) = e
-      go (no e) =
-          absurd (some-fields (ap (λ (x : Shown). fieldsFrom (x .len / 8) (x .at) m) is
-          ∙ ap (λ (b : Bool). fieldsFrom (cond b (8 * thenHead m id c .fields) 0 / 8) (shownAt m id c .at) m) (ne-eqb (thenHead m id c .whole) 1 e)))
 
 -- ---- by what is held
 
@@ -153,38 +119,14 @@ module _ (a : Air) (w : Orderly a) (hears : ℕ → Bool) (t : ℕ) (m : List �
     pub fields : shownFields m id c ≡ a .config from id
     pub quiet : Quiet a hears t from (epoch (timed a) v) id
 
+  changing-is : changing (framesOf m) c ≡ ltb e (epoch (timed a) v)
+  changing-is = changing-now a hears t m u k v lo hi
+
   gm : good m ≡ true
   gm = shown-good m id c zero-number
 
   whole-head : thenHead m id c .whole ≡ 1
   whole-head = shown-whole m id c zero-number some-fields
-
-  -- a change falls before the frame that is asked for exactly where the next configuration runs then
-  changing-is : changing (framesOf m) c ≡ ltb e (epoch (timed a) v)
-  unfolding changing changes
-  changing-is = ap (λ (x : Frames). changing x c) (k .frames) ∙ go (ℕ-discrete v t)
-    where
-      go : Dec (v ≡ t) → changes (countAt (timed a) t) c ≡ ltb e (epoch (timed a) v)
-      go (yes q) =
-          ap (λ (n : ℕ). changes (countAt (timed a) t) (countAt (timed a) n)) q
-          ∙ ap (ltb (ahead 2 (countAt (timed a) t))) (since-same (countAt (timed a) t)) ∙ le-ltb (ahead 2 (countAt (timed a) t)) 0 (omega arith)
-          ∙ sym (le-ltb e (epoch (timed a) v) (omega (arith, ap (epoch (timed a)) q)))
-      go (no q) =
-          let at : t + (v - t) ≡ v = omega arith in
-          subst (λ (n : ℕ). changes (countAt (timed a) t) (countAt (timed a) n) ≡ ltb e (epoch (timed a) n)) at
-          (changes-epoch (timed a) t (v - t) (omega (arith, q)) (omega arith))
-
-  next-is : ltb e (epoch (timed a) v) ≡ true → epoch (timed a) v ≡ suc e
-  next-is q =
-      let at : t + (v - t) ≡ v = omega arith in
-      go (subst (λ (n : ℕ). (epoch (timed a) n ≡ e) ⊎ (epoch (timed a) n ≡ suc e)) at (epoch-either (timed a) t (v - t) (omega arith)))
-    where
-      go : (epoch (timed a) v ≡ e) ⊎ (epoch (timed a) v ≡ suc e) → epoch (timed a) v ≡ suc e
-      go (inl z) = absurd (omega (arith, z, ltb-true e (epoch (timed a) v) q))
-      go (inr z) = z
-
-  same-is : ltb e (epoch (timed a) v) ≡ false → epoch (timed a) v ≡ e
-  same-is q = omega (arith, ltb-false e (epoch (timed a) v) q, epoch-mono (timed a) t v lo)
 
   quiet-shown : (j x : ℕ) → QuietTo a hears (suc t) j x id → Quiet a hears t j x id
   quiet-shown j x q y hy hh l h = q y (omega (arith, hy)) hh l h
@@ -205,7 +147,7 @@ module _ (a : Air) (w : Orderly a) (hears : ℕ → Bool) (t : ℕ) (m : List �
 
       go : (b : Bool) → ltb e (epoch (timed a) v) ≡ b → Shows
       go false z =
-          let on = same-is z in
+          let on = same-now a t v lo z in
           record {
             from = j;
             past = omega (arith, hj, on);
@@ -213,7 +155,7 @@ module _ (a : Air) (w : Orderly a) (hears : ℕ → Bool) (t : ℕ) (m : List �
             quiet = subst (λ (x : ℕ). Quiet a hears t j x id) (sym on) (quiet-shown j e quiet);
           }
       go true z =
-          let on = next-is z in
+          let on = next-now a t v lo hi z in
           let unsaid : said (announced id m) ≡ false = sym (ap (λ (b : Bool). b && said (announced id m)) (changing-is ∙ z)) ∙ q in
           record {
             from = j;
@@ -248,7 +190,7 @@ module _ (a : Air) (w : Orderly a) (hears : ℕ → Bool) (t : ℕ) (m : List �
 
   next-shows : (changing (framesOf m) c && said (announced id m)) ≡ true → Shows
   next-shows q =
-      let on : epoch (timed a) v ≡ suc e = next-is (sym changing-is ∙ and-left (changing (framesOf m) c) _ q) in
+      let on : epoch (timed a) v ≡ suc e = next-now a t v lo hi (sym changing-is ∙ and-left (changing (framesOf m) c) _ q) in
       let su = allHeard (framesOf m) in
       let head = ap (λ (h : Structure). h .whole) (sym (head-coming m id c (k .size) gm q su refl)) ∙ whole-head in
       let f = complete a hears (suc t) e id _ _ _ _ u (structureAt id 1 m) su (k .next id hid) all-told head in
@@ -268,16 +210,36 @@ module _ (a : Air) (w : Orderly a) (hears : ℕ → Bool) (t : ℕ) (m : List �
 
 -- ---- the theorem
 
+-- what is held behind a frame that is heard
+record Kept (a : Air) (hears : ℕ → Bool) (t : ℕ) : Type 0 where
+  unbroken : Bool
+  holds : Known a hears t (kept ours a hears (suc t)) unbroken
+
 pub never-wrong : NeverWrong ours
 unfolding ours
-never-wrong = record { sound = λ a w hears L t v id ht lo hi hid number fields. go a w hears L t v id ht lo hi hid number fields (state-at a w hears L (suc t)) }
+never-wrong = record {
+  sound = λ a w hears L t v id ht lo hi hid number fields. whole a w hears t v id lo hi hid number fields (known a w hears L t ht);
+  blank = λ a w hears L t v id ht lo hi hid number fields last. none a hears t v id lo hi hid number fields last (known a w hears L t ht);
+}
   where
-    go : (a : Air) (w : Orderly a) (hears : ℕ → Bool) (L : Listener ours a hears) (t v id : ℕ) → hears t ≡ true → t ≤ v → v ≤ t + 128 → id < ids
+    known : (a : Air) (w : Orderly a) (hears : ℕ → Bool) (L : Listener ours a hears) (t : ℕ) → hears t ≡ true → Kept a hears t
+    known a w hears L t ht = go (state-at a w hears L (suc t))
+      where
+        go : State a hears (suc t) (kept ours a hears (suc t)) → Kept a hears t
+        go (silent z q) = absurd (q t (omega arith) ht)
+        go (since-one n u l gap f any k) =
+            let same : n ≡ t = omega (arith, l, gap t (omega arith) ht) in
+            record { unbroken = u; holds = subst (λ (x : ℕ). Known a hears x (kept ours a hears (suc t)) u) same k }
+
+    whole : (a : Air) (w : Orderly a) (hears : ℕ → Bool) (t v id : ℕ) → t ≤ v → v ≤ t + 128 → id < ids
         → shown (kept ours a hears (suc t)) id (countAt (timed a) v) .number ≡ 0
-        → (shownFields (kept ours a hears (suc t)) id (countAt (timed a) v) ≡ [] → ⊥)
-        → State a hears (suc t) (kept ours a hears (suc t)) → Whole ours a hears t v id
-    go a w hears L t v id ht lo hi hid number fields (silent z q) = absurd (q t (omega arith) ht)
-    go a w hears L t v id ht lo hi hid number fields (since-one n u l gap c any k) =
-        let same : n ≡ t = omega (arith, l, gap t (omega arith) ht) in
-        let s = shows a w hears t (kept ours a hears (suc t)) u (subst (λ (x : ℕ). Known a hears x (kept ours a hears (suc t)) u) same k) v id hid lo hi number fields in
+        → (shownFields (kept ours a hears (suc t)) id (countAt (timed a) v) ≡ [] → ⊥) → Kept a hears t → Whole ours a hears t v id
+    whole a w hears t v id lo hi hid number fields x =
+        let s = shows a w hears t (kept ours a hears (suc t)) (x .unbroken) (x .holds) v id hid lo hi number fields in
         record { from = s .from; past = s .past; fields = s .fields; quiet = s .quiet }
+
+    none : (a : Air) (hears : ℕ → Bool) (t v id : ℕ) → t ≤ v → v ≤ t + 128 → id < ids
+        → shown (kept ours a hears (suc t)) id (countAt (timed a) v) .number ≡ 0
+        → shownFields (kept ours a hears (suc t)) id (countAt (timed a) v) ≡ [] → wordFor a hears id t v ≡ there → Kept a hears t → ⊥
+    none a hears t v id lo hi hid number fields last x =
+        not-blank a hears t (kept ours a hears (suc t)) (x .unbroken) (x .holds) v id hid lo hi number fields last

@@ -26,7 +26,7 @@ fitting t w p d = record { width = lit< w; pairs = p; stays = d }
 pub none-linked : Linked []
 none-linked = record { few = lit≤ tt; fit = λ i h. absurd (omega arith); rising = λ i h. absurd (omega arith) }
 
-one-linked : (x : ℕ) → Fit x → Linked (x ∷ [])
+pub one-linked : (x : ℕ) → Fit x → Linked (x ∷ [])
 one-linked x f = record { few = lit≤ tt; fit = fits; rising = λ i h. absurd (omega arith) }
   where
     fits : (i : ℕ) → i < 1 → Fit (getD (x ∷ []) i 0)

@@ -1,3 +1,4 @@
+pub mod Asked
 pub mod Certain
 pub mod Counting
 pub mod Distances
@@ -5,6 +6,7 @@ pub mod Knowing
 pub mod Listening
 pub mod Reaching
 pub mod Soundness
+pub mod Words
 pub mod Standing
 pub mod Steps
 pub mod Taking
@@ -16,3 +18,4 @@ pub mod Keeping
 pub mod Examples
 pub mod Steady
 pub mod Refuting
+pub mod Unsure

@@ -33,7 +33,8 @@ use Rattle.map.proofs.Places.{structure-length, structure-same, structure-other
 use Rattle.map.proofs.Changing.{blank-empty, part-blank, gap-length, gap-structure, from-length}
 use Rattle.multiplex.specs.Broadcast.{Broadcast, countAt, change, epoch, begun, Linked}
 use Rattle.multiplex.specs.Air.{Carries, new, old, gone, vectors, Air, timed, carriedAs, fieldOn, newIn, oldIn, goneIn, later, same, lastOld, lastNew, linkOf, linksNew, one, newBefore, newTo, goneBefore, goneTo, inForce, coming, InTurn, Said, nothing, described, deleted, Orderly}
-use Rattle.multiplex.specs.Sound.{announces}
+use Rattle.multiplex.specs.Sound.{announces, Word, unheard, absent, there, over, presentIn, comingIn, comingBefore, comingTo, presentBefore, presentTo}
+use Rattle.multiplex.proofs.Words.{Words, words-as, words-force, words-dropped, words-told, words-ends, some-old, some-new}
 use Rattle.multiplex.proofs.Standing.{deletion-length}
 use Rattle.multiplex.proofs.Knowing.{Front, some, all, Next, none, delete, piece, sure, full, QuietTo, Silent, Settled, stayed, told, ends, front-gap, next-gap, front-unsure, front-sure, silent-on, front-on, front-old, next-on, next-new}
 
@@ -55,6 +56,8 @@ pub record Known (a : Air) (hears : ℕ → Bool) (t : ℕ) (m : List ℕ) (u : 
   pub front : (id : ℕ) → id < ids → Front a hears (suc t) (epoch (timed a) t) id (oldLast a id t) (structureAt id 0 m)
   pub next : (id : ℕ) → id < ids
       → Next a hears (suc t) (epoch (timed a) t) id (newLast a id t) (newTo a id t) (linkLast a id t) (goneTo a id t) u (structureAt id 1 m)
+  pub heard : hears t ≡ true
+  pub words : (id : ℕ) → id < ids → Words (presentTo a hears id t) (comingTo a hears id t) (structureAt id 0 m) (structureAt id 1 m)
 
 pub record Before (a : Air) (hears : ℕ → Bool) (t : ℕ) (m : List ℕ) (u : Bool) : Type 0 where
   pub size : length m ≡ mapSize
@@ -62,6 +65,7 @@ pub record Before (a : Air) (hears : ℕ → Bool) (t : ℕ) (m : List ℕ) (u :
   pub front : (id : ℕ) → id < ids → Front a hears t (epoch (timed a) t) id (lastOld a id t) (structureAt id 0 m)
   pub next : (id : ℕ) → id < ids
       → Next a hears t (epoch (timed a) t) id (lastNew a id t) (newBefore a id t) (linksNew a id t) (goneBefore a id t) u (structureAt id 1 m)
+  pub words : (id : ℕ) → id < ids → Words (presentBefore a hears id t) (comingBefore a hears id t) (structureAt id 0 m) (structureAt id 1 m)
 
 pub front-as : (a : Air) (hears : ℕ → Bool) (n e id due : ℕ) (s : List ℕ) (e' due' : ℕ) → e ≡ e' → due ≡ due'
     → Front a hears n e id due s → Front a hears n e' id due' s
@@ -114,6 +118,10 @@ module _ (a : Air) (w : Orderly a) (hears : ℕ → Bool) (t : ℕ) (m : List �
   abbrev now : ℕ
   now = epoch (timed a) t
 
+  -- what was heard of a component, and what the map has of it, when the frame is heard
+  abbrev WordsAt : Carries → ℕ → List ℕ → List ℕ → Type 0
+  WordsAt c id F A = Words (over (presentIn id c) (presentBefore a hears id t)) (over (comingIn id c) (comingBefore a hears id t)) F A
+
   -- what is held when the field is taken in, but for the frames that were heard
   record Taken (c : Carries) (x : List ℕ) : Type 0 where
     pub size : length x ≡ mapSize
@@ -121,6 +129,7 @@ module _ (a : Air) (w : Orderly a) (hears : ℕ → Bool) (t : ℕ) (m : List �
     pub next : (id : ℕ) → id < ids
         → Next a hears (suc t) now id (later (newIn id c) (lastNew a id t)) (newBefore a id t + one (newIn id c))
         (cond (eqb (newIn id c) 0) (linksNew a id t) (linkOf c)) (goneBefore a id t || goneIn id c) u (structureAt id 1 x)
+    pub words : (id : ℕ) → id < ids → WordsAt c id (structureAt id 0 x) (structureAt id 1 x)
 
   -- the announced structure of one component, by its bytes
   abbrev AtIs : Carries → ℕ → List ℕ → Type 0
@@ -145,6 +154,14 @@ module _ (a : Air) (w : Orderly a) (hears : ℕ → Bool) (t : ℕ) (m : List �
     put-long : length (withStructure k v s m) ≡ mapSize
     put-long = with-structure-length m (h .size) k v s hk hv ls
 
+    -- what was heard of the others, and of the structure that stays
+    words-off : (c : Carries) (id : ℕ) → id < ids → (id ≡ k → ⊥) → presentIn id c ≡ unheard → comingIn id c ≡ unheard
+        → WordsAt c id (structureAt id 0 (withStructure k v s m)) (structureAt id 1 (withStructure k v s m))
+    unfolding over
+    words-off c id hid e pu cu =
+        words-as (h .words id hid) (sym (ap (λ (x : Word). over x (presentBefore a hears id t)) pu)) (sym (ap (λ (x : Word). over x (comingBefore a hears id t)) cu))
+        (sym (put-off id 0 (lit< tt) (λ p q. e p))) (sym (put-off id 1 (lit< tt) (λ p q. e p)))
+
   pick : {A : Type 0} (x y : ℕ) → (x ≡ y → A) → ((x ≡ y → ⊥) → A) → A
   pick {A} x y f g = go (ℕ-discrete x y)
     where
@@ -160,7 +177,7 @@ module _ (a : Air) (w : Orderly a) (hears : ℕ → Bool) (t : ℕ) (m : List �
 
   taken-new : (k i l : ℕ) → a .carries t ≡ new k i l → InTurn a t (new k i l)
       → Taken (new k i l) (withStructure k 1 (gather k 1 (getD (coming a t k) i 0) l) m)
-  unfolding newIn oldIn goneIn linkOf later InTurn
+  unfolding newIn oldIn goneIn linkOf later InTurn over presentIn comingIn
   taken-new k i l is law =
       let hk = law .0 in
       let s = gather k 1 (getD (coming a t k) i 0) l in
@@ -174,8 +191,22 @@ module _ (a : Air) (w : Orderly a) (hears : ℕ → Bool) (t : ℕ) (m : List �
             (λ e. subst (λ (j : ℕ). At (new k i l) j (withStructure k 1 s m)) (sym e) (here hk ls))
             (λ e. subst (λ (x : List ℕ). AtIs (new k i l) id x) (sym (put-off k 1 hk (lit< tt) s ls id 1 (lit< tt) (λ p q. e p)))
             (next-plain a hears t id (new k i l) is u (structureAt id 1 m) (ap (λ (b : Bool). cond b (suc i) 0) (ne-eqb k id (λ q. e (sym q)))) refl (h .next id hid)));
+        words = λ id hid. pick id k
+            (λ e. subst (λ (j : ℕ). WordsAt (new k i l) j (structureAt j 0 (withStructure k 1 s m)) (structureAt j 1 (withStructure k 1 s m))) (sym e) (heard-new hk ls))
+            (λ e. words-off k 1 hk (lit< tt) s ls (new k i l) id hid e refl (ap (λ (b : Bool). cond b there unheard) (ne-eqb k id (λ q. e (sym q)))));
       }
     where
+      heard-new : (hk : k < ids) → length (gather k 1 (getD (coming a t k) i 0) l) ≡ structureSize
+          → WordsAt (new k i l) k (structureAt k 0 (withStructure k 1 (gather k 1 (getD (coming a t k) i 0) l) m))
+          (structureAt k 1 (withStructure k 1 (gather k 1 (getD (coming a t k) i 0) l) m))
+      heard-new hk ls =
+          let s = gather k 1 (getD (coming a t k) i 0) l in
+          let some-s = some-new a hears t now k _ _ _ _ u (structureAt k 1 m) (getD (coming a t k) i 0) l (h .next k hk) (omega (arith, law .1 .0))
+          (omega (arith, w .linked (suc now) k hk .fit i (law .1 .0) .width)) in
+          words-as (words-told _ _ _ _ s (h .words k hk) some-s) refl
+          (sym (ap (λ (b : Bool). over (cond b there unheard) (comingBefore a hears k t)) (eq-eqb k k refl)))
+          (sym (put-off k 1 hk (lit< tt) s ls k 0 (lit< tt) (λ p q. omega (arith, q)))) (sym (put-at k 1 hk (lit< tt) s ls))
+
       here : (hk : k < ids) → length (gather k 1 (getD (coming a t k) i 0) l) ≡ structureSize
           → At (new k i l) k (withStructure k 1 (gather k 1 (getD (coming a t k) i 0) l) m)
       here hk ls =
@@ -191,7 +222,7 @@ module _ (a : Air) (w : Orderly a) (hears : ℕ → Bool) (t : ℕ) (m : List �
 
   taken-old : (k i l : ℕ) → a .carries t ≡ old k i l → InTurn a t (old k i l)
       → Taken (old k i l) (withStructure k 0 (gather k 0 (getD (inForce a t k) i 0) l) m)
-  unfolding newIn oldIn goneIn later InTurn
+  unfolding newIn oldIn goneIn later InTurn over presentIn comingIn
   taken-old k i l is law =
       let hk = law .0 in
       let s = gather k 0 (getD (inForce a t k) i 0) l in
@@ -207,8 +238,22 @@ module _ (a : Air) (w : Orderly a) (hears : ℕ → Bool) (t : ℕ) (m : List �
         next = λ id hid.
             subst (λ (x : List ℕ). AtIs (old k i l) id x) (sym (put-off k 0 hk (lit< tt) s ls id 1 (lit< tt) (λ p q. omega (arith, q))))
             (next-plain a hears t id (old k i l) is u (structureAt id 1 m) refl refl (h .next id hid));
+        words = λ id hid. pick id k
+            (λ e. subst (λ (j : ℕ). WordsAt (old k i l) j (structureAt j 0 (withStructure k 0 s m)) (structureAt j 1 (withStructure k 0 s m))) (sym e) (heard-old hk ls))
+            (λ e. words-off k 0 hk (lit< tt) s ls (old k i l) id hid e (ap (λ (b : Bool). cond b there unheard) (ne-eqb k id (λ q. e (sym q)))) refl);
       }
     where
+      heard-old : (hk : k < ids) → length (gather k 0 (getD (inForce a t k) i 0) l) ≡ structureSize
+          → WordsAt (old k i l) k (structureAt k 0 (withStructure k 0 (gather k 0 (getD (inForce a t k) i 0) l) m))
+          (structureAt k 1 (withStructure k 0 (gather k 0 (getD (inForce a t k) i 0) l) m))
+      heard-old hk ls =
+          let s = gather k 0 (getD (inForce a t k) i 0) l in
+          let some-s = some-old a hears t now k _ (structureAt k 0 m) (getD (inForce a t k) i 0) l (h .front k hk)
+          (omega (arith, w .linked now k hk .fit i (law .1 .0) .width)) in
+          words-as (words-force _ _ _ _ s (h .words k hk) some-s)
+          (sym (ap (λ (b : Bool). over (cond b there unheard) (presentBefore a hears k t)) (eq-eqb k k refl))) refl
+          (sym (put-at k 0 hk (lit< tt) s ls)) (sym (put-off k 0 hk (lit< tt) s ls k 1 (lit< tt) (λ p q. omega (arith, q))))
+
       here : (hk : k < ids) → length (gather k 0 (getD (inForce a t k) i 0) l) ≡ structureSize
           → Front a hears (suc t) now k (later (oldIn k (old k i l)) (lastOld a k t)) (structureAt k 0 (withStructure k 0 (gather k 0 (getD (inForce a t k) i 0) l) m))
       here hk ls =
@@ -220,7 +265,7 @@ module _ (a : Air) (w : Orderly a) (hears : ℕ → Bool) (t : ℕ) (m : List �
 
   -- all ones: at once, or by the next change
   taken-gone : (k tdms l : ℕ) → a .carries t ≡ gone 0 k tdms l → k < ids → Taken (gone 0 k tdms l) (withStructure k 0 (blank structureSize) m)
-  unfolding newIn oldIn goneIn later
+  unfolding newIn oldIn goneIn later over presentIn comingIn
   taken-gone k tdms l is hk =
       let ls = blank-length structureSize in
       record {
@@ -233,10 +278,16 @@ module _ (a : Air) (w : Orderly a) (hears : ℕ → Bool) (t : ℕ) (m : List �
         next = λ id hid.
             subst (λ (x : List ℕ). AtIs (gone 0 k tdms l) id x) (sym (put-off k 0 hk (lit< tt) _ ls id 1 (lit< tt) (λ p q. omega (arith, q))))
             (next-plain a hears t id (gone 0 k tdms l) is u (structureAt id 1 m) refl refl (h .next id hid));
+        words = λ id hid. pick id k
+            (λ e. subst (λ (j : ℕ). WordsAt (gone 0 k tdms l) j (structureAt j 0 (withStructure k 0 (blank structureSize) m)) (structureAt j 1 (withStructure k 0 (blank structureSize) m))) (sym e)
+            (words-as (words-dropped _ _ _ _ (blank structureSize) (h .words k hk))
+            (sym (ap (λ (b : Bool). over (cond b absent unheard) (presentBefore a hears k t)) (eq-eqb k k refl))) refl
+            (sym (put-at k 0 hk (lit< tt) _ ls)) (sym (put-off k 0 hk (lit< tt) _ ls k 1 (lit< tt) (λ p q. omega (arith, q))))))
+            (λ e. words-off k 0 hk (lit< tt) _ ls (gone 0 k tdms l) id hid e (ap (λ (b : Bool). cond b absent unheard) (ne-eqb k id (λ q. e (sym q)))) refl);
       }
 
   taken-ends : (k tdms l : ℕ) → a .carries t ≡ gone 1 k tdms l → k < ids → coming a t k ≡ [] → Taken (gone 1 k tdms l) (withStructure k 1 deletion m)
-  unfolding newIn oldIn goneIn later
+  unfolding newIn oldIn goneIn later over presentIn comingIn
   taken-ends k tdms l is hk z =
       record {
         size = put-long k 1 hk (lit< tt) _ deletion-length;
@@ -248,14 +299,21 @@ module _ (a : Air) (w : Orderly a) (hears : ℕ → Bool) (t : ℕ) (m : List �
             (delete (put-at k 1 hk (lit< tt) _ deletion-length) z))
             (λ e. subst (λ (x : List ℕ). AtIs (gone 1 k tdms l) id x) (sym (put-off k 1 hk (lit< tt) _ deletion-length id 1 (lit< tt) (λ p q. e p)))
             (next-plain a hears t id (gone 1 k tdms l) is u (structureAt id 1 m) refl (ne-eqb k id (λ q. e (sym q))) (h .next id hid)));
+        words = λ id hid. pick id k
+            (λ e. subst (λ (j : ℕ). WordsAt (gone 1 k tdms l) j (structureAt j 0 (withStructure k 1 deletion m)) (structureAt j 1 (withStructure k 1 deletion m))) (sym e)
+            (words-as (words-ends _ _ _ _ deletion (h .words k hk)) refl
+            (sym (ap (λ (b : Bool). over (cond b absent unheard) (comingBefore a hears k t)) (eq-eqb k k refl)))
+            (sym (put-off k 1 hk (lit< tt) _ deletion-length k 0 (lit< tt) (λ p q. omega (arith, q)))) (sym (put-at k 1 hk (lit< tt) _ deletion-length))))
+            (λ e. words-off k 1 hk (lit< tt) _ deletion-length (gone 1 k tdms l) id hid e refl (ap (λ (b : Bool). cond b absent unheard) (ne-eqb k id (λ q. e (sym q)))));
       }
 
   taken-vectors : (flag tdms l : ℕ) → a .carries t ≡ vectors flag tdms l → Taken (vectors flag tdms l) m
-  unfolding newIn oldIn goneIn later
+  unfolding newIn oldIn goneIn later over presentIn comingIn
   taken-vectors flag tdms l is = record {
     size = h .size;
     front = λ id hid. front-plain a hears t id (vectors flag tdms l) is (structureAt id 0 m) refl (h .front id hid);
     next = λ id hid. next-plain a hears t id (vectors flag tdms l) is u (structureAt id 1 m) refl refl (h .next id hid);
+    words = h .words;
   }
 
   -- whatever the frame carries
@@ -284,10 +342,10 @@ module _ (a : Air) (w : Orderly a) (hears : ℕ → Bool) (t : ℕ) (m : List �
   taken-as (gone (suc (suc f)) k tdms l) is law = absurd (omega (arith, law .1 .1 .1 .1 .1 .flags))
   taken-as (vectors flag tdms l) is law = taken-vectors flag tdms l is
 
-  pub field-known : (f : Frames) → f ≡ record { last = countAt (timed a) t; heard = 1; unbroken = cond u 1 0 }
+  pub field-known : hears t ≡ true → (f : Frames) → f ≡ record { last = countAt (timed a) t; heard = 1; unbroken = cond u 1 0 }
       → Known a hears t (withFrames f (takenIn (fieldOn a t) m)) u
   unfolding fieldOn
-  field-known f e =
+  field-known heard f e =
       let k = taken-as (a .carries t) refl (w .turns t) in
       let x = takenIn (carriedAs a t (a .carries t)) m in
       record {
@@ -296,4 +354,9 @@ module _ (a : Air) (w : Orderly a) (hears : ℕ → Bool) (t : ℕ) (m : List �
         begun = h .begun;
         front = λ id hid. subst (Front a hears (suc t) now id _) (sym (structures-kept x (k .size) f id 0 hid (lit< tt))) (k .front id hid);
         next = λ id hid. subst (λ (y : List ℕ). AtIs (a .carries t) id y) (sym (structures-kept x (k .size) f id 1 hid (lit< tt))) (k .next id hid);
+        heard = heard;
+        words = λ id hid. words-as (k .words id hid)
+            (sym (ap (λ (b : Bool). over (cond b (presentIn id (a .carries t)) unheard) (presentBefore a hears id t)) heard))
+            (sym (ap (λ (b : Bool). over (cond b (comingIn id (a .carries t)) unheard) (comingBefore a hears id t)) heard))
+            (sym (structures-kept x (k .size) f id 0 hid (lit< tt))) (sym (structures-kept x (k .size) f id 1 hid (lit< tt)));
       }

@@ -19,12 +19,14 @@ use Rattle.structure.specs.Structure.{structureSize, spoiled}
 use Rattle.structure.proofs.Gathering.{Empty}
 use Rattle.structure.proofs.Runs.{empty}
 use Rattle.map.specs.Map.{ids, mapSize, blockSize, structureAt, eachFrom, changedFrom, spoiledBoth}
+use Rattle.map.proofs.Places.{structure-length}
 use Rattle.map.proofs.Changing.{blank-empty, part-blank, gap-length, gap-structure, from-length}
 use Rattle.multiplex.specs.Broadcast.{countAt, change, epoch, begun}
 use Rattle.multiplex.specs.Air.{Air, timed, newIn, oldIn, goneIn, later, same, lastOld, lastNew, linkOf, linksNew, one, newBefore, newTo, goneBefore, goneTo, inForce, coming, Said, nothing, described, deleted, Orderly}
-use Rattle.multiplex.specs.Sound.{announces}
+use Rattle.multiplex.specs.Sound.{announces, Word, unheard, over, presentIn, comingIn, comingBefore, comingTo, presentBefore, presentTo}
 use Rattle.multiplex.proofs.Distances.{epoch-step, epoch-mono}
 use Rattle.multiplex.proofs.Knowing.{Front, some, all, Next, none, delete, piece, sure, full, Silent, Settled, stayed, told, ends, front-gap, next-gap, front-unsure, front-sure}
+use Rattle.multiplex.proofs.Words.{Words, words-as, words-gap, words-change, unheard-there, Goes, goes-to}
 use Rattle.multiplex.proofs.Listening.{Known, Before, front-as, next-as}
 
 same-refl : (xs : List ℕ) → same xs xs ≡ true
@@ -59,6 +61,10 @@ module _ (a : Air) (w : Orderly a) (hears : ℕ → Bool) (t : ℕ) (m : List �
   abbrev e : ℕ
   e = epoch (timed a) t
 
+  -- what was heard last, behind frames that were missed or none
+  goes : (n : ℕ) → t < n → Gap hears t n → (id : ℕ) → Goes a hears id t n
+  goes n h gap id = goes-to a hears id t n (n - suc t) (omega arith) gap
+
   -- ---- the next frame
 
   pub near-same : change (timed a) (suc t) ≡ false → Before a hears (suc t) m u
@@ -75,6 +81,9 @@ module _ (a : Air) (w : Orderly a) (hears : ℕ → Bool) (t : ℕ) (m : List �
             (linksNew a id (suc t)) (goneBefore a id (suc t)) (sym on)
             (sym (ap (λ (b : Bool). cond b 0 (later (newIn id (a .carries t)) (lastNew a id t))) c))
             (sym (ap (λ (b : Bool). cond b 0 (newTo a id t)) c)) refl (sym (ap (λ (b : Bool). cond b false (goneTo a id t)) c)) (k .next id hid);
+        words = λ id hid.
+            let g = goes (suc t) (omega arith) (λ v hv hh. hv) id .before on in
+            words-as (k .words id hid) (sym (g .1)) (sym (g .0)) refl refl;
       }
     where
       or-yes : (x : Bool) → (x || true) ≡ true
@@ -122,11 +131,15 @@ module _ (a : Air) (w : Orderly a) (hears : ℕ → Bool) (t : ℕ) (m : List �
         next = λ id hid. fresh (suc t) (λ v hv hh. hv) on true
             (λ j z. (ap (λ (b : Bool). cond b 0 (newTo a j t)) c, (ap (λ (b : Bool). cond b false (goneTo a j t)) c, ap (λ (b : Bool). cond b 0 (later (newIn j (a .carries t)) (lastNew a j t))) c)))
             id _ (change-both c on id hid u refl .1);
+        words = λ id hid.
+            let g = goes (suc t) (omega arith) (λ v hv hh. hv) id .behind on in
+            words-as (words-change a hears (suc t) e id _ _ _ _ u u m (k .size) hid (k .next id hid) _ _ (k .words id hid) (change-both c on id hid u refl .1))
+            (sym (g .1)) (sym (g .0)) refl refl;
       }
 
   -- ---- frames are missed
 
-  module _ (n : ℕ) (gap : Gap hears t n) where
+  module _ (n : ℕ) (later-on : t < n) (gap : Gap hears t n) where
     abbrev gaps : List ℕ
     gaps = eachFrom ids 0 spoiledBoth m
 
@@ -137,6 +150,11 @@ module _ (a : Air) (w : Orderly a) (hears : ℕ → Bool) (t : ℕ) (m : List �
     gap-next id hid due count links g =
         subst (Next a hears (suc t) e id due count links g false) (sym (gap-structure m (k .size) id 1 hid (lit< tt)))
         (next-gap a hears (suc t) e id _ _ _ _ u _ (k .next id hid) due count links g)
+
+    gap-words : (id : ℕ) → id < ids → Words (presentTo a hears id t) (comingTo a hears id t) (structureAt id 0 gaps) (structureAt id 1 gaps)
+    gap-words id hid =
+        words-as (words-gap _ _ _ _ (structure-length m (k .size) id 0 hid (lit< tt)) (structure-length m (k .size) id 1 hid (lit< tt)) (k .words id hid)) refl refl
+        (sym (gap-structure m (k .size) id 0 hid (lit< tt))) (sym (gap-structure m (k .size) id 1 hid (lit< tt)))
 
     no : {A : Type 0} → false ≡ true → A
     no z = absurd (subst T (sym z) tt)
@@ -149,6 +167,9 @@ module _ (a : Air) (w : Orderly a) (hears : ℕ → Bool) (t : ℕ) (m : List �
           (front-later a hears t n gap e id _ _ (gap-front id hid (lastOld a id n)));
       next = λ id hid. subst (λ (x : ℕ). Next a hears n x id (lastNew a id n) (newBefore a id n) (linksNew a id n) (goneBefore a id n) false (structureAt id 1 gaps)) (sym on)
           (next-later a hears t n gap e id _ _ _ _ false _ (gap-next id hid (lastNew a id n) (newBefore a id n) (linksNew a id n) (goneBefore a id n)));
+      words = λ id hid.
+          let g = goes n later-on gap id .before on in
+          words-as (gap-words id hid) (sym (g .1)) (sym (g .0)) refl refl;
     }
 
     far-both : (id : ℕ) → id < ids
@@ -166,6 +187,10 @@ module _ (a : Air) (w : Orderly a) (hears : ℕ → Bool) (t : ℕ) (m : List �
           front = λ id hid. subst (λ (x : ℕ). Front a hears n x id (lastOld a id n) (structureAt id 0 (changedFrom ids 0 false gaps))) (sym on)
               (front-later a hears t n gap (suc e) id _ _ (far-both id hid .0));
           next = λ id hid. fresh n gap on false (λ j z. no z) id _ (far-both id hid .1);
+          words = λ id hid.
+              let g = goes n later-on gap id .behind on in
+              words-as (words-change a hears (suc t) e id 0 0 0 false false false gaps lg hid (gap-next id hid 0 0 0 false) _ _ (gap-words id hid) (far-both id hid .1))
+              (sym (g .1)) (sym (g .0)) refl refl;
         }
 
 -- ---- nothing was heard before
@@ -187,10 +212,45 @@ none-yet a (suc n) id c = (
   (ap (λ (b : Bool). cond b false (goneTo a id n)) c, ap (λ (b : Bool). cond b 0 (later (newIn id (a .carries n)) (lastNew a id n))) c),
 )
 
+-- nothing was heard of any
+unspoken : (a : Air) (hears : ℕ → Bool) (id t : ℕ) → ((v : ℕ) → v < t → hears v ≡ true → ⊥) → (presentBefore a hears id t ≡ unheard) × (comingBefore a hears id t ≡ unheard)
+unfolding presentBefore comingBefore over
+unspoken a hears id zero quiet = (refl, refl)
+unspoken a hears id (suc t) quiet = go (hears t) refl (unspoken a hears id t (λ v hv hh. quiet v (omega (arith, hv)) hh))
+  where
+    go : (b : Bool) → hears t ≡ b → (presentBefore a hears id t ≡ unheard) × (comingBefore a hears id t ≡ unheard)
+        → (presentBefore a hears id (suc t) ≡ unheard) × (comingBefore a hears id (suc t) ≡ unheard)
+    go true e r = absurd (quiet t (omega arith) e)
+    go false e r = both (change (timed a) (suc t)) refl
+      where
+        p : presentTo a hears id t ≡ unheard
+        p = ap (λ (b : Bool). over (cond b (presentIn id (a .carries t)) unheard) (presentBefore a hears id t)) e ∙ r .0
+
+        c : comingTo a hears id t ≡ unheard
+        c = ap (λ (b : Bool). over (cond b (comingIn id (a .carries t)) unheard) (comingBefore a hears id t)) e ∙ r .1
+
+        both : (b : Bool) → change (timed a) (suc t) ≡ b → (presentBefore a hears id (suc t) ≡ unheard) × (comingBefore a hears id (suc t) ≡ unheard)
+        both true q = (
+          ap (λ (b : Bool). cond b (over (comingTo a hears id t) (presentTo a hears id t)) (presentTo a hears id t)) q ∙ ap₂ over c p,
+          ap (λ (b : Bool). cond b unheard (comingTo a hears id t)) q,
+        )
+        both false q = (
+          ap (λ (b : Bool). cond b (over (comingTo a hears id t) (presentTo a hears id t)) (presentTo a hears id t)) q ∙ p,
+          ap (λ (b : Bool). cond b unheard (comingTo a hears id t)) q ∙ c,
+        )
+
 pub first-before : (a : Air) (hears : ℕ → Bool) (t : ℕ) → ((v : ℕ) → v < t → hears v ≡ true → ⊥) → Before a hears t (blank mapSize) (change (timed a) t)
 first-before a hears t quiet = record {
   size = blank-length mapSize;
   begun = starts a t;
   front = λ id hid. some (empty (blank-structure id 0 hid (lit< tt)));
   next = λ id hid. none (blank-structure id 1 hid (lit< tt)) (none-yet a t id) (λ v hv hh z. absurd (quiet v hv hh));
+  words = λ id hid.
+      let r = unspoken a hears id t quiet in
+      let em = blank-structure id 1 hid (lit< tt) in
+      record {
+        present = λ q. unheard-there (sym (r .0) ∙ q);
+        coming = λ q. unheard-there (sym (r .1) ∙ q);
+        nothing = λ q. (em .fields, em .deleted);
+      };
 }

@@ -74,7 +74,8 @@ framesAt a t u = record { last = countAt (timed a) t; heard = 1; unbroken = cond
 
 -- ---- one frame
 
-module _ (a : Air) (w : Orderly a) (hears : ℕ → Bool) (t : ℕ) (m : List ℕ) (not-refused : takeAnswer m (fieldBytes (fieldOn a t)) ≡ 0) where
+module _ (a : Air) (w : Orderly a) (hears : ℕ → Bool) (t : ℕ) (m : List ℕ) (not-refused : takeAnswer m (fieldBytes (fieldOn a t)) ≡ 0)
+    (heard : hears t ≡ true) where
   take-known : (M : List ℕ) (u : Bool) → Before a hears t M u → upTo m (countAt (timed a) t) ≡ M → again (framesOf m) (countAt (timed a) t) ≡ false
       → framesAfter (framesOf m) (countAt (timed a) t) ≡ framesAt a t u → Known a hears t (takeAfter m (fieldBytes (fieldOn a t))) u
   unfolding takeAfter frameTaken
@@ -86,12 +87,12 @@ module _ (a : Air) (w : Orderly a) (hears : ℕ → Bool) (t : ℕ) (m : List �
       done-passed (takeAnswer m (fieldBytes r)) (frameTaken m (fieldOf (fieldBytes r))) m not-refused ∙ ap (frameTaken m) back
       ∙ ap (λ (c : ℕ). cond (again (framesOf m) c) m (withFrames (framesAfter (framesOf m) c) (takenIn r (upTo m c)))) (s .count)
       ∙ (λ i. cond (fresh i) m (withFrames (framesAfter (framesOf m) (countAt (timed a) t)) (takenIn r (up i)))) in
-      subst (λ (x : List ℕ). Known a hears t x u) (sym is) (field-known a w hears t M u h _ then)
+      subst (λ (x : List ℕ). Known a hears t x u) (sym is) (field-known a w hears t M u h heard _ then)
 
 -- ---- from the last frame that was heard
 
 module _ (a : Air) (w : Orderly a) (hears : ℕ → Bool) (T g : ℕ) (pos : 0 < g) (most : g ≤ 128) (m : List ℕ) (u : Bool) (k : Known a hears T m u)
-    (not-refused : takeAnswer m (fieldBytes (fieldOn a (T + g))) ≡ 0) (gap : Gap hears T (T + g)) where
+    (not-refused : takeAnswer m (fieldBytes (fieldOn a (T + g))) ≡ 0) (gap : Gap hears T (T + g)) (heard : hears (T + g) ≡ true) where
   abbrev t : ℕ
   t = T + g
 
@@ -161,10 +162,10 @@ module _ (a : Air) (w : Orderly a) (hears : ℕ → Bool) (T g : ℕ) (pos : 0 <
       go : skips (framesOf m) c ≡ true → (epoch (timed a) t ≡ epoch (timed a) T) ⊎ (epoch (timed a) t ≡ suc (epoch (timed a) T))
           → Known a hears t (takeAfter m (fieldBytes (fieldOn a t))) false
       go s (inl e) =
-          take-known a w hears t m not-refused _ false (far-same a w hears T m u k t gap e)
+          take-known a w hears t m not-refused heard _ false (far-same a w hears T m u k t (omega arith) gap e)
           (up-to false true false (changing-is ∙ le-ltb (epoch (timed a) T) (epoch (timed a) t) (omega (arith, e))) s (sure-far s)) fresh (frames-far s)
       go s (inr e) =
-          take-known a w hears t m not-refused _ false (far-change a w hears T m u k t gap e)
+          take-known a w hears t m not-refused heard _ false (far-change a w hears T m u k t (omega arith) gap e)
           (up-to true true false (changing-is ∙ lt-ltb (epoch (timed a) T) (epoch (timed a) t) (omega (arith, e))) s (sure-far s)) fresh (frames-far s)
 
   near : g ≡ 1 → t ≡ suc T → Known a hears t (takeAfter m (fieldBytes (fieldOn a t))) (cond (change (timed a) t) true u)
@@ -178,19 +179,19 @@ module _ (a : Air) (w : Orderly a) (hears : ℕ → Bool) (T g : ℕ) (pos : 0 <
       go : skips (framesOf m) c ≡ false → (x : Bool) → change (timed a) t ≡ x → Known a hears t (takeAfter m (fieldBytes (fieldOn a t))) (cond x true u)
       go s true q =
           let up : epoch (timed a) t ≡ suc (epoch (timed a) T) = ap (epoch (timed a)) e ∙ epoch-step (timed a) T true (back true q) in
-          take-known a w hears t m not-refused _ true
+          take-known a w hears t m not-refused heard _ true
           (subst (λ (n : ℕ). Before a hears n (changedFrom ids 0 u m) true) (sym e) (near-change a w hears T m u k (back true q)))
           (up-to true false u (changing-is ∙ lt-ltb (epoch (timed a) T) (epoch (timed a) t) (omega (arith, up))) s (sure-near s)) fresh (frames-near s true q)
       go s false q =
           let up : epoch (timed a) t ≡ epoch (timed a) T = ap (epoch (timed a)) e ∙ epoch-step (timed a) T false (back false q) in
-          take-known a w hears t m not-refused m u
+          take-known a w hears t m not-refused heard m u
           (subst (λ (n : ℕ). Before a hears n m u) (sym e) (near-same a w hears T m u k (back false q)))
           (up-to false false u (changing-is ∙ le-ltb (epoch (timed a) T) (epoch (timed a) t) (omega (arith, up))) s (sure-near s)) fresh (frames-near s false q)
 
 -- ---- the first frame
 
 module _ (a : Air) (w : Orderly a) (hears : ℕ → Bool) (t : ℕ) (quiet : (v : ℕ) → v < t → hears v ≡ true → ⊥)
-    (not-refused : takeAnswer (blank mapSize) (fieldBytes (fieldOn a t)) ≡ 0) where
+    (not-refused : takeAnswer (blank mapSize) (fieldBytes (fieldOn a t)) ≡ 0) (heard : hears t ≡ true) where
   blank-frames : framesOf (blank mapSize) ≡ record { last = 0; heard = 0; unbroken = 0 }
   unfolding framesOf
   blank-frames =
@@ -216,7 +217,7 @@ module _ (a : Air) (w : Orderly a) (hears : ℕ → Bool) (t : ℕ) (quiet : (v 
       ∙ ap (λ (b : Bool). record { last = countAt (timed a) t; heard = 1; unbroken = cond b 1 0 }) (begins-change (timed a) t)
 
   first-known : Known a hears t (takeAfter (blank mapSize) (fieldBytes (fieldOn a t))) (change (timed a) t)
-  first-known = take-known a w hears t (blank mapSize) not-refused (blank mapSize) (change (timed a) t) (first-before a hears t quiet) first-up first-fresh first-frames
+  first-known = take-known a w hears t (blank mapSize) not-refused heard (blank mapSize) (change (timed a) t) (first-before a hears t quiet) first-up first-fresh first-frames
 
 -- ---- all frames
 
@@ -250,7 +251,7 @@ module _ (a : Air) (w : Orderly a) (hears : ℕ → Bool) (L : Listener ours a h
   heard-step t e m ok (silent z q) =
       now (change (timed a) t)
       (subst (λ (x : List ℕ). Known a hears t (takeAfter x (fieldBytes (fieldOn a t))) (change (timed a) t)) (sym z)
-      (first-known a w hears t q (subst (λ (x : List ℕ). takeAnswer x (fieldBytes (fieldOn a t)) ≡ 0) z ok)))
+      (first-known a w hears t q (subst (λ (x : List ℕ). takeAnswer x (fieldBytes (fieldOn a t)) ≡ 0) z ok) e))
     where
       now : (u : Bool) → Known a hears t (takeAfter m (fieldBytes (fieldOn a t))) u → State a hears (suc t) (takeAfter m (fieldBytes (fieldOn a t)))
       now u k = since-one t u (omega arith) (λ v hv hh. hv) (ap (λ (b : Bool). cond b 0 (suc (missedBefore hears t))) e ∙ none t) (ap (λ (b : Bool). b || anyBefore hears t) e) k
@@ -273,11 +274,11 @@ module _ (a : Air) (w : Orderly a) (hears : ℕ → Bool) (L : Listener ours a h
 
       go : (g : ℕ) → 0 < g → g ≤ 128 → takeAnswer m (fieldBytes (fieldOn a (T + g))) ≡ 0 → Gap hears T (T + g) → hears (T + g) ≡ true → Dec (g ≡ 1)
           → State a hears (suc (T + g)) (takeAfter m (fieldBytes (fieldOn a (T + g))))
-      go g pos most not-refused away q (yes s) = now (T + g) q _ (near a w hears T g pos most m u k not-refused away s (one-on g s))
+      go g pos most not-refused away q (yes s) = now (T + g) q _ (near a w hears T g pos most m u k not-refused away q s (one-on g s))
         where
           one-on : (x : ℕ) → x ≡ 1 → T + x ≡ suc T
           one-on x p = omega (arith, p)
-      go g pos most not-refused away q (no s) = now (T + g) q false (far a w hears T g pos most m u k not-refused away (omega (arith, pos, s)))
+      go g pos most not-refused away q (no s) = now (T + g) q false (far a w hears T g pos most m u k not-refused away q (omega (arith, pos, s)))
 
   pub state-at : (t : ℕ) → State a hears t (kept ours a hears t)
   unfolding kept ours

@@ -4,13 +4,17 @@
 --   refusing     ours, but it refuses every field
 --   firstOnly    ours, but it keeps only the first field
 --   late         ours, but whatever frame it is asked for, it shows the one that has ended
+--   hasty        whatever field came last, it shows as the whole structure
+--   clinging     shows one structure of one field ever
 use mathlib.Core.Bool.{cond}
-use mathlib.Core.List.{[]}
+use mathlib.Core.List.{[], _∷_}
 use lib.Dec.{eqb}
 use Rattle.bits.specs.Bits.{blank}
+use Rattle.field.specs.Field.{fieldOf}
 use Rattle.map.specs.Map.{mapSize, framesOf}
 use Rattle.map.specs.Calls.{takeAnswer, takeAfter, shown}
 use Rattle.multiplex.specs.Heard.{Machine, shownFields}
+use Rattle.multiplex.specs.Example.{one}
 
 unfoldable pub deaf : Machine
 deaf = record {
@@ -54,4 +58,26 @@ late = record {
   fields = λ m id count. shownFields m id (framesOf m .last);
   announced = λ m id count. shown m id count .announced;
   frames = λ m id count. shown m id count .frames;
+}
+
+unfoldable pub hasty : Machine
+hasty = record {
+  start = [];
+  answer = λ m f. 0;
+  after = λ m f. f;
+  number = λ m id count. 0;
+  fields = λ m id count. fieldOf m .tdms ∷ [];
+  announced = λ m id count. 0;
+  frames = λ m id count. 0;
+}
+
+unfoldable pub clinging : Machine
+clinging = record {
+  start = [];
+  answer = λ m f. 0;
+  after = λ m f. m;
+  number = λ m id count. 0;
+  fields = λ m id count. one ∷ [];
+  announced = λ m id count. 0;
+  frames = λ m id count. 0;
 }

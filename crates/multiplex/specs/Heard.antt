@@ -65,7 +65,7 @@ pub record ShowsInForce (M : Machine) : Type 0 where
   pub ended : (b : Broadcast) → Followed b → (t id : ℕ) → id < ids → Shows M b t t id
   pub runs : (b : Broadcast) → Followed b → (t id : ℕ) → id < ids → Shows M b t (suc t) id
 
--- ---- announcements: "so that a move is seen when it is announced"
+-- ---- announcements
 
 unfoldable pub news : Broadcast → ℕ → ℕ → Bool
 news b t id = ltb 0 (through b id t) || goneThrough b id t

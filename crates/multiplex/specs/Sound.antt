@@ -4,17 +4,21 @@
 --   missedBefore, anyBefore     how many frames were missed since the last that was heard, and whether one was
 --   Listener M a hears     the frames that are heard are those that the machine takes in; up to 127 are missed in a row
 --   Quiet a hears t j e id      no frame that was heard up to t has announced a change of the component, from configuration j on to e
+--   Word               what was heard of a component last: nothing, that it is not there, or a field
+--   presentIn, comingIn     what a frame says of its present structure, and of the coming one
+--   presentTo, comingTo     what was heard last up to a frame; what was heard of the coming one counts from its change on
+--   wordFor            the same, for the frame that is asked for
 --   NeverWrong M
 use mathlib.Core.Path.{_≡_}
-use mathlib.Core.Bool.{Bool, true, false, cond, _||_}
+use mathlib.Core.Bool.{Bool, true, false, cond, _&&_, _||_}
 use mathlib.Core.List.{List, []}
 use Prim.Native.Nat.{ℕ, zero, suc, _+_, _≤_, _<_}
-use lib.Dec.{eqb}
+use lib.Dec.{ltb, eqb}
 use Rattle.field.specs.Field.{fieldBytes}
 use Rattle.map.specs.Map.{ids}
-use Rattle.multiplex.specs.Broadcast.{countAt, epoch}
+use Rattle.multiplex.specs.Broadcast.{countAt, change, epoch}
 use Rattle.multiplex.specs.Heard.{Machine}
-use Rattle.multiplex.specs.Air.{Carries, Air, timed, fieldOn, newIn, goneIn, Orderly}
+use Rattle.multiplex.specs.Air.{Carries, new, old, gone, vectors, Air, timed, fieldOn, newIn, goneIn, Orderly}
 
 unfoldable pub kept : Machine → Air → (ℕ → Bool) → ℕ → List ℕ
 kept M a hears zero = M .start
@@ -43,6 +47,52 @@ abbrev pub Quiet : Air → (ℕ → Bool) → ℕ → ℕ → ℕ → ℕ → Ty
 Quiet a hears t j e id =
     (v : ℕ) → v ≤ t → hears v ≡ true → j ≤ epoch (timed a) v → epoch (timed a) v < e → announces id (a .carries v) ≡ false
 
+-- ---- what was heard last
+
+pub data Word : Type 0 where
+  unheard : Word
+  absent : Word
+  there : Word
+
+unfoldable pub over : Word → Word → Word
+over unheard before = before
+over absent before = absent
+over there before = there
+
+unfoldable pub presentIn : ℕ → Carries → Word
+presentIn id (new k i l) = unheard
+presentIn id (old k i l) = cond (eqb k id) there unheard
+presentIn id (gone flag k t l) = cond (eqb flag 0 && eqb k id) absent unheard
+presentIn id (vectors flag t l) = unheard
+
+unfoldable pub comingIn : ℕ → Carries → Word
+comingIn id (new k i l) = cond (eqb k id) there unheard
+comingIn id (old k i l) = unheard
+comingIn id (gone flag k t l) = cond (eqb flag 1 && eqb k id) absent unheard
+comingIn id (vectors flag t l) = unheard
+
+unfoldable pub comingBefore : Air → (ℕ → Bool) → ℕ → ℕ → Word
+comingBefore a hears id zero = unheard
+comingBefore a hears id (suc t) =
+    cond (change (timed a) (suc t)) unheard (over (cond (hears t) (comingIn id (a .carries t)) unheard) (comingBefore a hears id t))
+
+abbrev pub comingTo : Air → (ℕ → Bool) → ℕ → ℕ → Word
+comingTo a hears id t = over (cond (hears t) (comingIn id (a .carries t)) unheard) (comingBefore a hears id t)
+
+unfoldable pub presentBefore : Air → (ℕ → Bool) → ℕ → ℕ → Word
+presentBefore a hears id zero = unheard
+presentBefore a hears id (suc t) =
+    let w = over (cond (hears t) (presentIn id (a .carries t)) unheard) (presentBefore a hears id t) in
+    cond (change (timed a) (suc t)) (over (comingTo a hears id t) w) w
+
+abbrev pub presentTo : Air → (ℕ → Bool) → ℕ → ℕ → Word
+presentTo a hears id t = over (cond (hears t) (presentIn id (a .carries t)) unheard) (presentBefore a hears id t)
+
+-- asked behind frame t for frame u
+unfoldable pub wordFor : Air → (ℕ → Bool) → ℕ → ℕ → ℕ → Word
+wordFor a hears id t u =
+    cond (ltb (epoch (timed a) t) (epoch (timed a) u)) (over (comingTo a hears id t) (presentTo a hears id t)) (presentTo a hears id t)
+
 -- What is shown of a component, where anything is, is its whole structure in some configuration j; and of every change since none was announced in any
 -- frame that was heard. So it is what is in force, unless a change was announced in no frame that was heard; and no part of a structure
 -- is ever shown as the whole.
@@ -57,3 +107,7 @@ pub record NeverWrong (M : Machine) : Type 0 where
   pub sound : (a : Air) → Orderly a → (hears : ℕ → Bool) → Listener M a hears → (t u id : ℕ) → hears t ≡ true → t ≤ u → u ≤ t + 128 → id < ids
       → M .number (kept M a hears (suc t)) id (countAt (timed a) u) ≡ 0 → (M .fields (kept M a hears (suc t)) id (countAt (timed a) u) ≡ [] → ⊥)
       → Whole M a hears t u id
+  -- 0 without fields only where nothing was heard of the component since the start, or what was heard of it last was all ones
+  pub blank : (a : Air) → Orderly a → (hears : ℕ → Bool) → Listener M a hears → (t u id : ℕ) → hears t ≡ true → t ≤ u → u ≤ t + 128 → id < ids
+      → M .number (kept M a hears (suc t)) id (countAt (timed a) u) ≡ 0 → M .fields (kept M a hears (suc t)) id (countAt (timed a) u) ≡ []
+      → wordFor a hears id t u ≡ there → ⊥

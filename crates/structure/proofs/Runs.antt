@@ -134,6 +134,17 @@ gathered-some s t l ls w small =
         omega (arith, ap (λ (x : Structure). x .fields) (head-stored s ls (made n 1)), ltb-true 0 n (and-left (ltb 0 n) _ ef))
     go false r false er ef = omega (arith, begun-anew s t l (t ∷ []) small refl .fields)
 
+pub gathered-whole : (s : List ℕ) (t l : ℕ) → headOf s .whole ≡ 1 → 0 < headOf s .fields → t < 2 ^ 64 → 0 < headOf (gathered s t l) .fields
+unfolding gathered turned turnOf
+gathered-whole s t l w pos small =
+    subst (λ (u : Turn). 0 < headOf (turned u s t l) .fields)
+    (sym (λ i. cond (eqb (w i) 1) (cond (member s t) Known Begins) (cond (goesOn s t l) (cond (ltb (headOf s .fields) most) Joins Overflows)
+    (cond (ltb 0 (headOf s .fields) && (leb (headOf s .fields) most && eqb (nth 0 s) t)) Completes Begins)))) (go (member s t))
+  where
+    go : (b : Bool) → 0 < headOf (turned (cond b Known Begins) s t l) .fields
+    go true = pos
+    go false = omega (arith, begun-anew s t l (t ∷ []) small refl .fields)
+
 -- ---- spoiled
 
 stuck-made : (s : List ℕ) → Stuck (turned Begins s allOnes 0)

@@ -51,7 +51,7 @@ impl Map {
         accepted(map::take(&mut self.bytes[..], field))
     }
 
-    /// The structures of a component in the frame of a count; none if there is no such component. Refused: 46 if they
+    /// The structures of a component in the frame of a count; none if nothing was heard of it, or all ones last. Refused: 46 if they
     /// are not known to be all, and 33 if a map that was kept has one that no field can have.
     pub fn component(&self, id: u8, count: u8) -> Result<Vec<Structure>, Refusal> {
         let (number, at, length, _, _) = map::show(&self.bytes[..], id, count);
