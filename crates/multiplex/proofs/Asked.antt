@@ -7,22 +7,21 @@
 -- Assumes nothing.
 use mathlib.Core.Path.{_≡_, refl, sym, ap, ap₂, _∙_, subst}
 use mathlib.Core.Bool.{Bool, true, false, cond, not, _&&_, _||_}
-use mathlib.Core.List.{List, [], _∷_}
+use mathlib.Core.List.{List, []}
 use mathlib.Core.Logic.{_⊎_, inl, inr}
 use Prim.Native.Nat.{ℕ, zero, suc, _+_, _-_, _*_, _/_, _≤_, _<_}
 use native.Mathlib.Omega.{arith}
 use native.Mathlib.Decide.{ℕ-discrete}
 use borrow.Author.Tests.{eq-eqb, ne-eqb, le-ltb, lt-ltb, ltb-true, ltb-false}
-use lib.Dec.{T, leb, ltb, eqb}
+use lib.Dec.{leb, ltb, eqb}
 use lib.ListN.{length}
 use Rattle.bits.proofs.Rows.{refusal-passed}
-use Rattle.structure.specs.Structure.{most, headOf, deletion, said, settledHead}
+use Rattle.structure.specs.Structure.{most, headOf, said, settledHead}
 use Rattle.structure.specs.declared.Structure.{Structure}
-use Rattle.structure.proofs.Gathering.{Holds, Empty}
 use Rattle.frames.specs.Counts.{ahead, changes, changing, allHeard}
 use Rattle.frames.specs.declared.Frames.{Frames}
-use Rattle.map.specs.Map.{ids, mapSize, structureAt, framesOf, good, inForce, announced}
-use Rattle.map.specs.Calls.{thenWhich, thenHead, thenNumber, foundOf, shownAt, showAnswer, shownBy, shown}
+use Rattle.map.specs.Map.{ids, mapSize, structureAt, framesOf, good, announced}
+use Rattle.map.specs.Calls.{thenHead, thenNumber, foundOf, shownAt, showAnswer, shownBy, shown}
 use Rattle.map.specs.declared.Shown.{Shown}
 use Rattle.multiplex.specs.Broadcast.{countAt, epoch}
 use Rattle.multiplex.specs.Heard.{fieldsFrom, shownFields}
@@ -32,7 +31,7 @@ use Rattle.multiplex.proofs.Standing.{deletion-head}
 use Rattle.multiplex.proofs.Seeing.{head-force, head-coming}
 use Rattle.multiplex.proofs.Distances.{since-same, changes-epoch, epoch-either, epoch-mono}
 use Rattle.multiplex.proofs.Knowing.{Front, some, all, Next, none, delete, piece, sure, full, part-head}
-use Rattle.multiplex.proofs.Words.{Words, absent-there}
+use Rattle.multiplex.proofs.Words.{absent-there}
 use Rattle.multiplex.proofs.Listening.{Known}
 
 -- ---- what is shown at all

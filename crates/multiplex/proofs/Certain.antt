@@ -4,34 +4,27 @@
 --   never-wrong                the theorem, of our machine
 --
 -- Assumes nothing.
-use mathlib.Core.Path.{_≡_, refl, sym, ap, ap₂, _∙_, subst}
-use mathlib.Core.Bool.{Bool, true, false, cond, not, _&&_, _||_}
+use mathlib.Core.Path.{_≡_, refl, sym, ap, _∙_, subst}
+use mathlib.Core.Bool.{Bool, true, false, cond, _&&_, _||_}
 use mathlib.Core.List.{List, []}
-use mathlib.Core.Logic.{_⊎_, inl, inr}
-use Prim.Native.Nat.{ℕ, zero, suc, _+_, _-_, _*_, _/_, _%_, _≤_, _<_}
+use Prim.Native.Nat.{ℕ, suc, _+_, _-_, _%_, _≤_, _<_}
 use native.Mathlib.Omega.{arith}
-use native.Mathlib.Decide.{ℕ-discrete}
-use borrow.Author.Tests.{eq-eqb, ne-eqb, eqb-true, le-ltb, lt-ltb, ltb-true, ltb-false}
+use borrow.Author.Tests.{eq-eqb, eqb-true, lt-ltb}
 use lib.Dec.{T, leb, ltb, eqb}
 use lib.ListN.{length}
-use Rattle.bits.proofs.Rows.{refusal-passed}
 use Rattle.bits.proofs.Search.{and-left, and-right}
-use Rattle.structure.specs.Structure.{most, headOf, deletion, said, settledHead}
+use Rattle.structure.specs.Structure.{most, headOf, said, settledHead}
 use Rattle.structure.specs.declared.Structure.{Structure}
-use Rattle.structure.proofs.Gathering.{Holds, Empty}
-use Rattle.structure.proofs.Runs.{Part}
-use Rattle.frames.specs.Counts.{ahead, since, changes, until, changing, allHeard}
-use Rattle.frames.specs.declared.Frames.{Frames}
-use Rattle.map.specs.Map.{ids, mapSize, structureAt, framesOf, good, inForce, announced}
-use Rattle.map.specs.Calls.{thenWhich, thenHead, foundOf, shownAt, showAnswer, shownBy, shown}
-use Rattle.map.specs.declared.Shown.{Shown}
+use Rattle.structure.proofs.Gathering.{Holds}
+use Rattle.frames.specs.Counts.{ahead, until, changing, allHeard}
+use Rattle.map.specs.Map.{ids, structureAt, framesOf, good, announced}
+use Rattle.map.specs.Calls.{thenHead, shown}
 use Rattle.multiplex.specs.Broadcast.{countAt, change, epoch, begun}
-use Rattle.multiplex.specs.Heard.{ours, fieldsFrom, shownFields}
-use Rattle.multiplex.specs.Air.{Air, timed, oldIn, later, lastOld, newTo, goneTo, coming, Said, nothing, described, deleted, Orderly}
+use Rattle.multiplex.specs.Heard.{ours, shownFields}
+use Rattle.multiplex.specs.Air.{Air, timed, oldIn, later, lastOld, newTo, goneTo, Said, nothing, described, deleted, Orderly}
 use Rattle.multiplex.specs.Sound.{kept, Listener, Quiet, there, wordFor, Whole, NeverWrong}
 use Rattle.multiplex.proofs.Standing.{present, deletion-head}
 use Rattle.multiplex.proofs.Seeing.{head-force, seen-force, head-coming, seen-coming}
-use Rattle.multiplex.proofs.Distances.{since-same, changes-epoch, epoch-either, epoch-mono, count-lt}
 use Rattle.multiplex.proofs.Knowing.{Front, some, all, Next, none, delete, piece, sure, full, QuietTo, Silent, Settled, stayed, told, ends, part-head, quiet-over}
 use Rattle.multiplex.proofs.Listening.{Known}
 use Rattle.multiplex.proofs.Asked.{shown-good, shown-whole, changing-now, next-now, same-now, not-blank}

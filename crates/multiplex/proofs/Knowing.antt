@@ -13,21 +13,19 @@ use mathlib.Core.Path.{_≡_, refl, sym, ap, _∙_, subst}
 use mathlib.Core.Bool.{Bool, true, false, cond, _&&_, _||_}
 use mathlib.Core.List.{List, []}
 use mathlib.Core.Logic.{_⊎_, inl, inr}
-use Prim.Native.Nat.{ℕ, zero, suc, _+_, _-_, _^_, _≤_, _<_}
+use Prim.Native.Nat.{ℕ, suc, _+_, _-_, _^_, _≤_, _<_}
 use native.Mathlib.Omega.{arith}
 use native.Mathlib.Decide.{ℕ-discrete, decLt}
-use borrow.Author.Tests.{eq-eqb, ne-eqb, lt-ltb}
+use borrow.Author.Tests.{eq-eqb, ne-eqb}
 use lib.Dec.{T, ltb, eqb, lit<}
-use lib.ListN.{length, getD, drop}
-use Rattle.bits.specs.Bits.{blank}
+use lib.ListN.{length, getD}
 use Rattle.field.specs.Field.{key}
-use Rattle.structure.specs.Structure.{most, structureSize, headOf, withHead, gathered, spoiled, deletion, settledHead}
+use Rattle.structure.specs.Structure.{structureSize, headOf, withHead, gathered, spoiled, deletion, settledHead}
 use Rattle.structure.specs.declared.Structure.{Structure}
-use Rattle.structure.proofs.Gathering.{Holds, Empty, head-stored, with-head-length, begun, joined, completed, kept}
+use Rattle.structure.proofs.Gathering.{Holds, Empty, head-stored, begun, joined, completed, kept}
 use Rattle.structure.proofs.Kept.{spoiled-none}
-use Rattle.structure.proofs.Runs.{Fields, Stuck, Part, empty, stuck, run, spoiled-part, spoiled-whole, spoils, Took, partly, wholly, gathered-some, part-takes, whole-takes, rises-to}
+use Rattle.structure.proofs.Runs.{Fields, Part, empty, stuck, run, spoiled-part, spoiled-whole, spoils, Took, partly, wholly, gathered-some, part-takes, whole-takes, rises-to}
 use Rattle.map.specs.Map.{ids, mapSize, structureAt, changedFrom}
-use Rattle.map.proofs.Places.{structure-length}
 use Rattle.map.proofs.Changing.{leftBy, stays, stays-unsaid, goes, settled, emptied, in-force, cleared, blank-empty}
 use Rattle.multiplex.specs.Broadcast.{epoch, Linked}
 use Rattle.multiplex.specs.Air.{Air, timed, turn}

@@ -8,35 +8,31 @@
 --
 -- Assumes nothing.
 use mathlib.Core.Path.{_≡_, refl, sym, ap, ap₂, _∙_, subst}
-use mathlib.Core.Bool.{Bool, true, false, cond, not, _&&_, _||_}
-use mathlib.Core.List.{List, [], _∷_}
-use Prim.Native.Nat.{ℕ, zero, suc, _+_, _-_, _*_, _^_, _≤_, _<_}
+use mathlib.Core.Bool.{Bool, true, false, cond, _||_}
+use mathlib.Core.List.{List, []}
+use Prim.Native.Nat.{ℕ, zero, suc, _+_, _-_, _<_}
 use native.Mathlib.Omega.{arith}
-use native.Mathlib.Decide.{ℕ-discrete, decLt}
-use borrow.Author.Tests.{eq-eqb, ne-eqb, eqb-true, eqb-false, le-ltb, lt-ltb}
-use lib.Dec.{T, ltb, eqb, lit<, lit≤}
+use native.Mathlib.Decide.{ℕ-discrete}
+use borrow.Author.Tests.{eq-eqb, ne-eqb}
+use lib.Dec.{eqb, lit<}
 use lib.ListN.{length, getD}
 use Rattle.bits.specs.Bits.{blank}
 use Rattle.bits.proofs.Storing.{blank-length}
-use Rattle.slot.specs.Part.{part}
-use Rattle.slot.proofs.Laws.{blank-at}
-use Rattle.field.specs.Field.{deletes, panning}
-use Rattle.field.specs.declared.Field.{Field}
-use Rattle.structure.specs.Structure.{structureSize, gathered, spoiled, deletion}
-use Rattle.structure.proofs.Gathering.{Empty}
+use Rattle.field.specs.Field.{panning}
+use Rattle.structure.specs.Structure.{structureSize, gathered, deletion}
 use Rattle.structure.proofs.Kept.{gathered-length}
 use Rattle.structure.proofs.Runs.{empty}
 use Rattle.frames.specs.declared.Frames.{Frames}
-use Rattle.map.specs.Map.{ids, mapSize, blockSize, structureAt, withStructure, framesOf, withFrames, eachFrom, changedFrom, spoiledBoth}
+use Rattle.map.specs.Map.{ids, mapSize, structureAt, withStructure, framesOf, withFrames}
 use Rattle.map.specs.Calls.{putIn, takenIn}
 use Rattle.map.proofs.Places.{structure-length, structure-same, structure-other, with-structure-length, with-frames-length, structures-kept, frames-stored}
-use Rattle.map.proofs.Changing.{blank-empty, part-blank, gap-length, gap-structure, from-length}
-use Rattle.multiplex.specs.Broadcast.{Broadcast, countAt, change, epoch, begun, Linked}
-use Rattle.multiplex.specs.Air.{Carries, new, old, gone, vectors, Air, timed, carriedAs, fieldOn, newIn, oldIn, goneIn, later, same, lastOld, lastNew, linkOf, linksNew, one, newBefore, newTo, goneBefore, goneTo, inForce, coming, InTurn, Said, nothing, described, deleted, Orderly}
+use Rattle.map.proofs.Changing.{blank-empty}
+use Rattle.multiplex.specs.Broadcast.{countAt, change, epoch, begun}
+use Rattle.multiplex.specs.Air.{Carries, new, old, gone, vectors, Air, timed, carriedAs, fieldOn, newIn, oldIn, goneIn, later, lastOld, lastNew, linkOf, linksNew, one, newBefore, newTo, goneBefore, goneTo, inForce, coming, InTurn, nothing, Orderly}
 use Rattle.multiplex.specs.Sound.{announces, Word, unheard, absent, there, over, presentIn, comingIn, comingBefore, comingTo, presentBefore, presentTo}
 use Rattle.multiplex.proofs.Words.{Words, words-as, words-force, words-dropped, words-told, words-ends, some-old, some-new}
 use Rattle.multiplex.proofs.Standing.{deletion-length}
-use Rattle.multiplex.proofs.Knowing.{Front, some, all, Next, none, delete, piece, sure, full, QuietTo, Silent, Settled, stayed, told, ends, front-gap, next-gap, front-unsure, front-sure, silent-on, front-on, front-old, next-on, next-new}
+use Rattle.multiplex.proofs.Knowing.{Front, some, all, Next, delete, front-on, front-old, next-on, next-new}
 
 -- ---- what is held
 

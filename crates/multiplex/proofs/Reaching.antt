@@ -6,24 +6,23 @@
 --
 -- Assumes nothing.
 use mathlib.Core.Path.{_≡_, refl, sym, ap, ap₂, _∙_, subst}
-use mathlib.Core.Bool.{Bool, true, false, cond, not, _&&_, _||_}
+use mathlib.Core.Bool.{Bool, true, false, cond, _&&_, _||_}
 use mathlib.Core.List.{List, [], _∷_}
 use Prim.Native.Nat.{ℕ, zero, suc, _+_, _-_, _*_, _≤_, _<_}
 use native.Mathlib.Omega.{arith}
 use borrow.Author.Tests.{eq-eqb}
 use lib.Dec.{T, eqb, lit<, lit≤}
-use lib.ListN.{length}
 use Rattle.bits.specs.Bits.{blank}
 use Rattle.bits.proofs.Storing.{blank-length}
-use Rattle.structure.specs.Structure.{structureSize, spoiled}
+use Rattle.structure.specs.Structure.{structureSize}
 use Rattle.structure.proofs.Gathering.{Empty}
 use Rattle.structure.proofs.Runs.{empty}
 use Rattle.map.specs.Map.{ids, mapSize, blockSize, structureAt, eachFrom, changedFrom, spoiledBoth}
 use Rattle.map.proofs.Places.{structure-length}
 use Rattle.map.proofs.Changing.{blank-empty, part-blank, gap-length, gap-structure, from-length}
-use Rattle.multiplex.specs.Broadcast.{countAt, change, epoch, begun}
-use Rattle.multiplex.specs.Air.{Air, timed, newIn, oldIn, goneIn, later, same, lastOld, lastNew, linkOf, linksNew, one, newBefore, newTo, goneBefore, goneTo, inForce, coming, Said, nothing, described, deleted, Orderly}
-use Rattle.multiplex.specs.Sound.{announces, Word, unheard, over, presentIn, comingIn, comingBefore, comingTo, presentBefore, presentTo}
+use Rattle.multiplex.specs.Broadcast.{change, epoch, begun}
+use Rattle.multiplex.specs.Air.{Air, timed, newIn, oldIn, later, same, lastOld, lastNew, linkOf, linksNew, newBefore, newTo, goneBefore, goneTo, inForce, coming, Said, nothing, described, deleted, Orderly}
+use Rattle.multiplex.specs.Sound.{unheard, over, presentIn, comingIn, comingBefore, comingTo, presentBefore, presentTo}
 use Rattle.multiplex.proofs.Distances.{epoch-step, epoch-mono}
 use Rattle.multiplex.proofs.Knowing.{Front, some, all, Next, none, delete, piece, sure, full, Silent, Settled, stayed, told, ends, front-gap, next-gap, front-unsure, front-sure}
 use Rattle.multiplex.proofs.Words.{Words, words-as, words-gap, words-change, unheard-there, Goes, goes-to}

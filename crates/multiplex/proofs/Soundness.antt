@@ -7,18 +7,17 @@
 -- Assumes nothing.
 use mathlib.Core.Path.{_≡_, refl, sym, ap, ap₂, _∙_, subst}
 use mathlib.Core.Bool.{Bool, true, false, cond, not, _&&_, _||_}
-use mathlib.Core.List.{List, [], _∷_}
+use mathlib.Core.List.{List}
 use mathlib.Core.Logic.{_⊎_, inl, inr}
 use Prim.Native.Nat.{ℕ, zero, suc, _+_, _-_, _^_, _≤_, _<_}
 use native.Mathlib.Omega.{arith}
 use native.Mathlib.Decide.{ℕ-discrete}
 use borrow.Author.Tests.{ne-eqb, le-ltb, lt-ltb}
 use lib.Dec.{T, ltb, eqb}
-use lib.ListN.{length, getD}
 use Rattle.bits.specs.Bits.{blank}
 use Rattle.bits.proofs.Rows.{done-passed}
 use Rattle.slot.proofs.Laws.{blank-at}
-use Rattle.field.specs.Field.{fieldOf, fieldBytes, panning}
+use Rattle.field.specs.Field.{fieldOf, fieldBytes}
 use Rattle.field.specs.declared.Field.{Field}
 use Rattle.field.proofs.RoundTrip.{read-written}
 use Rattle.frames.specs.Counts.{since, changes, changing, again, skips, begins, sureAt, framesAfter}

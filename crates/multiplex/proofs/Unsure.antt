@@ -7,22 +7,21 @@
 --
 -- Assumes nothing.
 use mathlib.Core.Path.{_≡_, refl, sym, ap, ap₂, _∙_, subst}
-use mathlib.Core.Bool.{Bool, true, false, cond, _&&_, _||_}
+use mathlib.Core.Bool.{Bool, true, false, cond, _||_}
 use mathlib.Core.List.{List, [], _∷_}
-use Prim.Native.Nat.{ℕ, zero, suc, _+_, _-_, _*_, _/_, _%_, _^_, _≤_, _<_}
+use Prim.Native.Nat.{ℕ, zero, suc, _+_, _-_, _≤_, _<_}
 use native.Mathlib.Omega.{arith}
 use native.Mathlib.Decide.{ℕ-discrete}
-use borrow.Author.Tests.{eq-eqb, ne-eqb}
-use lib.Dec.{T, ltb, eqb, lit<, lit≤}
+use borrow.Author.Tests.{ne-eqb}
+use lib.Dec.{T, eqb, lit<, lit≤}
 use lib.ListN.{length, getD}
 use Rattle.field.specs.Field.{tdmsOf, fln1, lln1, fln2, lln2, fcp, lcp, badPair, badTdms, deletes, key}
-use Rattle.map.specs.Map.{ids}
-use Rattle.multiplex.specs.Broadcast.{countAt, change, epoch, begun, Linked}
+use Rattle.multiplex.specs.Broadcast.{countAt, change, epoch, Linked}
 use Rattle.multiplex.specs.Example.{one, two}
 use Rattle.multiplex.specs.Empty.{deaf, hasty, clinging}
 use Rattle.multiplex.specs.Heard.{Machine}
-use Rattle.multiplex.specs.Air.{Carries, new, old, Air, timed, newIn, oldIn, goneIn, turn, later, lastNew, newBefore, newTo, goneBefore, goneTo, InTurn, Said, nothing, described, Orderly}
-use Rattle.multiplex.specs.Sound.{kept, missedBefore, announces, Quiet, Listener, Word, unheard, there, over, presentIn, comingIn, comingBefore, presentBefore, wordFor, NeverWrong}
+use Rattle.multiplex.specs.Air.{new, Air, timed, newIn, goneIn, turn, later, lastNew, newBefore, newTo, goneBefore, goneTo, InTurn, Said, nothing, described, Orderly}
+use Rattle.multiplex.specs.Sound.{kept, missedBefore, announces, Quiet, Listener, there, over, presentIn, comingIn, comingBefore, presentBefore, wordFor, NeverWrong}
 use Rattle.multiplex.proofs.Keeping.{none-linked, one-linked, fitting}
 use Rattle.multiplex.proofs.Steady.{lists, steady, steady-orderly}
 

@@ -7,28 +7,27 @@
 --
 -- Assumes nothing.
 use mathlib.Core.Path.{_≡_, refl, sym, ap, ap₂, _∙_, subst}
-use mathlib.Core.Bool.{Bool, true, false, cond, _&&_, _||_}
-use mathlib.Core.List.{List, []}
-use mathlib.Core.Logic.{_⊎_, inl, inr}
+use mathlib.Core.Bool.{Bool, true, false, cond, _&&_}
+use mathlib.Core.List.{List}
 use Prim.Native.Nat.{ℕ, zero, suc, _+_, _-_, _^_, _≤_, _<_}
 use native.Mathlib.Omega.{arith}
 use borrow.Author.Tests.{lt-ltb, ltb-true}
-use lib.Dec.{T, ltb, eqb, lit<}
-use lib.ListN.{length, getD}
-use Rattle.structure.specs.Structure.{structureSize, headOf, gathered, spoiled, deletion}
+use lib.Dec.{ltb, eqb, lit<}
+use lib.ListN.{length}
+use Rattle.structure.specs.Structure.{structureSize, headOf, gathered, spoiled}
 use Rattle.structure.specs.declared.Structure.{Structure}
-use Rattle.structure.proofs.Gathering.{Holds, Empty, kept}
+use Rattle.structure.proofs.Gathering.{Empty}
 use Rattle.structure.proofs.Kept.{spoiled-none, spoiled-some}
 use Rattle.structure.proofs.Runs.{gathered-some, gathered-whole}
 use Rattle.map.specs.Map.{ids, mapSize, structureAt, changedFrom}
 use Rattle.map.proofs.Places.{structure-length}
-use Rattle.map.proofs.Changing.{leftBy, left-some, stays, in-force-some}
-use Rattle.multiplex.specs.Broadcast.{change, epoch, Linked}
+use Rattle.map.proofs.Changing.{left-some, stays, in-force-some}
+use Rattle.multiplex.specs.Broadcast.{change, epoch}
 use Rattle.multiplex.specs.Air.{Air, timed}
 use Rattle.multiplex.specs.Sound.{Word, unheard, absent, there, over, presentIn, comingIn, comingBefore, comingTo, presentBefore, presentTo}
 use Rattle.multiplex.proofs.Standing.{deletion-head}
 use Rattle.multiplex.proofs.Distances.{epoch-step, epoch-mono}
-use Rattle.multiplex.proofs.Knowing.{Front, some, all, Next, none, delete, piece, sure, full, part-head, linked-fields}
+use Rattle.multiplex.proofs.Knowing.{Front, some, all, Next, none, delete, piece, sure, full, part-head}
 
 pub record Words (k p : Word) (F A : List ℕ) : Type 0 where
   pub present : k ≡ there → 0 < headOf F .fields
