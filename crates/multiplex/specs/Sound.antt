@@ -47,13 +47,15 @@ abbrev pub Quiet : Air → (ℕ → Bool) → ℕ → ℕ → ℕ → ℕ → Ty
 Quiet a hears t j e id =
     (v : ℕ) → v ≤ t → hears v ≡ true → j ≤ epoch (timed a) v → epoch (timed a) v < e → announces id (a .carries v) ≡ false
 
--- ---- what was heard last
+-- ---- what was heard last (4.5.4: a field without the update flag speaks of the present configuration, one with it of the coming one, from the
+-- next change on; all ones delete the component)
 
 pub data Word : Type 0 where
   unheard : Word
   absent : Word
   there : Word
 
+-- the later word, where there is one
 unfoldable pub over : Word → Word → Word
 over unheard before = before
 over absent before = absent
@@ -71,6 +73,7 @@ comingIn id (old k i l) = unheard
 comingIn id (gone flag k t l) = cond (eqb flag 1 && eqb k id) absent unheard
 comingIn id (vectors flag t l) = unheard
 
+-- before frame t: a change leaves nothing announced
 unfoldable pub comingBefore : Air → (ℕ → Bool) → ℕ → ℕ → Word
 comingBefore a hears id zero = unheard
 comingBefore a hears id (suc t) =
@@ -79,6 +82,7 @@ comingBefore a hears id (suc t) =
 abbrev pub comingTo : Air → (ℕ → Bool) → ℕ → ℕ → Word
 comingTo a hears id t = over (cond (hears t) (comingIn id (a .carries t)) unheard) (comingBefore a hears id t)
 
+-- before frame t: at a change what was announced becomes the last word
 unfoldable pub presentBefore : Air → (ℕ → Bool) → ℕ → ℕ → Word
 presentBefore a hears id zero = unheard
 presentBefore a hears id (suc t) =
