@@ -2,17 +2,18 @@
 --
 --   ahead-wraps, ahead-lt    the distance between frame counts, by a difference that wraps
 --   since-same, since-around, since-other    frames from one that was heard, by the tests on the way
+--   row-*                    frames in a row, by the tests on the way
 --   after-*                  the frames behind a field, by the tests on the way; after-good: they stay good
 --
 -- Assumes nothing.
 use mathlib.Core.Path.{_≡_, refl, sym, ap, ap₂, _∙_}
 use mathlib.Core.Bool.{Bool, true, false, cond}
-use Prim.Native.Nat.{ℕ, _+_, _%_, _<_}
+use Prim.Native.Nat.{ℕ, _+_, _%_, _≤_, _<_}
 use native.Mathlib.Omega.{arith}
-use borrow.Author.Tests.{eq-eqb, ne-eqb}
-use lib.Dec.{leb, eqb}
+use borrow.Author.Tests.{eq-eqb, ne-eqb, lt-ltb, le-ltb}
+use lib.Dec.{leb, ltb, eqb}
 use Rattle.bits.proofs.Search.{and-right}
-use Rattle.frames.specs.Counts.{ahead, since, goodFrames, skips, begins, framesAfter}
+use Rattle.frames.specs.Counts.{ahead, since, goodFrames, skips, begins, rowAfter, framesAfter}
 use Rattle.frames.specs.declared.Frames.{Frames}
 
 pub ahead-wraps : (r a b : ℕ) → r < 256 → a < 256 → (r + a) % 256 ≡ b → r % 128 ≡ ahead a b
@@ -38,23 +39,37 @@ module _ (a b : ℕ) where
     pub since-other : (d ≡ 0 → ⊥) → d ≡ since a b
     since-other nz = ed ∙ by-since false false (ne-eqb a b ne) (ne-eqb (ahead a b) 0 (λ z. nz (ed ∙ z)))
 
-module _ (h : Frames) (n : ℕ) where
-  abbrev behind : ℕ → Frames
-  behind unbroken = record { last = n; heard = 1; unbroken = unbroken }
+module _ (missed : Bool) (row : ℕ) where
+  by-row : (m b : Bool) → missed ≡ m → ltb row 255 ≡ b → cond m 1 (cond b (row + 1) 255) ≡ rowAfter missed row
+  unfolding rowAfter
+  by-row m b em eb = ap₂ (λ (x y : Bool). cond x 1 (cond y (row + 1) 255)) (sym em) (sym eb)
 
-  pub after-skipped : skips h n ≡ true → behind 0 ≡ framesAfter h n
+  pub row-anew : missed ≡ true → 1 ≡ rowAfter missed row
+  row-anew e = by-row true _ e refl
+
+  pub row-grows : missed ≡ false → row < 255 → row + 1 ≡ rowAfter missed row
+  row-grows e q = by-row false true e (lt-ltb row 255 q)
+
+  pub row-full : missed ≡ false → 255 ≤ row → 255 ≡ rowAfter missed row
+  row-full e q = by-row false false e (le-ltb row 255 q)
+
+module _ (h : Frames) (n r : ℕ) (er : r ≡ rowAfter (skips h n) (h .row)) where
+  abbrev behind : ℕ → ℕ → Frames
+  behind unbroken row = record { last = n; heard = 1; unbroken = unbroken; row = row }
+
+  pub after-skipped : skips h n ≡ true → behind 0 r ≡ framesAfter h n
   unfolding framesAfter
-  after-skipped e = λ i. behind (cond (sym e i) 0 (cond (begins n) 1 (h .unbroken)))
+  after-skipped e = λ i. behind (cond (sym e i) 0 (cond (begins n) 1 (h .unbroken))) (er i)
 
   module _ (e : skips h n ≡ false) (d : ℕ) (ed : d ≡ ahead 2 n) where
-    by-begins : (b : Bool) → eqb d 0 ≡ b → behind (cond b 1 (h .unbroken)) ≡ framesAfter h n
+    by-begins : (b : Bool) → eqb d 0 ≡ b → behind (cond b 1 (h .unbroken)) r ≡ framesAfter h n
     unfolding framesAfter begins
-    by-begins b q = λ i. behind (cond (sym e i) 0 (cond ((sym q ∙ ap (λ (x : ℕ). eqb x 0) ed) i) 1 (h .unbroken)))
+    by-begins b q = λ i. behind (cond (sym e i) 0 (cond ((sym q ∙ ap (λ (x : ℕ). eqb x 0) ed) i) 1 (h .unbroken))) (er i)
 
-    pub after-begun : d ≡ 0 → behind 1 ≡ framesAfter h n
+    pub after-begun : d ≡ 0 → behind 1 r ≡ framesAfter h n
     after-begun z = by-begins true (eq-eqb d 0 z)
 
-    pub after-next : (d ≡ 0 → ⊥) → behind (h .unbroken) ≡ framesAfter h n
+    pub after-next : (d ≡ 0 → ⊥) → behind (h .unbroken) r ≡ framesAfter h n
     after-next ne = by-begins false (ne-eqb d 0 ne)
 
 pub after-good : (h : Frames) (n : ℕ) → goodFrames h ≡ true → goodFrames (framesAfter h n) ≡ true

@@ -8,6 +8,7 @@
 --   changing h n, again h n, skips h n     of the last frame heard and that with count n: a change falls between them; they are the
 --                   same; a frame was missed on the way
 --   framesAfter h n what is known when the frame with count n is heard
+--   enough h        so many frames were heard in a row that a component of which nothing came is held to be absent
 --   sureAt h n, allHeard h     nothing more can come of what is announced, at a change before the frame with count n; at the next one
 use mathlib.Core.Bool.{Bool, cond, not, _&&_}
 use Prim.Native.Nat.{ℕ, _+_, _-_, _%_}
@@ -49,12 +50,24 @@ sureAt h n = eqb (h .unbroken) 1 && not (skips h n)
 unfoldable pub begins : ℕ → Bool
 begins n = eqb (ahead 2 n) 0
 
+-- frames in a row: from 1 on behind a missed one, and no further than the byte goes
+unfoldable pub rowAfter : Bool → ℕ → ℕ
+rowAfter missed row = cond missed 1 (cond (ltb row 255) (row + 1) 255)
+
 unfoldable pub framesAfter : Frames → ℕ → Frames
 framesAfter h n = record {
   last = n;
   heard = 1;
   unbroken = cond (skips h n) 0 (cond (begins n) 1 (h .unbroken));
+  row = rowAfter (skips h n) (h .row);
 }
+
+-- The standard bounds no repetition ("retransmitted cyclically. Cycles may be different", annex C): the number is the house's.
+abbrev pub enoughFrames : ℕ
+enoughFrames = 255
+
+unfoldable pub enough : Frames → Bool
+enough h = leb enoughFrames (h .row)
 
 -- every frame since the change before is heard, to the last before the next
 unfoldable pub allHeard : Frames → Bool

@@ -1,12 +1,14 @@
 // The frames that were heard, by their counts: distances, changes, and whether one was missed. Every count is answered.
 ghost use mathlib.Core.Path.{_≡_};
-ghost use Rattle.frames.specs.Counts.{ahead, since, until, goodFrames, changing, again, skips, sureAt, framesAfter, allHeard};
+ghost use Rattle.frames.specs.Counts.{ahead, since, until, goodFrames, changing, again, skips, sureAt, rowAfter, framesAfter, enough, allHeard};
 
-// The last frame count, whether there is one, and whether every frame of the running configuration was heard.
+// The last frame count, whether there is one, whether every frame of the running configuration was heard, and how many were heard in
+// a row since the start or the last missed one, up to 255.
 pub struct Frames {
     pub last: u8,
     pub heard: u8,
     pub unbroken: u8,
+    pub row: u8,
 }
 
 // The distance between two frame counts, across the wrap from 127 to 0.
@@ -29,6 +31,9 @@ fn since(from: u8, to: u8) -> u8
 }
 
 impl Frames {
+    // Frames in a row after which a component of which nothing came is held to be absent: a rule of the house.
+    pub const ENOUGH: u8 = 255;
+
     pub fn good(self) -> bool
         ensures { λ r. ⌜ r ≡ goodFrames self ⌝ }
     {
@@ -79,6 +84,7 @@ impl Frames {
     pub fn after(self, count: u8) -> Self
         ensures { λ r. ⌜ r ≡ framesAfter self count ⌝ }
     {
+        let row = self.row_after(count);
         let unbroken = if self.skips(count) {
             0
         } else if ahead(2, count) == 0 {
@@ -90,6 +96,26 @@ impl Frames {
             last: count,
             heard: 1,
             unbroken,
+            row,
         }
+    }
+
+    fn row_after(self, count: u8) -> u8
+        ensures { λ r. ⌜ r ≡ rowAfter (skips self count) (self .row) ⌝ }
+    {
+        if self.skips(count) {
+            1
+        } else if self.row < 255 {
+            self.row + 1
+        } else {
+            255
+        }
+    }
+
+    // Nothing heard of a component means that there is none.
+    pub fn enough(self) -> bool
+        ensures { λ r. ⌜ r ≡ enough self ⌝ }
+    {
+        Self::ENOUGH <= self.row
     }
 }

@@ -1,17 +1,18 @@
--- The map: for each of 256 components the structure in force and the one announced, and the frames that were heard; 34,819 bytes.
+-- The map: for each of 256 components the structure in force and the one announced, and the frames that were heard; 36,356 bytes.
 --
---   136 k           component k: in force
---   136 k + 68      component k: announced
---   34,816          the frame count of the last field taken in
---   34,817          1 where a field was taken in
---   34,818          1 where every frame of the running configuration was heard
+--   142 k           component k: in force
+--   142 k + 71      component k: announced
+--   36,352          the frame count of the last field taken in
+--   36,353          1 where a field was taken in
+--   36,354          1 where every frame of the running configuration was heard
+--   36,355          how many frames were heard in a row since the start or the last missed one, up to 255
 --
 --   inForce, announced      a component's structures
 --   applied, changed        a component at a change
 --   spoiledBoth b   a component's structures, where a frame was missed
 --   eachFrom        every component by such a rule
 --   good m          the condition of a good map
---   present, components     which components a set has, and how many
+--   present, components     which components a set has for certain, and how many
 use mathlib.Core.Bool.{Bool, cond, not, _&&_}
 use mathlib.Core.List.{List, [], _∷_, _++_}
 use Prim.Native.Nat.{ℕ, zero, suc, _+_, _*_}
@@ -21,7 +22,7 @@ use Rattle.bits.specs.Bits.{blank}
 use Rattle.bits.specs.Search.{all}
 use Rattle.slot.specs.Part.{part, put}
 use Rattle.frames.specs.Counts.{goodFrames}
-use Rattle.structure.specs.Structure.{structureSize, headOf, withHead, spoiled, goodHead, said, settledHead}
+use Rattle.structure.specs.Structure.{structureSize, headOf, withHead, markedHead, spoiled, goodHead, certainly, settledHead}
 use Rattle.structure.specs.declared.Structure.{Structure}
 use Rattle.frames.specs.declared.Frames.{Frames}
 
@@ -29,22 +30,29 @@ abbrev pub ids : ℕ
 ids = 256
 
 abbrev pub blockSize : ℕ
-blockSize = 136
+blockSize = 142
 
 abbrev pub framesAt : ℕ
-framesAt = 34816
+framesAt = 36352
 
 abbrev pub mapSize : ℕ
-mapSize = 34819
+mapSize = 36356
 
 -- ---- places
 
 unfoldable pub framesOf : List ℕ → Frames
-framesOf m =
-    record { last = getD m framesAt 0; heard = getD m (framesAt + 1) 0; unbroken = getD m (framesAt + 2) 0 }
+framesOf m = record {
+  last = getD m framesAt 0;
+  heard = getD m (framesAt + 1) 0;
+  unbroken = getD m (framesAt + 2) 0;
+  row = getD m (framesAt + 3) 0;
+}
+
+abbrev pub framesBytes : Frames → List ℕ
+framesBytes h = h .last ∷ h .heard ∷ h .unbroken ∷ h .row ∷ []
 
 unfoldable pub withFrames : Frames → List ℕ → List ℕ
-withFrames h m = put framesAt 3 (h .last ∷ h .heard ∷ h .unbroken ∷ []) m
+withFrames h m = put framesAt 4 (framesBytes h) m
 
 unfoldable pub blockAt : ℕ → List ℕ → List ℕ
 blockAt k m = part (k * blockSize) blockSize m
@@ -83,14 +91,15 @@ movedDown b = part structureSize structureSize b ++ blank structureSize
 unfoldable pub spoiledFirst : List ℕ → List ℕ
 spoiledFirst b = spoiled (part 0 structureSize b) ++ part structureSize structureSize b
 
--- what the announced structure leaves, if anything is announced of the component
+-- what the announced structure leaves, if anything is announced of the component; whatever comes into force and is not whole is begun anew
 unfoldable pub applied : Bool → List ℕ → List ℕ
 applied sure b =
     let h = headOf (part structureSize structureSize b) in
-    cond (eqb (h .deleted) 1) (blank blockSize)
-    (cond (eqb (h .fields) 0) b (withHead (settledHead sure h) (movedDown b)))
+    cond (eqb (h .deleted) 1) (withHead (settledHead sure h) (blank blockSize))
+    (cond (eqb (h .fields) 0) (withHead (markedHead 0 0 (headOf b)) b)
+    (spoiledFirst (withHead (settledHead sure h) (movedDown b))))
 
--- a change that is not sure spoils what is in force and not whole, also where it has just come into force
+-- a change that is not sure spoils what is in force and not whole
 unfoldable pub changed : Bool → List ℕ → List ℕ
 changed sure b = cond sure (applied sure b) (spoiledFirst (applied sure b))
 
@@ -109,21 +118,20 @@ spoiledBoth b = spoiled (part 0 structureSize b) ++ spoiled (part structureSize 
 
 -- ---- the components of a set, before or behind a change
 
--- in force
-unfoldable pub stands : Bool → List ℕ → ℕ → Bool
-stands change m k =
-    cond (change && said (announced k m)) (ltb 0 (announced k m .fields)) (ltb 0 (inForce k m .fields))
+-- in force for certain: behind a change only what a sure one put there
+unfoldable pub stands : Bool → Bool → List ℕ → ℕ → Bool
+stands change sure m k = cond change (sure && certainly (announced k m)) (certainly (inForce k m))
 
 -- announced, and not to be deleted; a change leaves nothing announced
 unfoldable pub comes : Bool → List ℕ → ℕ → Bool
 comes change m k = not change && ltb 0 (announced k m .fields)
 
-unfoldable pub present : ℕ → Bool → List ℕ → ℕ → Bool
-present which change m k = cond (eqb which 0) (stands change m k) (comes change m k)
+unfoldable pub present : ℕ → Bool → Bool → List ℕ → ℕ → Bool
+present which change sure m k = cond (eqb which 0) (stands change sure m k) (comes change m k)
 
 unfoldable pub counted : (ℕ → Bool) → ℕ → ℕ → ℕ
 counted p zero k = 0
 counted p (suc n) k = cond (p k) 1 0 + counted p n (suc k)
 
-unfoldable pub components : ℕ → Bool → List ℕ → ℕ
-components which change m = counted (present which change m) ids 0
+unfoldable pub components : ℕ → Bool → Bool → List ℕ → ℕ
+components which change sure m = counted (present which change sure m) ids 0

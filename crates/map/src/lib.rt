@@ -6,7 +6,8 @@ ghost use mathlib.Core.Path.{_≡_};
 ghost use Prim.Native.Nat.{_<_};
 ghost use lib.ListN.{length};
 ghost use Rattle.map.specs.Map.{framesOf, withFrames, movedDown, applied, changed, eachFrom, changedFrom, spoiledBoth};
-ghost use Rattle.map.specs.Calls.{startAnswer, startAfter, putIn, takenIn, takeAnswer, takeAfter, shown, listAnswer, listAfter};
+ghost use Rattle.map.specs.Calls.{startAnswer, startAfter, putIn, takenIn, takeAnswer, takeAfter, shown, listAnswer, listAfter, heard, known};
+ghost use Rattle.structure.specs.Structure.{headOf, withHead, markedHead};
 use field::Field;
 use field::Tdms;
 use frames::Frames;
@@ -27,38 +28,58 @@ impl Map {
 
     pub const FRAMES: usize = Self::IDS * Self::BLOCK;
 
-    pub const SIZE: usize = Self::FRAMES + 3;
+    pub const SIZE: usize = Self::FRAMES + 4;
 }
 
-// What is known of a component: 0 with its fields' place and length in the map, or a refusal; and whether a change is announced, and
-// in how many frames behind the last one it comes.
+// What is known of a component: 0 with its fields' place and length in the map, or a refusal; whether a change is announced, and in how
+// many frames behind the last one it comes; and whether not enough was heard to hold that there is none.
 pub struct Shown {
     pub number: u8,
     pub at: usize,
     pub len: usize,
     pub announced: u8,
     pub frames: u8,
+    pub unknown: u8,
+}
+
+// What was heard of a component: its fields so far, and whether they are known to be all.
+pub struct Heard {
+    pub number: u8,
+    pub at: usize,
+    pub len: usize,
+    pub whole: u8,
+}
+
+// How far what was heard reaches: frames in a row, whether every frame of the running configuration was heard, and how many components
+// are in force.
+pub struct Known {
+    pub number: u8,
+    pub row: u8,
+    pub unbroken: u8,
+    pub components: usize,
 }
 
 // The frames, at the map's end.
 fn frames_of(map: &[u8]) -> Frames
-    requires { ⌜ length (now map) ≡ 34819 ⌝ }
+    requires { ⌜ length (now map) ≡ 36356 ⌝ }
     ensures { λ r. ⌜ r ≡ framesOf (now (map .entry)) ⌝ }
 {
     Frames {
         last: map[Map::FRAMES],
         heard: map[Map::FRAMES + 1],
         unbroken: map[Map::FRAMES + 2],
+        row: map[Map::FRAMES + 3],
     }
 }
 
 fn put_frames(map: &mut [u8], frames: Frames)
-    requires { ⌜ length (now map) ≡ 34819 ⌝ }
+    requires { ⌜ length (now map) ≡ 36356 ⌝ }
     ensures { λ _. ⌜ now (map .exit) ≡ withFrames frames (now (map .entry)) ⌝ }
 {
     map[Map::FRAMES] = frames.last;
     map[Map::FRAMES + 1] = frames.heard;
     map[Map::FRAMES + 2] = frames.unbroken;
+    map[Map::FRAMES + 3] = frames.row;
 }
 
 // 20. Every byte becomes 0.
@@ -102,7 +123,7 @@ pub fn take(map: &mut [u8], field: &[u8]) -> u8
 
 // Every announced structure is put in force.
 fn change(map: &mut [u8], sure: bool)
-    requires { ⌜ length (now map) ≡ 34819 ⌝ }
+    requires { ⌜ length (now map) ≡ 36356 ⌝ }
     ensures { λ _. ⌜ now (map .exit) ≡ changedFrom 256 0 sure (now (map .entry)) ⌝ }
 {
     let mut id: usize = 0;
@@ -115,7 +136,7 @@ fn change(map: &mut [u8], sure: bool)
 
 // One component at a change. Where it is not sure it may have cut a repetition off: what is in force and not whole is begun anew.
 fn change_one(block: &mut [u8], sure: bool)
-    requires { ⌜ length (now block) ≡ 136 ⌝ }
+    requires { ⌜ length (now block) ≡ 142 ⌝ }
     ensures { λ _. ⌜ now (block .exit) ≡ changed sure (now (block .entry)) ⌝ }
 {
     apply(block, sure);
@@ -126,24 +147,35 @@ fn change_one(block: &mut [u8], sure: bool)
 
 // What is announced of a component comes into force.
 fn apply(block: &mut [u8], sure: bool)
-    requires { ⌜ length (now block) ≡ 136 ⌝ }
+    requires { ⌜ length (now block) ≡ 142 ⌝ }
     ensures { λ _. ⌜ now (block .exit) ≡ applied sure (now (block .entry)) ⌝ }
 {
     let coming = Structure::load(&block[Structure::SIZE..Map::BLOCK]);
     if coming.deleted == 1 {
         room::clear(block);
+        coming.settled(sure).store(&mut block[0..Structure::SIZE]);
         return;
     }
     if coming.fields == 0 {
+        unmark(&mut block[0..Structure::SIZE]);
         return;
     }
     move_down(block);
     coming.settled(sure).store(&mut block[0..Structure::SIZE]);
+    structure::spoil(&mut block[0..Structure::SIZE]);
+}
+
+// A configuration has begun, and nothing was heard of the component in it.
+fn unmark(s: &mut [u8])
+    requires { ⌜ length (now s) ≡ 71 ⌝ }
+    ensures { λ _. ⌜ now (s .exit) ≡ withHead (markedHead 0 0 (headOf (now (s .entry)))) (now (s .entry)) ⌝ }
+{
+    Structure::load(s).marked(0, 0).store(s);
 }
 
 // A frame was missed: nothing that is being gathered is taken for the whole.
 fn spoil(map: &mut [u8])
-    requires { ⌜ length (now map) ≡ 34819 ⌝ }
+    requires { ⌜ length (now map) ≡ 36356 ⌝ }
     ensures { λ _. ⌜ now (map .exit) ≡ eachFrom 256 0 spoiledBoth (now (map .entry)) ⌝ }
 {
     let mut id: usize = 0;
@@ -155,7 +187,7 @@ fn spoil(map: &mut [u8])
 }
 
 fn spoil_one(block: &mut [u8])
-    requires { ⌜ length (now block) ≡ 136 ⌝ }
+    requires { ⌜ length (now block) ≡ 142 ⌝ }
     ensures { λ _. ⌜ now (block .exit) ≡ spoiledBoth (now (block .entry)) ⌝ }
 {
     structure::spoil(&mut block[0..Structure::SIZE]);
@@ -164,7 +196,7 @@ fn spoil_one(block: &mut [u8])
 
 // The announced structure's bytes take the place of those in force, and leave 0.
 fn move_down(block: &mut [u8])
-    requires { ⌜ length (now block) ≡ 136 ⌝ }
+    requires { ⌜ length (now block) ≡ 142 ⌝ }
     ensures { λ _. ⌜ now (block .exit) ≡ movedDown (now (block .entry)) ⌝ }
 {
     let mut k: usize = 0;
@@ -177,7 +209,7 @@ fn move_down(block: &mut [u8])
 
 // A field into its structure.
 fn put_in(map: &mut [u8], field: Field)
-    requires { ⌜ length (now map) ≡ 34819 ⌝ }
+    requires { ⌜ length (now map) ≡ 36356 ⌝ }
     requires { ⌜ field .flag < 2 ⌝ }
     requires { ⌜ (field .id ≡ 129 → ⊥) ⌝ }
     ensures { λ _. ⌜ now (map .exit) ≡ takenIn field (now (map .entry)) ⌝ }
@@ -187,13 +219,13 @@ fn put_in(map: &mut [u8], field: Field)
 }
 
 fn put_structure(s: &mut [u8], field: Field)
-    requires { ⌜ length (now s) ≡ 68 ⌝ }
+    requires { ⌜ length (now s) ≡ 71 ⌝ }
     ensures { λ _. ⌜ now (s .exit) ≡ putIn field (now (s .entry)) ⌝ }
 {
     if !Tdms::deletes(field.tdms) {
         structure::gather(s, field.tdms, field.links);
     } else if field.flag == 0 {
-        room::clear(s);
+        structure::absent(s);
     } else {
         structure::delete(s);
     }
@@ -211,12 +243,13 @@ pub fn show(map: &[u8], id: u8, count: u8) -> Shown
             len: 0,
             announced: 0,
             frames: 0,
+            unknown: 0,
         };
     }
     look::shown_at(map, id as usize, count)
 }
 
-// 20, 34. A mark for each component in force in the frame with a count: 1 whole, 2 unfinished.
+// 20, 34. A mark for each component in the frame with a count: 0 none, 1 whole, 2 unfinished, 3 not known.
 pub fn list(map: &[u8], count: u8, out: &mut [u8]) -> u8
     ensures { λ r. ⌜ r ≡ listAnswer (now (map .entry)) (now (out .entry)) ⌝ }
     ensures { λ _. ⌜ now (out .exit) ≡ listAfter (now (map .entry)) count (now (out .entry)) ⌝ }
@@ -234,4 +267,36 @@ pub fn list(map: &[u8], count: u8, out: &mut [u8]) -> u8
         id += 1;
     }
     0
+}
+
+// 20, 34. What was heard of a component that is in force in the frame with a count, whole or not.
+pub fn heard(map: &[u8], id: u8, count: u8) -> Heard
+    ensures { λ r. ⌜ r ≡ heard (now (map .entry)) id count ⌝ }
+{
+    let refused = look::checked(map);
+    if refused != 0 {
+        return Heard {
+            number: refused,
+            at: 0,
+            len: 0,
+            whole: 0,
+        };
+    }
+    look::heard_at(map, id as usize, count)
+}
+
+// 20, 34. How far what was heard reaches, and how many components are in force in the frame with a count.
+pub fn known(map: &[u8], count: u8) -> Known
+    ensures { λ r. ⌜ r ≡ known (now (map .entry)) count ⌝ }
+{
+    let refused = look::checked(map);
+    if refused != 0 {
+        return Known {
+            number: refused,
+            row: 0,
+            unbroken: 0,
+            components: 0,
+        };
+    }
+    look::known_at(map, count)
 }

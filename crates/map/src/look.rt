@@ -4,7 +4,9 @@ ghost use Prim.Native.Nat.{_<_};
 ghost use lib.ListN.{length};
 ghost use Rattle.map.specs.Map.{structureAt, goodAt, good, present, components};
 ghost use Rattle.structure.specs.Structure.{headOf};
-ghost use Rattle.map.specs.Calls.{tooMany, takeAnswer, foundOf, shownAt, showAnswer, markOf};
+ghost use Rattle.map.specs.Calls.{tooMany, takeAnswer, thenWhich, thenHead, unknown, foundOf, shownAt, showAnswer, markOf, heardLen, heardAt, knownAt};
+use crate::Heard;
+use crate::Known;
 use crate::Map;
 use crate::Shown;
 use field::Field;
@@ -14,7 +16,7 @@ use structure::Structure;
 
 // The head of the structure in force (which 0) or of the announced one (which 1).
 pub fn head(map: &[u8], id: usize, which: usize) -> Structure
-    requires { ⌜ length (now map) ≡ 34819 ⌝ }
+    requires { ⌜ length (now map) ≡ 36356 ⌝ }
     requires { ⌜ id < 256 ⌝ }
     requires { ⌜ which < 2 ⌝ }
     ensures { λ r. ⌜ r ≡ headOf (structureAt id which (now (map .entry))) ⌝ }
@@ -24,7 +26,7 @@ pub fn head(map: &[u8], id: usize, which: usize) -> Structure
 }
 
 fn good_at(map: &[u8], id: usize) -> bool
-    requires { ⌜ length (now map) ≡ 34819 ⌝ }
+    requires { ⌜ length (now map) ≡ 36356 ⌝ }
     requires { ⌜ id < 256 ⌝ }
     ensures { λ r. ⌜ r ≡ goodAt (now (map .entry)) id ⌝ }
 {
@@ -34,7 +36,7 @@ fn good_at(map: &[u8], id: usize) -> bool
 }
 
 fn is_good(map: &[u8]) -> bool
-    requires { ⌜ length (now map) ≡ 34819 ⌝ }
+    requires { ⌜ length (now map) ≡ 36356 ⌝ }
     ensures { λ r. ⌜ r ≡ good (now (map .entry)) ⌝ }
 {
     let mut all = crate::frames_of(map).good();
@@ -56,31 +58,31 @@ pub fn checked(map: &[u8]) -> u8
     if is_good(map) { 0 } else { 34 }
 }
 
-// A component is in its set, before or behind a change.
-fn present(map: &[u8], id: usize, which: usize, change: bool) -> bool
-    requires { ⌜ length (now map) ≡ 34819 ⌝ }
+// A component is in its set for certain, before or behind a change.
+fn present(map: &[u8], id: usize, which: usize, change: bool, sure: bool) -> bool
+    requires { ⌜ length (now map) ≡ 36356 ⌝ }
     requires { ⌜ id < 256 ⌝ }
-    ensures { λ r. ⌜ r ≡ present which change (now (map .entry)) id ⌝ }
+    ensures { λ r. ⌜ r ≡ present which change sure (now (map .entry)) id ⌝ }
 {
     let coming = head(map, id, 1);
     if which != 0 {
         return !change & (0 < coming.fields);
     }
-    if change & coming.said() {
-        0 < coming.fields
+    if change {
+        sure & coming.certainly()
     } else {
-        0 < head(map, id, 0).fields
+        head(map, id, 0).certainly()
     }
 }
 
-fn components(map: &[u8], which: usize, change: bool) -> usize
-    requires { ⌜ length (now map) ≡ 34819 ⌝ }
-    ensures { λ r. ⌜ r ≡ components which change (now (map .entry)) ⌝ }
+fn components(map: &[u8], which: usize, change: bool, sure: bool) -> usize
+    requires { ⌜ length (now map) ≡ 36356 ⌝ }
+    ensures { λ r. ⌜ r ≡ components which change sure (now (map .entry)) ⌝ }
 {
     let mut count: usize = 0;
     let mut id: usize = 0;
     while id < Map::IDS {
-        if present(map, id, which, change) {
+        if present(map, id, which, change, sure) {
             count += 1;
         }
         id += 1;
@@ -89,17 +91,19 @@ fn components(map: &[u8], which: usize, change: bool) -> usize
 }
 
 fn too_many(map: &[u8], field: Field) -> bool
-    requires { ⌜ length (now map) ≡ 34819 ⌝ }
+    requires { ⌜ length (now map) ≡ 36356 ⌝ }
     ensures { λ r. ⌜ r ≡ tooMany (now (map .entry)) field ⌝ }
 {
-    let change = crate::frames_of(map).changing(field.count);
+    let frames = crate::frames_of(map);
+    let change = frames.changing(field.count);
+    let sure = frames.sure_at(field.count);
     if Tdms::deletes(field.tdms) {
         return false;
     }
-    if present(map, field.id as usize, field.flag as usize, change) {
+    if present(map, field.id as usize, field.flag as usize, change, sure) {
         return false;
     }
-    Map::COMPONENTS <= components(map, field.flag as usize, change)
+    Map::COMPONENTS <= components(map, field.flag as usize, change, sure)
 }
 
 // 20, 34, 44, 45.
@@ -122,23 +126,40 @@ pub fn take_answer(map: &[u8], field: &[u8]) -> u8
     if too_many(map, field) { 45 } else { 0 }
 }
 
-// What is known of a component in the frame with a count.
-pub fn shown_at(map: &[u8], id: usize, count: u8) -> Shown
-    requires { ⌜ length (now map) ≡ 34819 ⌝ }
+// The structure of a component that is in force in the frame with a count: the announced one behind the change.
+struct Then {
+    which: usize,
+    head: Structure,
+}
+
+fn then_at(map: &[u8], id: usize, count: u8) -> Then
+    requires { ⌜ length (now map) ≡ 36356 ⌝ }
     requires { ⌜ id < 256 ⌝ }
-    ensures { λ r. ⌜ r ≡ shownAt (now (map .entry)) id count ⌝ }
+    ensures { λ r. ⌜ (r .which ≡ thenWhich (now (map .entry)) id count) × (r .head ≡ thenHead (now (map .entry)) id count) ⌝ }
 {
     let frames = crate::frames_of(map);
     let coming = head(map, id, 1);
-    let said = coming.said();
-    let behind = frames.changing(count) & said;
-    let head = if behind {
-        coming.settled(frames.all_heard())
-    } else {
-        head(map, id, 0)
-    };
-    let which = if behind { 1 } else { 0 };
-    found(frames, id, which, head, said)
+    if frames.changing(count) & coming.said() {
+        return Then {
+            which: 1,
+            head: coming.settled(frames.all_heard()),
+        };
+    }
+    Then {
+        which: 0,
+        head: head(map, id, 0),
+    }
+}
+
+// What is known of a component in the frame with a count.
+pub fn shown_at(map: &[u8], id: usize, count: u8) -> Shown
+    requires { ⌜ length (now map) ≡ 36356 ⌝ }
+    requires { ⌜ id < 256 ⌝ }
+    ensures { λ r. ⌜ r ≡ shownAt (now (map .entry)) id count ⌝ }
+{
+    let said = head(map, id, 1).said();
+    let then = then_at(map, id, count);
+    found(crate::frames_of(map), id, then.which, then.head, said)
 }
 
 // The answer of a structure: its fields where it is whole, 46 where it is not.
@@ -148,14 +169,16 @@ fn found(frames: Frames, id: usize, which: usize, head: Structure, said: bool) -
     ensures { λ r. ⌜ r ≡ foundOf frames id which head said ⌝ }
 {
     let announced = if said { 1 } else { 0 };
-    let frames = if said { frames.until() } else { 0 };
+    let until = if said { frames.until() } else { 0 };
+    let unknown = if unknown(frames, head) { 1 } else { 0 };
     if head.whole == 1 {
         return Shown {
             number: 0,
             at: id * Map::BLOCK + which * Structure::SIZE + Structure::FIELDS,
             len: Structure::FIELD * head.fields as usize,
             announced,
-            frames,
+            frames: until,
+            unknown,
         };
     }
     let number = if (0 < head.fields) & (head.whole == 0) {
@@ -168,19 +191,87 @@ fn found(frames: Frames, id: usize, which: usize, head: Structure, said: bool) -
         at: 0,
         len: 0,
         announced,
-        frames,
+        frames: until,
+        unknown,
     }
 }
 
-// A mark for a list: 0 no component, 1 whole, 2 unfinished.
+// Nothing came of a component in this configuration, and not enough was heard to hold that there is none.
+fn unknown(frames: Frames, head: Structure) -> bool
+    ensures { λ r. ⌜ r ≡ unknown frames head ⌝ }
+{
+    (head.fields == 0) & ((head.certain == 0) & !frames.enough())
+}
+
+// A mark for a list: 0 no component, 1 whole, 2 unfinished, 3 not known.
 pub fn mark(shown: Shown) -> u8
     ensures { λ r. ⌜ r ≡ markOf shown ⌝ }
 {
     if shown.number == 46 {
         2
-    } else if shown.len == 0 {
+    } else if shown.len != 0 {
+        1
+    } else if shown.unknown == 1 {
+        3
+    } else {
+        0
+    }
+}
+
+// How many bytes of fields were heard of a structure: none, where it was spoiled.
+fn heard_len(map: &[u8], id: usize, which: usize, head: Structure) -> usize
+    requires { ⌜ length (now map) ≡ 36356 ⌝ }
+    requires { ⌜ id < 256 ⌝ }
+    requires { ⌜ which < 2 ⌝ }
+    ensures { λ r. ⌜ r ≡ heardLen head (structureAt id which (now (map .entry))) ⌝ }
+{
+    let at = id * Map::BLOCK + which * Structure::SIZE;
+    if structure::nth(&map[at..at + Structure::SIZE], 0) == Tdms::END - 1 {
         0
     } else {
-        1
+        Structure::FIELD * head.stored()
+    }
+}
+
+// What was heard of a component, in the frame with a count.
+pub fn heard_at(map: &[u8], id: usize, count: u8) -> Heard
+    requires { ⌜ length (now map) ≡ 36356 ⌝ }
+    requires { ⌜ id < 256 ⌝ }
+    ensures { λ r. ⌜ r ≡ heardAt (now (map .entry)) id count ⌝ }
+{
+    let then = then_at(map, id, count);
+    let len = heard_len(map, id, then.which, then.head);
+    let at = if len == 0 {
+        0
+    } else {
+        id * Map::BLOCK + then.which * Structure::SIZE + Structure::FIELDS
+    };
+    Heard {
+        number: 0,
+        at,
+        len,
+        whole: then.head.whole,
+    }
+}
+
+// How far what was heard reaches, and how many components are in force in the frame with a count.
+pub fn known_at(map: &[u8], count: u8) -> Known
+    requires { ⌜ length (now map) ≡ 36356 ⌝ }
+    ensures { λ r. ⌜ r ≡ knownAt (now (map .entry)) count ⌝ }
+{
+    let mut components: usize = 0;
+    let mut id: usize = 0;
+    while id < Map::IDS {
+        if 0 < then_at(map, id, count).head.fields {
+            components += 1;
+        }
+        id += 1;
+    }
+    let frames = crate::frames_of(map);
+    Known {
+        number: 0,
+        row: frames.row,
+        unbroken: frames.unbroken,
+        components,
     }
 }

@@ -17,19 +17,21 @@ use mathlib.Core.Logic.{_⊎_, inl, inr}
 use Prim.Native.Nat.{ℕ, zero, suc, _+_, _-_, _*_, _%_, _^_, _≤_, _<_}
 use native.Mathlib.Omega.{arith}
 use native.Mathlib.Decide.{decLt, ℕ-discrete}
-use borrow.Author.Tests.{eq-eqb, ne-eqb, le-ltb, lt-ltb, ltb-true}
+use borrow.Author.Tests.{eq-eqb, ne-eqb, eqb-true, le-ltb, ltb-true}
 use lib.Dec.{T, leb, ltb, eqb, lit<}
 use lib.ListN.{length, getD, drop}
 use lib.Seq.{getD-drop}
 use Rattle.bits.specs.Bits.{blank}
-use Rattle.bits.proofs.Search.{and-left}
+use Rattle.bits.specs.Search.{first}
+use Rattle.bits.proofs.Search.{and-left, first-holds}
 use Rattle.bits.proofs.Storing.{blank-length}
 use Rattle.field.specs.Field.{key, fln1, fcp, deletes}
-use Rattle.structure.specs.Structure.{most, structureSize, allOnes, headOf, withHead, nth, stored, member, goesOn, turnOf, turned, gathered, spoiled}
+use Rattle.structure.specs.Structure.{most, structureSize, allOnes, headOf, withHead, nth, stored, placeOf, member, nextPlace, isNext, goesOn, turnOf, gatheringHead, completedHead, lateOf, turned, gathered, spoiled}
 use Rattle.structure.specs.declared.Structure.{Structure}
 use Rattle.structure.specs.declared.Turn.{Turn}
 use Rattle.structure.specs.declared.Turn.the-variants.{Begins, Joins, Overflows, Completes, Known}
-use Rattle.structure.proofs.Gathering.{Holds, Empty, head-stored, head-nth, with-head-length, stored-few, begun, joined, completed}
+use Rattle.structure.proofs.Gathering.{Holds, Empty, Alike, head-stored, head-nth, with-head-length, stored-few, alike-empty, beginning-holds, begun, joined, completed, kept-alike, other-begins}
+use Rattle.structure.proofs.Kept.{spoiled-length, spoiled-none, spoiled-head, spoiled-first}
 
 pub record Fields (xs : List ℕ) : Type 0 where
   pub few : length xs ≤ most
@@ -49,6 +51,38 @@ pub data Part (s xs : List ℕ) (due : ℕ) : Type 0 where
   empty : Empty s → Part s xs due
   stuck : Stuck s → Part s xs due
   run : (i k l : ℕ) → l ≤ 1 → 0 < k → i + k ≤ length xs → due ≡ i + k → Holds s k (drop i xs) 0 l → Part s xs due
+
+-- a field that a structure has
+pub data Listed (s : List ℕ) (t : ℕ) : Type 0 where
+  placed : (j : ℕ) → j < stored (headOf s) → nth j s ≡ t → Listed s t
+
+truth : (b : Bool) → T b → b ≡ true
+truth true h = refl
+truth false h = absurd h
+
+pub next-listed : (s : List ℕ) (t : ℕ) → 0 < stored (headOf s) → isNext s t ≡ true → Listed s t
+unfolding isNext member placeOf nextPlace
+next-listed s t pos e = go (eqb (headOf s .last) 0) refl
+  where
+    is : ℕ → Bool
+    is k = eqb (nth k s) t
+
+    by : (b : Bool) → eqb (headOf s .last) 0 ≡ b
+        → cond b (ltb (first is (stored (headOf s)) 0) (stored (headOf s))) (is (cond (ltb (headOf s .last) (stored (headOf s))) (headOf s .last) 0)) ≡ true
+    by b q =
+        ap (λ (x : Bool). cond x (ltb (first is (stored (headOf s)) 0) (stored (headOf s))) (is (cond (ltb (headOf s .last) (stored (headOf s))) (headOf s .last) 0))) (sym q)
+        ∙ e
+
+    within : (b : Bool) → ltb (headOf s .last) (stored (headOf s)) ≡ b → is (cond b (headOf s .last) 0) ≡ true → Listed s t
+    within true q h = placed (headOf s .last) (ltb-true (headOf s .last) (stored (headOf s)) q) (eqb-true (nth (headOf s .last) s) t h)
+    within false q h = placed 0 pos (eqb-true (nth 0 s) t h)
+
+    go : (b : Bool) → eqb (headOf s .last) 0 ≡ b → Listed s t
+    go true q =
+        let n : first is (stored (headOf s)) 0 < stored (headOf s) = ltb-true (first is (stored (headOf s)) 0) (stored (headOf s)) (by true q) in
+        placed (first is (stored (headOf s)) 0) n (eqb-true _ t (truth _ (first-holds is (stored (headOf s)) 0 (omega (arith, n)))))
+    go false q =
+        within (ltb (headOf s .last) (stored (headOf s))) refl (by false q)
 
 -- ---- keys of a structure
 
@@ -88,18 +122,14 @@ anew : (s : List ℕ) (t l : ℕ) → turnOf s t l ≡ Begins → gathered s t l
 unfolding gathered
 anew s t l e = ap (λ (u : Turn). turned u s t l) e
 
-blank-empty : Empty (blank structureSize)
-unfolding headOf blank
-blank-empty = record { size = refl; fields = refl; whole = refl; deleted = refl; links = omega arith }
-
 begun-anew : (s : List ℕ) (t l : ℕ) (xs : List ℕ) → t < 2 ^ 64 → t ≡ getD xs 0 0 → Holds (turned Begins s t l) 1 xs 0 l
-unfolding turned gathered turnOf goesOn headOf blank
-begun-anew s t l xs small is = begun (blank structureSize) blank-empty t l xs small is
+unfolding turned
+begun-anew s t l xs small is = beginning-holds (lateOf (headOf s)) 1 t l xs small is
 
 turn-begins : (s : List ℕ) (t l : ℕ) → headOf s .whole ≡ 0 → goesOn s t l ≡ false → eqb (nth 0 s) t ≡ false → turnOf s t l ≡ Begins
 unfolding turnOf
 turn-begins s t l w g n =
-    (λ i. cond (eqb (w i) 1) (cond (member s t) Known Begins)
+    (λ i. cond (eqb (w i) 1) (cond (isNext s t) Known Begins)
     (cond (g i) (cond (ltb (headOf s .fields) most) Joins Overflows)
     (cond (ltb 0 (headOf s .fields) && (leb (headOf s .fields) most && n i)) Completes Begins)))
     ∙ none (ltb 0 (headOf s .fields)) (leb (headOf s .fields) most)
@@ -111,70 +141,61 @@ turn-begins s t l w g n =
 
 -- where nothing is known to be whole, a field that is taken in leaves at least one
 pub gathered-some : (s : List ℕ) (t l : ℕ) → length s ≡ structureSize → headOf s .whole ≡ 0 → t < 2 ^ 64 → 0 < headOf (gathered s t l) .fields
-unfolding gathered turned turnOf
+unfolding gathered turned turnOf gatheringHead completedHead
 gathered-some s t l ls w small =
     subst (λ (u : Turn). 0 < headOf (turned u s t l) .fields)
-    (sym (λ i. cond (eqb (w i) 1) (cond (member s t) Known Begins) (cond (goesOn s t l) (cond (ltb n most) Joins Overflows)
+    (sym (λ i. cond (eqb (w i) 1) (cond (isNext s t) Known Begins) (cond (goesOn s t l) (cond (ltb n most) Joins Overflows)
     (cond (ltb 0 n && (leb n most && eqb (nth 0 s) t)) Completes Begins))))
     (go (goesOn s t l) (ltb n most) (ltb 0 n && (leb n most && eqb (nth 0 s) t)) refl refl)
   where
     n : ℕ
     n = headOf s .fields
 
-    made : ℕ → ℕ → Structure
-    made k v = record { fields = k; whole = v; links = l; deleted = 0 }
-
     go : (g r f : Bool) → ltb n most ≡ r → (ltb 0 n && (leb n most && eqb (nth 0 s) t)) ≡ f
         → 0 < headOf (turned (cond g (cond r Joins Overflows) (cond f Completes Begins)) s t l) .fields
     go true true f er ef =
-        let h = head-nth (withHead (made (n + 1) 0) s) (with-head-length s ls (made (n + 1) 0)) n t (ltb-true n most er) ∙ head-stored s ls (made (n + 1) 0) in
+        let k : Structure = gatheringHead (n + 1) l (headOf s) in
+        let h = head-nth (withHead k s) (with-head-length s ls k) n t (ltb-true n most er) ∙ head-stored s ls k in
         omega (arith, ap (λ (x : Structure). x .fields) h)
-    go true false f er ef = omega (arith, ap (λ (x : Structure). x .fields) (head-stored s ls (made (most + 1) 0)))
+    go true false f er ef =
+        omega (arith, ap (λ (x : Structure). x .fields) (head-stored s ls (gatheringHead (most + 1) l (headOf s))))
     go false r true er ef =
-        omega (arith, ap (λ (x : Structure). x .fields) (head-stored s ls (made n 1)), ltb-true 0 n (and-left (ltb 0 n) _ ef))
+        omega (arith, ap (λ (x : Structure). x .fields) (head-stored s ls (completedHead l (headOf s))), ltb-true 0 n (and-left (ltb 0 n) _ ef))
     go false r false er ef = omega (arith, begun-anew s t l (t ∷ []) small refl .fields)
 
-pub gathered-whole : (s : List ℕ) (t l : ℕ) → headOf s .whole ≡ 1 → 0 < headOf s .fields → t < 2 ^ 64 → 0 < headOf (gathered s t l) .fields
-unfolding gathered turned turnOf
-gathered-whole s t l w pos small =
-    subst (λ (u : Turn). 0 < headOf (turned u s t l) .fields)
-    (sym (λ i. cond (eqb (w i) 1) (cond (member s t) Known Begins) (cond (goesOn s t l) (cond (ltb (headOf s .fields) most) Joins Overflows)
-    (cond (ltb 0 (headOf s .fields) && (leb (headOf s .fields) most && eqb (nth 0 s) t)) Completes Begins)))) (go (member s t))
+pub gathered-whole : (s : List ℕ) (t l : ℕ) → length s ≡ structureSize → headOf s .whole ≡ 1 → 0 < headOf s .fields → t < 2 ^ 64 → 0 < headOf (gathered s t l) .fields
+gathered-whole s t l ls w pos small = go (isNext s t) refl
   where
-    go : (b : Bool) → 0 < headOf (turned (cond b Known Begins) s t l) .fields
-    go true = pos
-    go false = omega (arith, begun-anew s t l (t ∷ []) small refl .fields)
+    go : (b : Bool) → isNext s t ≡ b → 0 < headOf (gathered s t l) .fields
+    go true e = omega (arith, pos, kept-alike s t l w ls e .fields)
+    go false e =
+        subst (λ (x : List ℕ). 0 < headOf x .fields) (sym (anew s t l (other-begins s t l w e)))
+        (omega (arith, begun-anew s t l (t ∷ []) small refl .fields))
 
 -- ---- spoiled
 
-stuck-made : (s : List ℕ) → Stuck (turned Begins s allOnes 0)
-stuck-made s =
-    let h = begun-anew s allOnes 0 (allOnes ∷ []) (lit< tt) refl in
+pub spoils : (s : List ℕ) → length s ≡ structureSize → headOf s .whole ≡ 0 → 0 < headOf s .fields → Stuck (spoiled s)
+spoils s ls w p =
+    let h = spoiled-head s ls w p in
     record {
-      size = h .size;
-      fields = h .fields;
-      whole = h .whole;
-      deleted = h .deleted;
-      links = omega (arith, h .links);
-      first = h .each 0 (lit< tt);
+      size = spoiled-length s ls;
+      fields = ap (λ (x : Structure). x .fields) h;
+      whole = ap (λ (x : Structure). x .whole) h;
+      deleted = ap (λ (x : Structure). x .deleted) h;
+      links = omega (arith, ap (λ (x : Structure). x .links) h);
+      first = spoiled-first s ls w p;
     }
 
-pub spoils : (s : List ℕ) → headOf s .whole ≡ 0 → 0 < headOf s .fields → Stuck (spoiled s)
-unfolding spoiled
-spoils s w p =
-    subst Stuck (sym (λ i. cond (eqb (w i) 0 && lt-ltb 0 (headOf s .fields) p i) (turned Begins s allOnes 0) s)) (stuck-made s)
+pub spoiled-empty : (s : List ℕ) → Empty s → Empty (spoiled s)
+spoiled-empty s e = alike-empty s (spoiled s) (spoiled-none s (e .size) (λ i. eqb (e .whole i) 0 && ltb 0 (e .fields i))) e
 
 pub spoiled-part : (s xs ys : List ℕ) (due next : ℕ) → Part s xs due → Part (spoiled s) ys next
-unfolding spoiled
-spoiled-part s xs ys due next (empty e) =
-    subst (λ (x : List ℕ). Part x ys next)
-    (sym (λ i. cond (eqb (e .whole i) 0 && ltb 0 (e .fields i)) (turned Begins s allOnes 0) s)) (empty e)
-spoiled-part s xs ys due next (stuck k) = stuck (spoils s (k .whole) (omega (arith, k .fields)))
-spoiled-part s xs ys due next (run i k l hl p q d h) = stuck (spoils s (h .whole) (omega (arith, h .fields, p)))
+spoiled-part s xs ys due next (empty e) = empty (spoiled-empty s e)
+spoiled-part s xs ys due next (stuck k) = stuck (spoils s (k .size) (k .whole) (omega (arith, k .fields)))
+spoiled-part s xs ys due next (run i k l hl p q d h) = stuck (spoils s (h .size) (h .whole) (omega (arith, h .fields, p)))
 
-pub spoiled-whole : (s : List ℕ) → headOf s .whole ≡ 1 → spoiled s ≡ s
-unfolding spoiled
-spoiled-whole s w = λ i. cond (eqb (w i) 0 && ltb 0 (headOf s .fields)) (turned Begins s allOnes 0) s
+pub spoiled-whole : (s : List ℕ) → length s ≡ structureSize → headOf s .whole ≡ 1 → Alike s (spoiled s)
+spoiled-whole s ls w = spoiled-none s ls (λ i. eqb (w i) 0 && ltb 0 (headOf s .fields))
 
 -- ---- one more field
 
@@ -315,20 +336,11 @@ module _ (xs : List ℕ) (f : Fields xs) (i : ℕ) (hi : i < length xs) (l : ℕ
       go (yes q) at = comes-round s j k m hm pos fits h (at ∙ ap (λ (b : Bool). cond b 0 (j + k)) (eq-eqb (j + k) (length xs) q)) q
       go (no q) at = goes-on s j k m hm pos fits h (at ∙ ap (λ (b : Bool). cond b 0 (j + k)) (ne-eqb (j + k) (length xs) q))
 
-  -- where a structure is held as whole: it lists the field, or this is begun anew
-  pub whole-takes : (s : List ℕ) → headOf s .whole ≡ 1 → (gathered s t l ≡ s) ⊎ Took (gathered s t l) xs (suc i)
-  unfolding gathered turnOf turned
-  whole-takes s w = go (member s t) refl
+  -- where a structure is held as whole: it lists the field, which comes in turn, or this is begun anew
+  pub whole-takes : (s : List ℕ) → length s ≡ structureSize → headOf s .whole ≡ 1 → 0 < stored (headOf s)
+      → (Alike s (gathered s t l) × Listed s t) ⊎ Took (gathered s t l) xs (suc i)
+  whole-takes s ls w pos = go (isNext s t) refl
     where
-      either : Bool → Turn
-      either b =
-          cond (eqb (headOf s .whole) 1) (cond b Known Begins) (cond (goesOn s t l) (cond (ltb (headOf s .fields) most) Joins Overflows)
-          (cond (ltb 0 (headOf s .fields) && (leb (headOf s .fields) most && eqb (nth 0 s) t)) Completes Begins))
-
-      is : (b : Bool) → either b ≡ cond b Known Begins
-      is b = λ j. cond (eqb (w j) 1) (cond b Known Begins) (cond (goesOn s t l) (cond (ltb (headOf s .fields) most) Joins Overflows)
-          (cond (ltb 0 (headOf s .fields) && (leb (headOf s .fields) most && eqb (nth 0 s) t)) Completes Begins))
-
-      go : (b : Bool) → member s t ≡ b → (gathered s t l ≡ s) ⊎ Took (gathered s t l) xs (suc i)
-      go true e = inl (ap (λ (u : Turn). turned u s t l) (ap either e ∙ is true))
-      go false e = inr (begins-run s (ap either e ∙ is false))
+      go : (b : Bool) → isNext s t ≡ b → (Alike s (gathered s t l) × Listed s t) ⊎ Took (gathered s t l) xs (suc i)
+      go true e = inl (kept-alike s t l w ls e, next-listed s t pos e)
+      go false e = inr (begins-run s (other-begins s t l w e))

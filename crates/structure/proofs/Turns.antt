@@ -1,62 +1,103 @@
 -- What the functions on one structure rest on.
 --
 --   good-tests                             the tests of a good head, in the code's order
---   settled-whole, settled-stays           a settled head, by the test that makes it whole
+--   settled-mark                           a settled head, by the tests that mark it
 --   stored-most, stored-from, stored-to    how many fields have room
---   deletion-stored                        a deletion, as it is stored
+--   next-within, next-beyond, next-to      the place of the field that comes next
+--   late-some, late-none                   whether fields were there before
+--   none-stored                            a structure of no field, as it is stored
 --   on-empty, on-goes                      whether a field goes on, by the tests
---   member-none, member-hit, member-pass, member-end    the search from the last field to the first
+--   place-none, place-hit, place-pass, place-end    the search from the last field to the first
+--   next-any, next-one                     whether a field comes in turn, by the tests
 --   turn-known .. turn-begins              what one more field does, by the tests
 --   joins-room                             a field that joins has room
 --   begun-stored, begun-gathered           a structure that is begun anew, as it is stored and where one more field does it
---   joined-stored .. known-stays           the structure with it taken in, as it is stored
+--   joined-stored .. known-stored          the structure with it taken in, as it is stored
 --   spoils, spoils-none                    a structure that may lack a field, by the test
 --
 -- Assumes nothing.
 use mathlib.Core.Path.{_≡_, refl, sym, ap, ap₂, _∙_, subst}
 use mathlib.Core.Bool.{Bool, true, false, cond, _&&_, _||_}
 use mathlib.Core.List.{List}
+use mathlib.Core.Logic.{_⊎_, inl, inr}
 use Prim.Native.Nat.{ℕ, suc, _+_, _-_, _≤_, _<_}
 use native.Mathlib.Omega.{arith}
 use native.Mathlib.Decide.{decLt}
 use borrow.Author.Tests.{eq-eqb, ne-eqb, lt-ltb, le-ltb, ltb-true}
-use lib.Dec.{leb, ltb, eqb, lit≤}
+use lib.Dec.{leb, ltb, eqb, lit<, lit≤}
 use lib.ListN.{length, set}
 use Rattle.bits.specs.Bits.{blank}
 use Rattle.bits.specs.Search.{first}
+use Rattle.bits.proofs.Search.{first-le}
 use Rattle.slot.specs.Part.{put}
 use Rattle.field.specs.Field.{key}
-use Rattle.structure.specs.Structure.{most, structureSize, allOnes, headOf, withHead, nth, withNth, stored, member, goesOn, turnOf, turned, gathered, spoiled, deletion, goodHead, settledHead}
+use Rattle.structure.specs.Structure.{most, structureSize, allOnes, headOf, withHead, nth, withNth, stored, placeOf, member, nextPlace, isNext, goesOn, turnOf, gatheringHead, completedHead, markedHead, lateOf, beginning, turned, gathered, spoiled, noneHead, goodHead, complete, settledHead}
 use Rattle.structure.specs.declared.Structure.{Structure}
 use Rattle.structure.specs.declared.Turn.{Turn}
 use Rattle.structure.specs.declared.Turn.the-variants.{Begins, Joins, Overflows, Completes, Known}
 
 -- ---- the head
 
-and-in : (a b c d e : Bool) → ((a && (b && (c && d))) && e) ≡ (a && (b && (c && (d && e))))
-and-in true true true d e = refl
-and-in true true false d e = refl
-and-in true false c d e = refl
-and-in false b c d e = refl
+and-in : (a b c d e f g : Bool) → ((a && (b && (c && (d && (e && f))))) && g) ≡ (a && (b && (c && (d && (e && (f && g))))))
+and-in true true true true true f g = refl
+and-in true true true true false f g = refl
+and-in true true true false e f g = refl
+and-in true true false d e f g = refl
+and-in true false c d e f g = refl
+and-in false b c d e f g = refl
 
-pub good-tests : (h : Structure) → ((leb (h .fields) (most + 1) && (leb (h .whole) 1 && (leb (h .links) 1 && leb (h .deleted) 1)))
+pub good-tests : (h : Structure) → ((leb (h .fields) (most + 1) && (leb (h .whole) 1 && (leb (h .links) 1 && (leb (h .deleted) 1
+    && (leb (h .late) 1 && leb (h .certain) 1)))))
     && ((eqb (h .whole) 0 || (ltb 0 (h .fields) && leb (h .fields) most)) && (eqb (h .deleted) 0 || eqb (h .fields) 0))) ≡ goodHead h
 unfolding goodHead
 good-tests h =
-    and-in (leb (h .fields) (most + 1)) (leb (h .whole) 1) (leb (h .links) 1) (leb (h .deleted) 1)
+    and-in (leb (h .fields) (most + 1)) (leb (h .whole) 1) (leb (h .links) 1) (leb (h .deleted) 1) (leb (h .late) 1) (leb (h .certain) 1)
     ((eqb (h .whole) 0 || (ltb 0 (h .fields) && leb (h .fields) most)) && (eqb (h .deleted) 0 || eqb (h .fields) 0))
 
-module _ (sure : Bool) (h : Structure) where
-  abbrev marked : ℕ → Structure
-  marked w = record { fields = h .fields; whole = w; links = h .links; deleted = 0 }
+module _ (sure : Bool) (h : Structure) (c : Bool) (ec : c ≡ complete h) where
+  abbrev settledBy : Bool → Bool → Structure
+  settledBy w s = record {
+    fields = h .fields;
+    whole = cond w 1 (h .whole);
+    links = h .links;
+    deleted = 0;
+    late = h .late;
+    last = 0;
+    certain = cond s (h .certain) 0;
+  }
 
-  pub settled-whole : (sure && (ltb 0 (h .fields) && leb (h .fields) most)) ≡ true → marked 1 ≡ settledHead sure h
+  settled-by : (w s : Bool) → (sure && c) ≡ w → sure ≡ s → settledBy w s ≡ settledHead sure h
   unfolding settledHead
-  settled-whole e = sym (ap (λ (b : Bool). marked (cond b 1 (h .whole))) e)
+  settled-by w s ew es = λ i. settledBy ((sym ew ∙ ap (λ (x : Bool). sure && x) ec) i) (sym es i)
 
-  pub settled-stays : (sure && (ltb 0 (h .fields) && leb (h .fields) most)) ≡ false → marked (h .whole) ≡ settledHead sure h
-  unfolding settledHead
-  settled-stays e = sym (ap (λ (b : Bool). marked (cond b 1 (h .whole))) e)
+  -- the mark as the first test left it
+  pub settled-mark : (s : Bool) → sure ≡ s → (w : ℕ) → ((sure && c) ≡ true × w ≡ 1) ⊎ ((sure && c) ≡ false × w ≡ h .whole)
+      → record { fields = h .fields; whole = w; links = h .links; deleted = 0; late = h .late; last = 0; certain = cond s (h .certain) 0 } ≡ settledHead sure h
+  settled-mark s es w (inl q) = ap (λ (x : ℕ). marking x) (q .1) ∙ settled-by true s (q .0) es
+    where
+      marking : ℕ → Structure
+      marking x = record { fields = h .fields; whole = x; links = h .links; deleted = 0; late = h .late; last = 0; certain = cond s (h .certain) 0 }
+  settled-mark s es w (inr q) = ap (λ (x : ℕ). marking x) (q .1) ∙ settled-by false s (q .0) es
+    where
+      marking : ℕ → Structure
+      marking x = record { fields = h .fields; whole = x; links = h .links; deleted = 0; late = h .late; last = 0; certain = cond s (h .certain) 0 }
+
+module _ (h : Structure) where
+  pub next-within : h .last < stored h → h .last ≡ nextPlace h
+  unfolding nextPlace
+  next-within q = sym (ap (λ (b : Bool). cond b (h .last) 0) (lt-ltb (h .last) (stored h) q))
+
+  pub next-beyond : stored h ≤ h .last → 0 ≡ nextPlace h
+  unfolding nextPlace
+  next-beyond q = sym (ap (λ (b : Bool). cond b (h .last) 0) (le-ltb (h .last) (stored h) q))
+
+  pub late-some : 0 < h .fields → 1 ≡ lateOf h
+  unfolding lateOf
+  late-some q = sym (ap (λ (b : Bool). cond b 1 0) (lt-ltb 0 (h .fields) q))
+
+  pub late-none : h .fields ≤ 0 → 0 ≡ lateOf h
+  unfolding lateOf
+  late-none q = sym (ap (λ (b : Bool). cond b 1 0) (le-ltb 0 (h .fields) q))
 
 module _ (h : Structure) where
   pub stored-most : most < h .fields → most ≡ stored h
@@ -79,9 +120,17 @@ module _ (h : Structure) where
       go (yes q) = subst (λ (b : Bool). cond b most (h .fields) ≤ most) (sym (lt-ltb most (h .fields) q)) (lit≤ tt)
       go (no q) = subst (λ (b : Bool). cond b most (h .fields) ≤ most) (sym (le-ltb most (h .fields) (omega arith))) (omega arith)
 
-pub deletion-stored : (s b : List ℕ) → length s ≡ structureSize → b ≡ blank (length s) → set b 3 1 ≡ deletion
-unfolding deletion withHead put blank
-deletion-stored s b l e = ap (λ (x : List ℕ). set x 3 1) (e ∙ ap blank l)
+pub next-to : (h : Structure) → nextPlace h < most
+unfolding nextPlace
+next-to h = go (decLt (h .last) (stored h))
+  where
+    go : Dec (h .last < stored h) → cond (ltb (h .last) (stored h)) (h .last) 0 < most
+    go (yes q) = subst (λ (b : Bool). cond b (h .last) 0 < most) (sym (lt-ltb (h .last) (stored h) q)) (omega (arith, stored-to h))
+    go (no q) = subst (λ (b : Bool). cond b (h .last) 0 < most) (sym (le-ltb (h .last) (stored h) (omega arith))) (lit< tt)
+
+pub none-stored : (s b : List ℕ) (d : ℕ) → length s ≡ structureSize → b ≡ blank (length s) → set (set b 3 d) 6 1 ≡ withHead (noneHead d) (blank structureSize)
+unfolding withHead noneHead put blank
+none-stored s b d l e = ap (λ (x : List ℕ). set (set x 3 d) 6 1) (e ∙ ap blank l)
 
 -- ---- whether a field goes on
 
@@ -100,42 +149,61 @@ module _ (s : List ℕ) (t l : ℕ) (h : Structure) (e : h ≡ headOf s) where
       ∙ sym (ap (λ (c : Bool). c && (eqb (h .links) l && ltb (key (nth (stored h - 1) s)) (key t))) (lt-ltb 0 (h .fields) (omega (arith, ne))))
       ∙ ap (λ (g : Structure). ltb 0 (g .fields) && (eqb (g .links) l && ltb (key (nth (stored g - 1) s)) (key t))) e
 
--- ---- the search: found says whether a field from k on is the one
+-- ---- the search: the first of the fields from k on that is the one
 
 module _ (s : List ℕ) (t : ℕ) where
   abbrev pub fieldIs : ℕ → Bool
   fieldIs k = eqb (nth k s) t
 
-  abbrev pub listedFrom : ℕ → Bool
-  listedFrom k = ltb (first fieldIs (stored (headOf s) - k) k) (stored (headOf s))
+  abbrev pub firstFrom : ℕ → ℕ
+  firstFrom k = first fieldIs (stored (headOf s) - k) k
 
-  pub member-none : (k : ℕ) → k ≡ stored (headOf s) → false ≡ listedFrom k
+  pub place-none : (k : ℕ) → k ≡ stored (headOf s) → k ≡ firstFrom k
   unfolding first
-  member-none k e =
+  place-none k e =
       let z : stored (headOf s) - k ≡ 0 = omega arith in
-      sym (ap (λ (n : ℕ). ltb (first fieldIs n k) (stored (headOf s))) z ∙ le-ltb k (stored (headOf s)) (omega arith))
+      sym (ap (λ (n : ℕ). first fieldIs n k) z)
 
   module _ (k : ℕ) (pos : 0 < k) (to : k ≤ stored (headOf s)) (x : ℕ) (ex : x ≡ nth (k - 1) s) where
-    down : (b : Bool) → fieldIs (k - 1) ≡ b → listedFrom (k - 1) ≡ ltb (cond b (k - 1) (first fieldIs (stored (headOf s) - k) k)) (stored (headOf s))
+    down : (b : Bool) → fieldIs (k - 1) ≡ b → firstFrom (k - 1) ≡ cond b (k - 1) (firstFrom k)
     unfolding first
     down b q =
         let more : stored (headOf s) - (k - 1) ≡ suc (stored (headOf s) - k) = omega arith in
         let next : suc (k - 1) ≡ k = omega arith in
-        ap (λ (n : ℕ). ltb (first fieldIs n (k - 1)) (stored (headOf s))) more
-        ∙ ap₂ (λ (c : Bool) (n : ℕ). ltb (cond c (k - 1) (first fieldIs (stored (headOf s) - k) n)) (stored (headOf s))) q next
+        ap (λ (n : ℕ). first fieldIs n (k - 1)) more
+        ∙ ap₂ (λ (c : Bool) (n : ℕ). cond c (k - 1) (first fieldIs (stored (headOf s) - k) n)) q next
 
-    pub member-hit : x ≡ t → true ≡ listedFrom (k - 1)
-    member-hit q = sym (down true (eq-eqb (nth (k - 1) s) t (sym ex ∙ q)) ∙ lt-ltb (k - 1) (stored (headOf s)) (omega arith))
+    pub place-hit : x ≡ t → k - 1 ≡ firstFrom (k - 1)
+    place-hit q = sym (down true (eq-eqb (nth (k - 1) s) t (sym ex ∙ q)))
 
-    pub member-pass : (x ≡ t → ⊥) → (found : Bool) → found ≡ listedFrom k → found ≡ listedFrom (k - 1)
-    member-pass ne found q = q ∙ sym (down false (ne-eqb (nth (k - 1) s) t (λ z. ne (ex ∙ z))))
+    pub place-pass : (x ≡ t → ⊥) → (place : ℕ) → place ≡ firstFrom k → place ≡ firstFrom (k - 1)
+    place-pass ne place q = q ∙ sym (down false (ne-eqb (nth (k - 1) s) t (λ z. ne (ex ∙ z))))
 
-  pub member-end : (k : ℕ) → k ≤ 0 → (found : Bool) → found ≡ listedFrom k → found ≡ member s t
-  unfolding member
-  member-end k h found q =
+  pub place-end : (k : ℕ) → k ≤ 0 → (place : ℕ) → place ≡ firstFrom k → place ≡ placeOf s t
+  unfolding placeOf
+  place-end k h place q =
       let z : k ≡ 0 = omega arith in
       let n : stored (headOf s) - k ≡ stored (headOf s) = omega arith in
-      q ∙ ap₂ (λ (a b : ℕ). ltb (first fieldIs a b) (stored (headOf s))) n z
+      q ∙ ap₂ (λ (a b : ℕ). first fieldIs a b) n z
+
+  pub place-to : placeOf s t ≤ most
+  unfolding placeOf
+  place-to = omega (arith, first-le fieldIs (stored (headOf s)) 0, stored-to (headOf s))
+
+  -- whether it comes in turn
+  module _ (h : Structure) (e : h ≡ headOf s) where
+    pub next-any : h .last ≡ 0 → (p n : ℕ) → p ≡ placeOf s t → n ≡ stored h → ltb p n ≡ isNext s t
+    unfolding isNext member
+    next-any z p n ep en =
+        ap₂ ltb ep (en ∙ ap stored e)
+        ∙ sym (ap (λ (x : ℕ). cond (eqb x 0) (member s t) (eqb (nth (nextPlace (headOf s)) s) t)) (ap (λ (x : Structure). x .last) (sym e) ∙ z))
+
+    pub next-one : (h .last ≡ 0 → ⊥) → (p x : ℕ) → p ≡ nextPlace h → x ≡ nth p s → eqb x t ≡ isNext s t
+    unfolding isNext
+    next-one ne p x ep ex =
+        ap (λ (y : ℕ). eqb y t) (ex ∙ ap (λ (q : ℕ). nth q s) (ep ∙ ap nextPlace e))
+        ∙ sym (ap (λ (b : Bool). cond b (member s t) (eqb (nth (nextPlace (headOf s)) s) t))
+        (ne-eqb (headOf s .last) 0 (λ z. ne (ap (λ (x : Structure). x .last) e ∙ z))))
 
 -- ---- what one more field does
 
@@ -143,15 +211,15 @@ module _ (s : List ℕ) (t l : ℕ) (h : Structure) (e : h ≡ headOf s) where
   abbrev fits : Structure → ℕ → Bool
   fits g x = ltb 0 (g .fields) && (leb (g .fields) most && eqb x t)
 
-  by-tests : (w m g r f : Bool) → eqb (h .whole) 1 ≡ w → member s t ≡ m → goesOn s t l ≡ g → ltb (h .fields) most ≡ r → fits h (nth 0 s) ≡ f
+  by-tests : (w m g r f : Bool) → eqb (h .whole) 1 ≡ w → isNext s t ≡ m → goesOn s t l ≡ g → ltb (h .fields) most ≡ r → fits h (nth 0 s) ≡ f
       → turnOf s t l ≡ cond w (cond m Known Begins) (cond g (cond r Joins Overflows) (cond f Completes Begins))
   unfolding turnOf
   by-tests w m g r f ew em eg er ef =
-      ap (λ (x : Structure). cond (eqb (x .whole) 1) (cond (member s t) Known Begins)
+      ap (λ (x : Structure). cond (eqb (x .whole) 1) (cond (isNext s t) Known Begins)
       (cond (goesOn s t l) (cond (ltb (x .fields) most) Joins Overflows) (cond (fits x (nth 0 s)) Completes Begins))) (sym e)
       ∙ (λ i. cond (ew i) (cond (em i) Known Begins) (cond (eg i) (cond (er i) Joins Overflows) (cond (ef i) Completes Begins)))
 
-  module _ (w : h .whole ≡ 1) (m : Bool) (em : m ≡ member s t) where
+  module _ (w : h .whole ≡ 1) (m : Bool) (em : m ≡ isNext s t) where
     pub turn-known : m ≡ true → Known ≡ turnOf s t l
     turn-known q = sym (by-tests true true _ _ _ (eq-eqb (h .whole) 1 w) (sym em ∙ q) refl refl refl)
 
@@ -177,15 +245,6 @@ module _ (s : List ℕ) (t l : ℕ) (h : Structure) (e : h ≡ headOf s) where
 
 -- ---- the structure with it taken in
 
-abbrev made : ℕ → ℕ → ℕ → Structure
-made n w l = record { fields = n; whole = w; links = l; deleted = 0 }
-
-abbrev Made : Structure → ℕ → ℕ → ℕ → Type 0
-Made h n w l = (h .fields ≡ n) × (h .whole ≡ w) × (h .links ≡ l) × (h .deleted ≡ 0)
-
-made-is : (h : Structure) (n w l : ℕ) → Made h n w l → h ≡ made n w l
-made-is h n w l p = λ i. record { fields = p .0 i; whole = p .1 i; links = p .2 i; deleted = p .3 i }
-
 joins : Turn → Bool
 joins Begins = false
 joins Joins = true
@@ -207,52 +266,59 @@ module _ (s : List ℕ) (t l : ℕ) where
   unfolding turnOf joins
   joins-room e =
       ltb-true (headOf s .fields) most
-      (only-room (ltb (headOf s .fields) most) (eqb (headOf s .whole) 1) (member s t) (goesOn s t l)
+      (only-room (ltb (headOf s .fields) most) (eqb (headOf s .whole) 1) (isNext s t) (goesOn s t l)
       (ltb 0 (headOf s .fields) && (leb (headOf s .fields) most && eqb (nth 0 s) t)) (ap joins e))
 
   by-turn : (u : Turn) → turnOf s t l ≡ u → turned u s t l ≡ gathered s t l
   unfolding gathered
   by-turn u e = sym (ap (λ (x : Turn). turned x s t l) e)
 
-  pub begun-stored : length s ≡ structureSize → (a b c : List ℕ) (h : Structure) → a ≡ blank (length s)
-      → Made h 1 0 l → b ≡ withHead h a → c ≡ withNth 0 t b → c ≡ turned Begins s t l
+  pub begun-gathered : turnOf s t l ≡ Begins → (late : ℕ) → late ≡ lateOf (headOf s) → (c : List ℕ) → c ≡ beginning late 1 t l → c ≡ gathered s t l
   unfolding turned
-  begun-stored ls a b c h ea m eb ec = ec ∙ ap (withNth 0 t) (eb ∙ ap₂ withHead (made-is h 1 0 l m) (ea ∙ ap blank ls))
-
-  pub begun-gathered : turnOf s t l ≡ Begins → (c : List ℕ) → c ≡ turned Begins s t l → c ≡ gathered s t l
-  begun-gathered e c ec = ec ∙ by-turn Begins e
+  begun-gathered e late el c ec = ec ∙ ap (λ (x : ℕ). beginning x 1 t l) el ∙ by-turn Begins e
 
   module _ (g : Structure) (eg : g ≡ headOf s) (h : Structure) (b : List ℕ) (eb : b ≡ withHead h s) where
-    pub joined-stored : turnOf s t l ≡ Joins → (c : List ℕ) → Made h (g .fields + 1) 0 l → c ≡ withNth (g .fields) t b → c ≡ gathered s t l
+    pub joined-stored : turnOf s t l ≡ Joins → (c : List ℕ) → h ≡ gatheringHead (g .fields + 1) l g → c ≡ withNth (g .fields) t b → c ≡ gathered s t l
     unfolding turned
     joined-stored e c m ec =
-        ec ∙ ap (withNth (g .fields) t) (eb ∙ ap (λ (x : Structure). withHead x s) (made-is h (g .fields + 1) 0 l m))
-        ∙ ap (λ (x : Structure). withNth (x .fields) t (withHead (made (x .fields + 1) 0 l) s)) eg ∙ by-turn Joins e
+        ec ∙ ap (withNth (g .fields) t) (eb ∙ ap (λ (x : Structure). withHead x s) m)
+        ∙ ap (λ (x : Structure). withNth (x .fields) t (withHead (gatheringHead (x .fields + 1) l x) s)) eg ∙ by-turn Joins e
 
-    pub overflown-stored : turnOf s t l ≡ Overflows → Made h (most + 1) 0 l → b ≡ gathered s t l
+    pub overflown-stored : turnOf s t l ≡ Overflows → h ≡ gatheringHead (most + 1) l g → b ≡ gathered s t l
     unfolding turned
-    overflown-stored e m = eb ∙ ap (λ (x : Structure). withHead x s) (made-is h (most + 1) 0 l m) ∙ by-turn Overflows e
+    overflown-stored e m =
+        eb ∙ ap (λ (x : Structure). withHead x s) (m ∙ ap (gatheringHead (most + 1) l) eg) ∙ by-turn Overflows e
 
-    pub completed-stored : turnOf s t l ≡ Completes → Made h (g .fields) 1 l → b ≡ gathered s t l
+    pub completed-stored : turnOf s t l ≡ Completes → h ≡ completedHead l g → b ≡ gathered s t l
     unfolding turned
     completed-stored e m =
-        eb ∙ ap (λ (x : Structure). withHead x s) (made-is h (g .fields) 1 l m)
-        ∙ ap (λ (x : Structure). withHead (made (x .fields) 1 l) s) eg ∙ by-turn Completes e
+        eb ∙ ap (λ (x : Structure). withHead x s) (m ∙ ap (completedHead l) eg) ∙ by-turn Completes e
 
-  pub known-stays : turnOf s t l ≡ Known → s ≡ gathered s t l
-  unfolding turned
-  known-stays e = by-turn Known e
+    pub known-stored : turnOf s t l ≡ Known → (p : ℕ) → p ≡ placeOf s t → h ≡ markedHead (p + 1) 1 g → b ≡ gathered s t l
+    unfolding turned
+    known-stored e p ep m =
+        eb ∙ ap (λ (x : Structure). withHead x s) (m ∙ ap₂ (λ (q : ℕ) (x : Structure). markedHead (q + 1) 1 x) ep eg) ∙ by-turn Known e
+
+pub begun-stored : (s : List ℕ) (late certain t l : ℕ) → length s ≡ structureSize → (a b c : List ℕ) → a ≡ blank (length s)
+    → b ≡ withHead (record { fields = 1; whole = 0; links = l; deleted = 0; late = late; last = 0; certain = certain }) a
+    → c ≡ withNth 0 t b → c ≡ beginning late certain t l
+unfolding beginning
+begun-stored s late certain t l ls a b c ea eb ec =
+    ec ∙ ap (withNth 0 t) (eb ∙ ap (withHead _) (ea ∙ ap blank ls))
 
 -- ---- a structure that may lack a field
 
 module _ (s : List ℕ) (h : Structure) (e : h ≡ headOf s) where
-  by-gathers : (b : Bool) → (eqb (h .whole) 0 && ltb 0 (h .fields)) ≡ b → cond b (turned Begins s allOnes 0) s ≡ spoiled s
+  abbrev spoilsTo : Bool → Structure → List ℕ
+  spoilsTo b g = cond b (beginning 1 (g .certain) allOnes 0) (withHead (markedHead 0 (g .certain) g) s)
+
+  by-gathers : (b : Bool) → (eqb (h .whole) 0 && ltb 0 (h .fields)) ≡ b → spoilsTo b h ≡ spoiled s
   unfolding spoiled
   by-gathers b q =
-      ap (λ (x : Bool). cond x (turned Begins s allOnes 0) s) (sym q ∙ ap (λ (x : Structure). eqb (x .whole) 0 && ltb 0 (x .fields)) e)
+      ap (λ (x : Bool). spoilsTo x h) (sym q) ∙ ap (λ (x : Structure). spoilsTo (eqb (x .whole) 0 && ltb 0 (x .fields)) x) e
 
-  pub spoils : (eqb (h .whole) 0 && ltb 0 (h .fields)) ≡ true → (x : List ℕ) → x ≡ turned Begins s allOnes 0 → x ≡ spoiled s
+  pub spoils : (eqb (h .whole) 0 && ltb 0 (h .fields)) ≡ true → (x : List ℕ) → x ≡ beginning 1 (h .certain) allOnes 0 → x ≡ spoiled s
   spoils q x ex = ex ∙ by-gathers true q
 
-  pub spoils-none : (eqb (h .whole) 0 && ltb 0 (h .fields)) ≡ false → s ≡ spoiled s
-  spoils-none q = by-gathers false q
+  pub spoils-none : (eqb (h .whole) 0 && ltb 0 (h .fields)) ≡ false → (g : Structure) (x : List ℕ) → g ≡ markedHead 0 (h .certain) h → x ≡ withHead g s → x ≡ spoiled s
+  spoils-none q g x eg ex = ex ∙ ap (λ (y : Structure). withHead y s) eg ∙ by-gathers false q

@@ -1,10 +1,10 @@
-// One component's structure, 68 bytes, gathered field by field. Byte places stand in specs/Structure.antt and in the constants below,
+// One component's structure, 71 bytes, gathered field by field. Byte places stand in specs/Structure.antt and in the constants below,
 // and nowhere else.
 ghost use mathlib.Core.Path.{_≡_};
 ghost use Prim.Native.Nat.{_+_, _<_};
 ghost use lib.ListN.{length};
-ghost use Rattle.structure.specs.Structure.{headOf, withHead, nth, withNth, stored, member, goesOn, turnOf, turned, gathered, spoiled, deletion, said, goodHead, settledHead};
-ghost use Rattle.structure.specs.declared.Turn.the-variants.{Begins};
+ghost use Rattle.bits.specs.Bits.{blank};
+ghost use Rattle.structure.specs.Structure.{headOf, withHead, nth, withNth, stored, placeOf, nextPlace, isNext, goesOn, turnOf, gatheringHead, completedHead, markedHead, lateOf, beginning, gathered, spoiled, noneHead, deletion, absence, said, certainly, goodHead, complete, settledHead};
 use field::Tdms;
 use slot::room;
 
@@ -14,6 +14,9 @@ pub struct Structure {
     pub whole: u8,
     pub links: u8,
     pub deleted: u8,
+    pub late: u8,
+    pub last: u8,
+    pub certain: u8,
 }
 
 // What one more field does: it begins the structure anew, goes on with it, is one too many, shows that it is whole, or is known.
@@ -29,14 +32,14 @@ impl Structure {
     // As many fields as have room.
     pub const MOST: u8 = 8;
 
-    pub const FIELDS: usize = 4;
+    pub const FIELDS: usize = 7;
 
     pub const FIELD: usize = 8;
 
     pub const SIZE: usize = Self::FIELDS + 8 * Self::FIELD;
 
     pub fn load(s: &[u8]) -> Self
-        requires { ⌜ length (now s) ≡ 68 ⌝ }
+        requires { ⌜ length (now s) ≡ 71 ⌝ }
         ensures { λ r. ⌜ r ≡ headOf (now (s .entry)) ⌝ }
     {
         Self {
@@ -44,25 +47,32 @@ impl Structure {
             whole: s[1],
             links: s[2],
             deleted: s[3],
+            late: s[4],
+            last: s[5],
+            certain: s[6],
         }
     }
 
     // Puts the head into a structure, and touches no field.
     pub fn store(self, s: &mut [u8])
-        requires { ⌜ length (now s) ≡ 68 ⌝ }
+        requires { ⌜ length (now s) ≡ 71 ⌝ }
         ensures { λ _. ⌜ now (s .exit) ≡ withHead self (now (s .entry)) ⌝ }
     {
         s[0] = self.fields;
         s[1] = self.whole;
         s[2] = self.links;
         s[3] = self.deleted;
+        s[4] = self.late;
+        s[5] = self.last;
+        s[6] = self.certain;
     }
 
     pub fn good(self) -> bool
         ensures { λ r. ⌜ r ≡ goodHead self ⌝ }
     {
-        let bounds = (self.fields <= Self::MOST + 1)
-            & ((self.whole <= 1) & ((self.links <= 1) & (self.deleted <= 1)));
+        let marks = (self.whole <= 1)
+            & ((self.links <= 1) & ((self.deleted <= 1) & ((self.late <= 1) & (self.certain <= 1))));
+        let bounds = (self.fields <= Self::MOST + 1) & marks;
         let whole = (self.whole == 0) | ((0 < self.fields) & (self.fields <= Self::MOST));
         bounds & (whole & ((self.deleted == 0) | (self.fields == 0)))
     }
@@ -72,6 +82,13 @@ impl Structure {
         ensures { λ r. ⌜ r ≡ said self ⌝ }
     {
         (0 < self.fields) | (self.deleted == 1)
+    }
+
+    // The component is there for certain.
+    pub fn certainly(self) -> bool
+        ensures { λ r. ⌜ r ≡ certainly self ⌝ }
+    {
+        (self.certain == 1) & (0 < self.fields)
     }
 
     // How many fields have room.
@@ -85,21 +102,90 @@ impl Structure {
         }
     }
 
+    // The place of the field that comes next, of a whole structure.
+    fn next(self) -> usize
+        ensures { λ r. ⌜ r ≡ nextPlace self ⌝ }
+    {
+        let last = self.last as usize;
+        if last < self.stored() { last } else { 0 }
+    }
+
+    fn complete(self) -> bool
+        ensures { λ r. ⌜ r ≡ complete self ⌝ }
+    {
+        (self.late == 0) & ((0 < self.fields) & (self.fields <= Self::MOST))
+    }
+
     // As a change puts it in force: whole where nothing more can come.
-    pub fn settled(mut self, sure: bool) -> Self
+    pub fn settled(self, sure: bool) -> Self
         ensures { λ r. ⌜ r ≡ settledHead sure self ⌝ }
     {
-        if sure & ((0 < self.fields) & (self.fields <= Self::MOST)) {
-            self.whole = 1;
+        let whole = if sure & self.complete() {
+            1
+        } else {
+            self.whole
+        };
+        let certain = if sure { self.certain } else { 0 };
+        Self {
+            fields: self.fields,
+            whole,
+            links: self.links,
+            deleted: 0,
+            late: self.late,
+            last: 0,
+            certain,
         }
-        self.deleted = 0;
+    }
+
+    // So many fields, of which it is not known whether they are all.
+    fn gathering(self, fields: u8, links: u8) -> Self
+        ensures { λ r. ⌜ r ≡ gatheringHead fields links self ⌝ }
+    {
+        Self {
+            fields,
+            whole: 0,
+            links,
+            deleted: 0,
+            late: self.late,
+            last: 0,
+            certain: 1,
+        }
+    }
+
+    // The first field came again: they are all.
+    fn completed(self, links: u8) -> Self
+        ensures { λ r. ⌜ r ≡ completedHead links self ⌝ }
+    {
+        Self {
+            fields: self.fields,
+            whole: 1,
+            links,
+            deleted: 0,
+            late: 0,
+            last: 1,
+            certain: 1,
+        }
+    }
+
+    // The same structure with other marks.
+    pub fn marked(mut self, last: u8, certain: u8) -> Self
+        ensures { λ r. ⌜ r ≡ markedHead last certain self ⌝ }
+    {
+        self.last = last;
+        self.certain = certain;
         self
+    }
+
+    fn late_after(self) -> u8
+        ensures { λ r. ⌜ r ≡ lateOf self ⌝ }
+    {
+        if 0 < self.fields { 1 } else { 0 }
     }
 }
 
 // Field k.
-fn nth(s: &[u8], k: usize) -> u64
-    requires { ⌜ length (now s) ≡ 68 ⌝ }
+pub fn nth(s: &[u8], k: usize) -> u64
+    requires { ⌜ length (now s) ≡ 71 ⌝ }
     requires { ⌜ k < 8 ⌝ }
     ensures { λ r. ⌜ r ≡ nth k (now (s .entry)) ⌝ }
 {
@@ -107,32 +193,44 @@ fn nth(s: &[u8], k: usize) -> u64
 }
 
 fn put_nth(s: &mut [u8], k: usize, tdms: u64)
-    requires { ⌜ length (now s) ≡ 68 ⌝ }
+    requires { ⌜ length (now s) ≡ 71 ⌝ }
     requires { ⌜ k < 8 ⌝ }
     ensures { λ _. ⌜ now (s .exit) ≡ withNth k tdms (now (s .entry)) ⌝ }
 {
     field::put_eight(s, Structure::FIELDS + Structure::FIELD * k, tdms);
 }
 
-// The field is one of the structure's. From the last to the first, so that no test ends it early.
-fn member(s: &[u8], tdms: u64) -> bool
-    requires { ⌜ length (now s) ≡ 68 ⌝ }
-    ensures { λ r. ⌜ r ≡ member (now (s .entry)) tdms ⌝ }
+// The place of a field among the structure's. From the last to the first, so that no test ends it early.
+fn place_of(s: &[u8], tdms: u64) -> usize
+    requires { ⌜ length (now s) ≡ 71 ⌝ }
+    ensures { λ r. ⌜ r ≡ placeOf (now (s .entry)) tdms ⌝ }
 {
-    let mut found = false;
     let mut k = Structure::load(s).stored();
+    let mut place = k;
     while 0 < k {
         k -= 1;
         if nth(s, k) == tdms {
-            found = true;
+            place = k;
         }
     }
-    found
+    place
+}
+
+// The field comes in turn, in a whole structure.
+fn is_next(s: &[u8], tdms: u64) -> bool
+    requires { ⌜ length (now s) ≡ 71 ⌝ }
+    ensures { λ r. ⌜ r ≡ isNext (now (s .entry)) tdms ⌝ }
+{
+    let head = Structure::load(s);
+    if head.last == 0 {
+        return place_of(s, tdms) < head.stored();
+    }
+    nth(s, head.next()) == tdms
 }
 
 // The field goes on with the repetition that is being gathered.
 fn goes_on(s: &[u8], tdms: u64, links: u8) -> bool
-    requires { ⌜ length (now s) ≡ 68 ⌝ }
+    requires { ⌜ length (now s) ≡ 71 ⌝ }
     ensures { λ r. ⌜ r ≡ goesOn (now (s .entry)) tdms links ⌝ }
 {
     let head = Structure::load(s);
@@ -145,12 +243,12 @@ fn goes_on(s: &[u8], tdms: u64, links: u8) -> bool
 
 // What one more field does.
 fn turn_of(s: &[u8], tdms: u64, links: u8) -> Turn
-    requires { ⌜ length (now s) ≡ 68 ⌝ }
+    requires { ⌜ length (now s) ≡ 71 ⌝ }
     ensures { λ r. ⌜ r ≡ turnOf (now (s .entry)) tdms links ⌝ }
 {
     let head = Structure::load(s);
     if head.whole == 1 {
-        return if member(s, tdms) {
+        return if is_next(s, tdms) {
             Turn::Known
         } else {
             Turn::Begins
@@ -172,66 +270,86 @@ fn turn_of(s: &[u8], tdms: u64, links: u8) -> Turn
 }
 
 // Begins the structure anew, with one field.
-fn begin(s: &mut [u8], tdms: u64, links: u8)
-    requires { ⌜ length (now s) ≡ 68 ⌝ }
-    ensures { λ _. ⌜ now (s .exit) ≡ turned Begins (now (s .entry)) tdms links ⌝ }
+fn begin(s: &mut [u8], late: u8, certain: u8, tdms: u64, links: u8)
+    requires { ⌜ length (now s) ≡ 71 ⌝ }
+    ensures { λ _. ⌜ now (s .exit) ≡ beginning late certain tdms links ⌝ }
 {
     room::clear(s);
-    head_with(1, 0, links).store(s);
+    Structure {
+        fields: 1,
+        whole: 0,
+        links,
+        deleted: 0,
+        late,
+        last: 0,
+        certain,
+    }
+    .store(s);
     put_nth(s, 0, tdms);
 }
 
 // Takes one more field in.
 pub fn gather(s: &mut [u8], tdms: u64, links: u8)
-    requires { ⌜ length (now s) ≡ 68 ⌝ }
+    requires { ⌜ length (now s) ≡ 71 ⌝ }
     ensures { λ _. ⌜ now (s .exit) ≡ gathered (now (s .entry)) tdms links ⌝ }
 {
-    let fields = Structure::load(s).fields;
+    let head = Structure::load(s);
     match turn_of(s, tdms, links) {
         Turn::Begins => {
-            begin(s, tdms, links);
+            begin(s, head.late_after(), 1, tdms, links);
         }
         Turn::Joins => {
-            head_with(fields + 1, 0, links).store(s);
-            put_nth(s, fields as usize, tdms);
+            head.gathering(head.fields + 1, links).store(s);
+            put_nth(s, head.fields as usize, tdms);
         }
         Turn::Overflows => {
-            head_with(Structure::MOST + 1, 0, links).store(s);
+            head.gathering(Structure::MOST + 1, links).store(s);
         }
         Turn::Completes => {
-            head_with(fields, 1, links).store(s);
+            head.completed(links).store(s);
         }
-        Turn::Known => {}
+        Turn::Known => {
+            let place = place_of(s, tdms);
+            head.marked(place as u8 + 1, 1).store(s);
+        }
     }
 }
 
 // What is being gathered may lack a field, and whatever comes begins it anew: no key is above that of all ones.
 pub fn spoil(s: &mut [u8])
-    requires { ⌜ length (now s) ≡ 68 ⌝ }
+    requires { ⌜ length (now s) ≡ 71 ⌝ }
     ensures { λ _. ⌜ now (s .exit) ≡ spoiled (now (s .entry)) ⌝ }
 {
     let head = Structure::load(s);
     if (head.whole == 0) & (0 < head.fields) {
-        begin(s, Tdms::END - 1, 0);
+        begin(s, 1, head.certain, Tdms::END - 1, 0);
+    } else {
+        head.marked(0, head.certain).store(s);
     }
 }
 
-fn head_with(fields: u8, whole: u8, links: u8) -> Structure
-    ensures { λ r. ⌜ (r .fields ≡ fields) × (r .whole ≡ whole) × (r .links ≡ links) × (r .deleted ≡ 0) ⌝ }
+// No field: the component is to be deleted (1), or it is not there (0).
+fn none(s: &mut [u8], deleted: u8)
+    requires { ⌜ length (now s) ≡ 71 ⌝ }
+    ensures { λ _. ⌜ now (s .exit) ≡ withHead (noneHead deleted) (blank 71) ⌝ }
 {
-    Structure {
-        fields,
-        whole,
-        links,
-        deleted: 0,
-    }
+    room::clear(s);
+    s[3] = deleted;
+    s[6] = 1;
 }
 
 // The component is to be deleted.
 pub fn delete(s: &mut [u8])
-    requires { ⌜ length (now s) ≡ 68 ⌝ }
+    requires { ⌜ length (now s) ≡ 71 ⌝ }
     ensures { λ _. ⌜ now (s .exit) ≡ deletion ⌝ }
 {
-    room::clear(s);
-    s[3] = 1;
+    none(s, 1);
+}
+
+// The component is not there.
+pub fn absent(s: &mut [u8])
+    requires { ⌜ length (now s) ≡ 71 ⌝ }
+    ensures { λ _. ⌜ now (s .exit) ≡ absence ⌝ }
+{
+    none(s, 0);
 }

@@ -7,9 +7,6 @@ use Rattle.structure.proofs.begin.Tie as tie
 clear-requires : tie.Need-clear-requires
 clear-requires c κs = search needs
 
-head-with-requires : tie.Need-head-with-requires
-head-with-requires c κs = search needs
-
 store-requires : tie.Need-store-requires
 store-requires c κs = search needs
 
@@ -21,14 +18,14 @@ same-length c = search needs
 
 returns : tie.Need-returns
 returns c =
-    let put = c .before .before in
-    let stored = put .before .before .before .before in
-    let head = stored .before .before in
-    let cleared = head .before .before .before in
-    let start = cleared .before .before .before in
-    begun-stored (start .args .s .now) (start .args .tdms) (start .args .links) (start .pre) _ _ _ _ (cleared .clear .ensures)
-    (head .head-with .ensures) (stored .store .ensures) (put .put-nth .ensures)
+    begun-stored ((c .before .before .before .before .before .before .before .before .before .before .before .before .before) .args .s .now) ((c .before .before .before .before .before .before .before .before .before .before .before .before .before) .args .late) ((c .before .before .before .before .before .before .before .before .before .before .before .before .before) .args .certain) ((c .before .before .before .before .before .before .before .before .before .before .before .before .before) .args .tdms) ((c .before .before .before .before .before .before .before .before .before .before .before .before .before) .args .links) ((c .before .before .before .before .before .before .before .before .before .before .before .before .before) .pre) _ _ _ ((c .before .before .before .before .before .before .before .before .before .before) .clear .ensures) ((c .before .before .before .before .before .before) .store .ensures) ((c .before .before) .put-nth .ensures)
 
 pub begin-spec : {M : Type 1} → statement M
 begin-spec =
-    tie.close (tie.spec clear-requires head-with-requires store-requires put-nth-requires same-length returns)
+    tie.close
+    (tie.spec
+    clear-requires
+    store-requires
+    put-nth-requires
+    same-length
+    returns)

@@ -8,7 +8,12 @@ add-bounds : tie.Need-add-bounds
 add-bounds c = search needs
 
 returns : tie.Need-returns
-returns c = good-tests (c .before .before .before .before .before .before .before .before .before .args .self)
+returns c =
+    good-tests ((c .before .before .before .before .before .before .before .before .before .before .before) .args .self)
 
 pub good-spec : {M : Type 1} → statement M
-good-spec = tie.close (tie.spec add-bounds returns)
+good-spec =
+    tie.close
+    (tie.spec
+    add-bounds
+    returns)

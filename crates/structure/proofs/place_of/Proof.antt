@@ -1,19 +1,19 @@
--- `structure::member` meets its contract: the loop goes from the last field to the first; found says whether one of those
--- passed is the field. Assumes nothing.
+-- `structure::place_of` meets its contract: the loop goes from the last field to the first, and keeps the first of those passed
+-- that is the field. Assumes nothing.
 use mathlib.Core.Path.{_≡_, ap, _∙_}
 use Prim.Native.Nat.{_≤_}
 use native.Mathlib.Omega.{arith}
 use borrow.Author.Needs.{needs}
 use Rattle.structure.specs.Structure.{headOf, stored}
-use Rattle.structure.proofs.Turns.{stored-to, listedFrom, member-none, member-hit, member-pass, member-end}
-use Rattle.structure.proofs.member.Statement.{statement}
-use Rattle.structure.proofs.member.Tie as tie
+use Rattle.structure.proofs.Turns.{stored-to, firstFrom, place-none, place-hit, place-pass, place-end}
+use Rattle.structure.proofs.place_of.Statement.{statement}
+use Rattle.structure.proofs.place_of.Tie as tie
 
 abbrev Inv-loop : tie.InvT-loop
-Inv-loop s tdms found₀ k₀ found k = (k ≤ stored (headOf s)) × (found ≡ listedFrom s tdms k)
+Inv-loop s tdms k₀ place₀ k place = (k ≤ stored (headOf s)) × (place ≡ firstFrom s tdms k)
 
 abbrev μ-loop : tie.MeasureT-loop
-μ-loop s tdms found₀ k₀ found k = k
+μ-loop s tdms k₀ place₀ k place = k
 
 load-requires : tie.Need-load-requires Inv-loop μ-loop
 load-requires c κs = c .before .pre
@@ -22,7 +22,7 @@ stored-requires : tie.Need-stored-requires Inv-loop μ-loop
 stored-requires c κs = search needs
 
 loop-holds : tie.Need-loop-holds Inv-loop μ-loop
-loop-holds c = let e = c .stored .ensures ∙ ap stored (c .before .load .ensures) in (omega (arith, e), member-none (c .before .before .before .args .s .now) (c .before .before .before .args .tdms) _ e)
+loop-holds c = let e = c .stored .ensures ∙ ap stored (c .before .load .ensures) in (omega (arith, e), place-none (c .before .before .before .args .s .now) (c .before .before .before .args .tdms) _ e)
 
 sub-k : tie.Need-sub-k Inv-loop μ-loop
 sub-k c = omega arith
@@ -39,7 +39,7 @@ loop-again c =
     let now = test .before .loop in
     let start = test .before .before .before .before .before in (
       omega (arith, now .inv .0),
-      member-hit (start .args .s .now) (start .args .tdms) (now .k) (test .loop-test .taken) (now .inv .0) _ (c .before .nth .ensures) (c .if1 .taken),
+      place-hit (start .args .s .now) (start .args .tdms) (now .k) (test .loop-test .taken) (now .inv .0) _ (c .before .nth .ensures) (c .if1 .taken),
     )
 
 loop-less-2 : tie.Need-loop-less-2 Inv-loop μ-loop
@@ -51,14 +51,14 @@ loop-again-2 c =
     let now = test .before .loop in
     let start = test .before .before .before .before .before in (
       omega (arith, now .inv .0),
-      member-pass (start .args .s .now) (start .args .tdms) (now .k) (test .loop-test .taken) (now .inv .0) _ (c .before .nth .ensures) (c .if1 .left) _ (now .inv .1),
+      place-pass (start .args .s .now) (start .args .tdms) (now .k) (test .loop-test .taken) (now .inv .0) _ (c .before .nth .ensures) (c .if1 .left) _ (now .inv .1),
     )
 
 returns : tie.Need-returns Inv-loop μ-loop
-returns c = member-end (c .before .before .before .before .before .args .s .now) (c .before .before .before .before .before .args .tdms) (c .before .loop .k) (c .loop-test .left) _ (c .before .loop .inv .1)
+returns c = place-end (c .before .before .before .before .before .args .s .now) (c .before .before .before .before .before .args .tdms) (c .before .loop .k) (c .loop-test .left) _ (c .before .loop .inv .1)
 
-pub member-spec : {M : Type 1} → statement M
-member-spec =
+pub place-of-spec : {M : Type 1} → statement M
+place-of-spec =
     tie.close
     (tie.spec
     Inv-loop
