@@ -1,38 +1,40 @@
 -- What a change does: every announced structure is put in force, once.
 --
---   anew-moved, anew-stayed    worked: a change that is not sure, and one field announced or in force, not known to be whole
+--   stayed-*              a structure in force that nothing was announced of
+--   settled-*             an announced structure as it comes into force
+--   anew-*                worked: a change that is not sure, and one field announced or in force, not known to be whole; and an
+--                         announcement that was begun over another
 --   changed-length        a component's block keeps its length
 --   each-*, from-*        the loop over all components, by any rule and by a change's: each block is changed, and nothing else
---   both-*                a missed frame: each structure is spoiled, and nothing else
---   leftBy sure s, left-*    what a change leaves of the structure in force: all of it, unless the change is not sure and it is being
---                         gathered; a component is there exactly where it was
---   unsure-begins         behind a change that is not sure, whatever field comes begins a structure anew that is not whole
---   stays .. settled      what is in force and announced behind a change, by what was announced
+--   both-*, gap-*         a missed frame: each structure is spoiled, and nothing else
+--   stays, comes-in, goes-out    what is in force behind a change, by what was announced; cleared, emptied: nothing is announced
 --
 -- Assumes nothing.
 use mathlib.Core.Path.{_≡_, refl, sym, ap, ap₂, _∙_, subst}
 use mathlib.Core.Bool.{Bool, true, false, cond, _&&_, _||_}
-use mathlib.Core.List.{List, [], _∷_, _++_}
+use mathlib.Core.List.{List, _∷_, _++_}
+use mathlib.Core.Logic.{_⊎_, inl, inr}
 use Prim.Native.Nat.{ℕ, zero, suc, _+_, _-_, _*_, _≤_, _<_}
 use native.Mathlib.Omega.{arith}
 use native.Mathlib.Decide.{ℕ-discrete}
-use borrow.Author.Tests.{ne-eqb, le-leb, lt-ltb, eqb-true}
+use borrow.Author.Tests.{le-leb, lt-ltb, le-ltb}
 use lib.Dec.{leb, ltb, eqb, lit<, lit≤}
 use lib.ListN.{length, take, length-append}
-use lib.Seq.{drop-append-le, take-all, take-at, drop-at}
+use lib.Seq.{take-all, take-at, drop-at}
 use Rattle.bits.specs.Bits.{blank}
 use Rattle.bits.proofs.Storing.{blank-length, drop-blank}
 use Rattle.slot.specs.Part.{part, put}
 use Rattle.slot.proofs.Laws.{part-length, put-length, blank-at}
 use Rattle.slot.specs.Slot.{four, fourAt}
 use Rattle.field.specs.Field.{deletes, eight, eightAt}
-use Rattle.structure.specs.Structure.{most, structureSize, allOnes, headOf, withHead, nth, withNth, turnOf, turned, spoiled, settledHead}
-use Rattle.map.specs.Map.{ids, mapSize, blockSize, framesOf, blockAt, withBlock, structureAt, movedDown, spoiledFirst, applied, changed, eachFrom, changedFrom, spoiledBoth}
+use Rattle.structure.specs.Structure.{most, structureSize, allOnes, headOf, withHead, nth, withNth, markedHead, beginning, turnOf, spoiled, said, complete, settledHead}
+use Rattle.map.specs.Map.{ids, mapSize, blockSize, framesOf, blockAt, withBlock, structureAt, stayed, settled, forced, changed, eachFrom, changedFrom, spoiledBoth}
 use Rattle.structure.specs.declared.Structure.{Structure}
 use Rattle.structure.specs.declared.Turn.the-variants.{Begins}
 use Rattle.map.proofs.Places.{structure-length, block-length, block-structure, block-same, block-other, block-frames, with-block-length}
-use Rattle.structure.proofs.Gathering.{Holds, Empty, head-stored, nth-head, with-head-length}
-use Rattle.structure.proofs.Kept.{spoiled-length, spoiled-none, spoiled-some, spoiled-begins}
+use Rattle.structure.proofs.Gathering.{Holds, Empty, Alike, alike-also, alike-holds, marked-alike, head-stored, nth-head, with-head-length}
+use Rattle.structure.proofs.Kept.{spoiled-length, spoiled-none, spoiled-some, spoiled-certain, spoiled-last, spoiled-begins}
+use Rattle.structure.proofs.Runs.{Stuck, spoils, spoiled-empty}
 
 -- ---- blank structures
 
@@ -57,111 +59,203 @@ pub part-blank : (at n k : ℕ) → at + n ≤ k → part at n (blank k) ≡ bla
 unfolding part
 part-blank at n k h = ap (take n) (drop-blank at k) ∙ take-blank n (k - at) (omega arith)
 
--- ---- one block
+-- ---- one structure at a change
 
-abbrev pub comingIn : List ℕ → List ℕ
-comingIn b = part structureSize structureSize b
+module _ (f : List ℕ) (lf : length f ≡ structureSize) where
+  abbrev unmarked : List ℕ
+  unmarked = withHead (markedHead 0 0 (headOf f)) f
 
-module _ (sure : Bool) (b : List ℕ) (lb : length b ≡ blockSize) where
-  coming-length : length (comingIn b) ≡ structureSize
-  coming-length = part-length structureSize structureSize b (omega arith)
+  unmarked-length : length unmarked ≡ structureSize
+  unmarked-length = with-head-length f lf (markedHead 0 0 (headOf f))
 
-  unsaid : headOf (comingIn b) .fields ≡ 0 → headOf (comingIn b) .deleted ≡ 0 → applied sure b ≡ b
-  unfolding applied
-  unsaid f d =
-      λ i. cond (eqb (d i) 1) (blank blockSize) (cond (eqb (f i) 0) b (withHead (settledHead sure (headOf (comingIn b))) (movedDown b)))
+  unmarked-alike : Alike f unmarked
+  unmarked-alike = marked-alike f lf 0 0
 
-  erased : headOf (comingIn b) .deleted ≡ 1 → applied sure b ≡ blank blockSize
-  unfolding applied
-  erased d =
-      λ i. cond (eqb (d i) 1) (blank blockSize)
-      (cond (eqb (headOf (comingIn b) .fields) 0) b (withHead (settledHead sure (headOf (comingIn b))) (movedDown b)))
+  pub stayed-length : (sure : Bool) → length (stayed sure f) ≡ structureSize
+  unfolding stayed
+  stayed-length true = unmarked-length
+  stayed-length false = spoiled-length unmarked unmarked-length
 
-  -- the announced structure with its marks, and nothing announced
-  lists : 0 < headOf (comingIn b) .fields → headOf (comingIn b) .deleted ≡ 0
-      → applied sure b ≡ withHead (settledHead sure (headOf (comingIn b))) (comingIn b) ++ blank structureSize
-  unfolding applied movedDown withHead put
-  lists f d =
-      let h : Structure = settledHead sure (headOf (comingIn b)) in
-      let e : eqb (headOf (comingIn b) .fields) 0 ≡ false = ne-eqb (headOf (comingIn b) .fields) 0 (λ z. omega (arith, z)) in
-      (λ i. cond (eqb (d i) 1) (blank blockSize) (cond (e i) b (withHead h (movedDown b))))
-      ∙ ap (λ (x : List ℕ). (h .fields ∷ h .whole ∷ h .links ∷ h .deleted ∷ []) ++ x)
-      (drop-append-le 4 (comingIn b) (blank structureSize) (omega (arith, coming-length)))
+  -- a sure change leaves its fields
+  pub stayed-sure : Alike f (stayed true f)
+  unfolding stayed
+  stayed-sure = unmarked-alike
 
-  applied-length : length (applied sure b) ≡ blockSize
-  unfolding applied movedDown withHead
-  applied-length = go (eqb (headOf (comingIn b) .deleted) 1) (eqb (headOf (comingIn b) .fields) 0)
+  -- and so does any change, where nothing is being gathered
+  pub stayed-alike : (sure : Bool) → (eqb (headOf f .whole) 0 && ltb 0 (headOf f .fields)) ≡ false → Alike f (stayed sure f)
+  unfolding stayed
+  stayed-alike true e = unmarked-alike
+  stayed-alike false e =
+      alike-also f unmarked (spoiled unmarked) unmarked-alike
+      (spoiled-none unmarked unmarked-length ((λ i. eqb (unmarked-alike .whole i) 0 && ltb 0 (unmarked-alike .fields i)) ∙ e))
+
+  -- what is being gathered may lack a field behind a change that is not sure
+  pub stayed-spoils : headOf f .whole ≡ 0 → 0 < headOf f .fields → Stuck (stayed false f)
+  unfolding stayed
+  stayed-spoils w p = spoils unmarked unmarked-length (unmarked-alike .whole ∙ w) (omega (arith, p, unmarked-alike .fields))
+
+  -- a component is there exactly where it was
+  pub stayed-some : (sure : Bool) → ltb 0 (headOf (stayed sure f) .fields) ≡ ltb 0 (headOf f .fields)
+  unfolding stayed
+  stayed-some true = ap (ltb 0) (unmarked-alike .fields)
+  stayed-some false = spoiled-some unmarked unmarked-length ∙ ap (ltb 0) (unmarked-alike .fields)
+
+  -- nothing was heard of it in the configuration that begins
+  pub stayed-certain : (sure : Bool) → headOf (stayed sure f) .certain ≡ 0
+  unfolding stayed markedHead
+  stayed-certain true = ap (λ (h : Structure). h .certain) (head-stored f lf (markedHead 0 0 (headOf f)))
+  stayed-certain false =
+      spoiled-certain unmarked unmarked-length ∙ ap (λ (h : Structure). h .certain) (head-stored f lf (markedHead 0 0 (headOf f)))
+
+  pub stayed-last : (sure : Bool) → headOf (stayed sure f) .last ≡ 0
+  unfolding stayed markedHead
+  stayed-last true = ap (λ (h : Structure). h .last) (head-stored f lf (markedHead 0 0 (headOf f)))
+  stayed-last false = spoiled-last unmarked unmarked-length
+
+module _ (sure : Bool) (c : List ℕ) (lc : length c ≡ structureSize) where
+  abbrev marked : List ℕ
+  marked = withHead (settledHead sure (headOf c)) c
+
+  marked-length : length marked ≡ structureSize
+  marked-length = with-head-length c lc (settledHead sure (headOf c))
+
+  marked-head : headOf marked ≡ settledHead sure (headOf c)
+  marked-head = head-stored c lc (settledHead sure (headOf c))
+
+  pub settled-length : length (settled sure c) ≡ structureSize
+  unfolding settled
+  settled-length = spoiled-length marked marked-length
+
+  pub settled-some : ltb 0 (headOf (settled sure c) .fields) ≡ ltb 0 (headOf c .fields)
+  unfolding settled settledHead
+  settled-some = spoiled-some marked marked-length ∙ ap (λ (h : Structure). ltb 0 (h .fields)) marked-head
+
+  pub settled-certain : headOf (settled sure c) .certain ≡ cond sure (headOf c .certain) 0
+  unfolding settled settledHead
+  settled-certain = spoiled-certain marked marked-length ∙ ap (λ (h : Structure). h .certain) marked-head
+
+  pub settled-last : headOf (settled sure c) .last ≡ 0
+  unfolding settled
+  settled-last = spoiled-last marked marked-length
+
+  -- it was to be deleted, or nothing was announced
+  pub settled-empty : headOf c .fields ≡ 0 → headOf c .whole ≡ 0 → headOf c .links ≤ 1 → Empty (settled sure c)
+  unfolding settled settledHead complete
+  settled-empty f w l =
+      let none : headOf marked .whole ≡ 0 = ap (λ (h : Structure). h .whole) marked-head ∙ unfinished sure (eqb (headOf c .late) 0) in
+      spoiled-empty marked (record {
+        size = marked-length;
+        fields = ap (λ (h : Structure). h .fields) marked-head ∙ f;
+        whole = none;
+        deleted = ap (λ (h : Structure). h .deleted) marked-head;
+        links = omega (arith, ap (λ (h : Structure). h .links) marked-head, l);
+      })
     where
-      moved : length (comingIn b ++ blank structureSize) ≡ blockSize
-      moved = length-append (comingIn b) (blank structureSize) ∙ ap₂ _+_ coming-length (blank-length structureSize)
+      unfinished : (q t : Bool) → cond (q && (t && (ltb 0 (headOf c .fields) && leb (headOf c .fields) most))) 1 (headOf c .whole) ≡ 0
+      unfinished q t =
+          ap (λ (b : Bool). cond (q && (t && (b && leb (headOf c .fields) most))) 1 (headOf c .whole)) (le-ltb 0 (headOf c .fields) (omega (arith, f)))
+          ∙ never q t ∙ w
+        where
+          never : (q t : Bool) → cond (q && (t && false)) 1 (headOf c .whole) ≡ headOf c .whole
+          never true true = refl
+          never true false = refl
+          never false t = refl
 
-      h : Structure
-      h = settledHead sure (headOf (comingIn b))
+  -- what is not whole then is begun anew by whatever field comes
+  pub settled-begins : headOf (settled sure c) .whole ≡ 0 → 0 < headOf (settled sure c) .fields → (t r : ℕ) → deletes t ≡ false → turnOf (settled sure c) t r ≡ Begins
+  unfolding settled
+  settled-begins w f t r d = spoiled-begins marked marked-length w f t r d
 
-      go : (x y : Bool) → length (cond x (blank blockSize) (cond y b
-          (put 0 4 (h .fields ∷ h .whole ∷ h .links ∷ h .deleted ∷ []) (comingIn b ++ blank structureSize)))) ≡ blockSize
-      go true y = blank-length blockSize
-      go false true = lb
-      go false false =
-          put-length 0 4 (h .fields ∷ h .whole ∷ h .links ∷ h .deleted ∷ []) (comingIn b ++ blank structureSize) (omega (arith, moved)) refl
-          ∙ moved
+  -- announced in part, and the rest was not heard
+  pub settled-spoils : sure ≡ false → headOf c .whole ≡ 0 → 0 < headOf c .fields → Stuck (settled sure c)
+  unfolding settled settledHead
+  settled-spoils q w f =
+      spoils marked marked-length
+      (ap (λ (h : Structure). h .whole) marked-head ∙ ap (λ (b : Bool). cond (b && complete (headOf c)) 1 (headOf c .whole)) q ∙ w)
+      (omega (arith, f, ap (λ (h : Structure). h .fields) marked-head))
+
+  -- nothing of it is missing, or it was known to be whole
+  pub settled-holds : (n : ℕ) (xs : List ℕ) (v r : ℕ) → Holds c n xs v r → 0 < n → n ≤ most → (sure ≡ true × headOf c .late ≡ 0) ⊎ (v ≡ 1)
+      → Holds (settled sure c) n xs 1 r
+  unfolding settled settledHead complete
+  settled-holds n xs v r h pos few why =
+      alike-holds marked (spoiled marked) n xs 1 r (spoiled-none marked marked-length (λ i. eqb (made .whole i) 0 && ltb 0 (headOf marked .fields))) made
+    where
+      fits : (ltb 0 (headOf c .fields) && leb (headOf c .fields) most) ≡ true
+      fits = λ i. lt-ltb 0 (headOf c .fields) (omega (arith, h .fields)) i && le-leb (headOf c .fields) most (omega (arith, h .fields)) i
+
+      mark : (sure ≡ true × headOf c .late ≡ 0) ⊎ (v ≡ 1) → cond (sure && (eqb (headOf c .late) 0 && (ltb 0 (headOf c .fields) && leb (headOf c .fields) most))) 1 (headOf c .whole) ≡ 1
+      mark (inl q) = λ i. cond (q .0 i && (eqb (q .1 i) 0 && fits i)) 1 (headOf c .whole)
+      mark (inr e) = either (sure && (eqb (headOf c .late) 0 && (ltb 0 (headOf c .fields) && leb (headOf c .fields) most)))
+        where
+          either : (b : Bool) → cond b 1 (headOf c .whole) ≡ 1
+          either true = refl
+          either false = h .whole ∙ e
+
+      made : Holds marked n xs 1 r
+      made = record {
+        size = marked-length;
+        fields = ap (λ (x : Structure). x .fields) marked-head ∙ h .fields;
+        whole = ap (λ (x : Structure). x .whole) marked-head ∙ mark why;
+        links = ap (λ (x : Structure). x .links) marked-head ∙ h .links;
+        deleted = ap (λ (x : Structure). x .deleted) marked-head;
+        each = λ i hi. nth-head c lc (settledHead sure (headOf c)) i ∙ h .each i hi;
+      }
 
 -- ---- a change that is not sure, worked: a structure of which one field is known, announced or in force
 
 abbrev known : List ℕ
-known = turned Begins (blank structureSize) 11 0
+known = beginning 0 1 11 0
 
 anew-moved : nth 0 (part 0 structureSize (changed false (blank structureSize ++ known))) ≡ allOnes
-unfolding changed applied spoiledFirst spoiled settledHead movedDown turned headOf withHead withNth nth eightAt eight four fourAt part put blank
+unfolding changed forced settled stayed said spoiled settledHead complete markedHead beginning headOf withHead withNth nth eightAt eight four fourAt part put blank
 anew-moved = refl
 
 anew-stayed : nth 0 (part 0 structureSize (changed false (known ++ blank structureSize))) ≡ allOnes
-unfolding changed applied spoiledFirst spoiled settledHead movedDown turned headOf withHead withNth nth eightAt eight four fourAt part put blank
+unfolding changed forced settled stayed said spoiled settledHead complete markedHead beginning headOf withHead withNth nth eightAt eight four fourAt part put blank
 anew-stayed = refl
 
--- ---- what is left of a block
+-- an announcement that was begun over another is not the whole, though the change is sure
+anew-late : headOf (part 0 structureSize (changed true (blank structureSize ++ beginning 1 1 11 0))) .whole ≡ 0
+unfolding changed forced settled stayed said spoiled settledHead complete markedHead beginning headOf withHead withNth nth eightAt eight four fourAt part put blank
+anew-late = refl
 
--- the structure in force, as a change leaves it
-abbrev pub leftBy : Bool → List ℕ → List ℕ
-leftBy sure s = cond sure s (spoiled s)
+-- ---- a block
 
-module _ (b : List ℕ) (lb : length b ≡ blockSize) where
-  abbrev front : List ℕ
-  front = spoiled (part 0 structureSize b)
+module _ (sure : Bool) (b : List ℕ) (lb : length b ≡ blockSize) where
+  abbrev force : List ℕ
+  force = part 0 structureSize b
 
-  front-length : length front ≡ structureSize
-  front-length = spoiled-length (part 0 structureSize b) (part-length 0 structureSize b (omega arith))
+  abbrev coming : List ℕ
+  coming = part structureSize structureSize b
 
-  first-length : length (spoiledFirst b) ≡ blockSize
-  unfolding spoiledFirst
-  first-length =
-      length-append front (comingIn b) ∙ ap₂ (λ (x y : ℕ). x + y) front-length (part-length structureSize structureSize b (omega arith))
+  force-length : length force ≡ structureSize
+  force-length = part-length 0 structureSize b (omega arith)
 
-  first-force : part 0 structureSize (spoiledFirst b) ≡ front
-  unfolding spoiledFirst part
-  first-force = take-at front (comingIn b) structureSize front-length
+  coming-length : length coming ≡ structureSize
+  coming-length = part-length structureSize structureSize b (omega arith)
 
-  first-coming : comingIn (spoiledFirst b) ≡ comingIn b
-  unfolding spoiledFirst part
-  first-coming =
-      ap (take structureSize) (drop-at front (comingIn b) structureSize front-length)
-      ∙ take-all structureSize (comingIn b) (omega (arith, part-length structureSize structureSize b (omega arith)))
+  forced-length : length (forced sure force coming) ≡ structureSize
+  unfolding forced
+  forced-length = go (said (headOf coming))
+    where
+      go : (x : Bool) → length (cond x (settled sure coming) (stayed sure force)) ≡ structureSize
+      go true = settled-length sure coming coming-length
+      go false = stayed-length force force-length sure
 
-module _ (b : List ℕ) (lb : length b ≡ blockSize) where
-  pub changed-length : (sure : Bool) → length (changed sure b) ≡ blockSize
+  pub changed-length : length (changed sure b) ≡ blockSize
   unfolding changed
-  changed-length true = applied-length true b lb
-  changed-length false = first-length (applied false b) (applied-length false b lb)
+  changed-length = length-append (forced sure force coming) (blank structureSize) ∙ ap₂ _+_ forced-length (blank-length structureSize)
 
-  changed-force : (sure : Bool) → part 0 structureSize (changed sure b) ≡ leftBy sure (part 0 structureSize (applied sure b))
-  unfolding changed
-  changed-force true = refl
-  changed-force false = first-force (applied false b) (applied-length false b lb)
+  changed-force : part 0 structureSize (changed sure b) ≡ forced sure force coming
+  unfolding changed part
+  changed-force = take-at (forced sure force coming) (blank structureSize) structureSize forced-length
 
-  changed-coming : (sure : Bool) → comingIn (changed sure b) ≡ comingIn (applied sure b)
-  unfolding changed
-  changed-coming true = refl
-  changed-coming false = first-coming (applied false b) (applied-length false b lb)
+  changed-coming : part structureSize structureSize (changed sure b) ≡ blank structureSize
+  unfolding changed part
+  changed-coming =
+      ap (take structureSize) (drop-at (forced sure force coming) (blank structureSize) structureSize forced-length)
+      ∙ take-blank structureSize structureSize (lit≤ tt)
 
 -- ---- all blocks
 
@@ -218,10 +312,10 @@ module _ (f : List ℕ → List ℕ) (keeps : (b : List ℕ) → length b ≡ bl
 
 module _ (sure : Bool) where
   pub from-length : (n k : ℕ) (m : List ℕ) → k + n ≤ ids → length m ≡ mapSize → length (changedFrom n k sure m) ≡ mapSize
-  from-length = each-length (changed sure) (λ b lb. changed-length b lb sure)
+  from-length = each-length (changed sure) (λ b lb. changed-length sure b lb)
 
   pub from-frames : (n k : ℕ) (m : List ℕ) → k + n ≤ ids → length m ≡ mapSize → framesOf (changedFrom n k sure m) ≡ framesOf m
-  from-frames = each-frames (changed sure) (λ b lb. changed-length b lb sure)
+  from-frames = each-frames (changed sure) (λ b lb. changed-length sure b lb)
 
 -- ---- a missed frame
 
@@ -261,158 +355,48 @@ module _ (m : List ℕ) (l : length m ≡ mapSize) where
       ∙ ap (part (w * structureSize) structureSize) (each-at spoiledBoth both-length ids 0 m (lit≤ tt) l k (omega arith) hk)
       ∙ both-part (blockAt k m) (block-length m l k hk) w hw ∙ ap spoiled (block-structure m l k hk w hw)
 
--- ---- what a change leaves of the structure in force
-
-module _ (sure : Bool) (s : List ℕ) (l : length s ≡ structureSize) where
-  -- nothing is being gathered
-  pub left-none : (eqb (headOf s .whole) 0 && ltb 0 (headOf s .fields)) ≡ false → leftBy sure s ≡ s
-  left-none e = go sure
-    where
-      go : (b : Bool) → leftBy b s ≡ s
-      go true = refl
-      go false = spoiled-none s l e
-
-  pub left-whole : headOf s .whole ≡ 1 → leftBy sure s ≡ s
-  left-whole w = left-none (ap (λ (x : ℕ). eqb x 0 && ltb 0 (headOf s .fields)) w)
-
-  -- a component is there exactly where it was
-  pub left-some : ltb 0 (headOf (leftBy sure s) .fields) ≡ ltb 0 (headOf s .fields)
-  left-some = go sure
-    where
-      go : (b : Bool) → ltb 0 (headOf (leftBy b s) .fields) ≡ ltb 0 (headOf s .fields)
-      go true = refl
-      go false = spoiled-some s l
-
-pub left-empty : (sure : Bool) (s : List ℕ) → Empty s → leftBy sure s ≡ s
-left-empty sure s e =
-    left-none sure s (e .size) (λ i. eqb (e .whole i) 0 && ltb 0 (e .fields i))
-
-left-blank : (sure : Bool) → leftBy sure (blank structureSize) ≡ blank structureSize
-left-blank sure = left-empty sure (blank structureSize) (blank-empty (blank structureSize) refl)
-
 -- ---- a component behind a change
 
 module _ (sure : Bool) (m : List ℕ) (l : length m ≡ mapSize) (k : ℕ) (hk : k < ids) where
   lb : length (blockAt k m) ≡ blockSize
   lb = block-length m l k hk
 
-  coming-is : comingIn (blockAt k m) ≡ structureAt k 1 m
-  coming-is = block-structure m l k hk 1 (lit< tt)
-
   behind : (w : ℕ) → w < 2 → structureAt k w (changedFrom ids 0 sure m) ≡ part (w * structureSize) structureSize (changed sure (blockAt k m))
   behind w hw =
       sym (block-structure (changedFrom ids 0 sure m) (from-length sure ids 0 m (lit≤ tt) l) k hk w hw)
-      ∙ ap (part (w * structureSize) structureSize) (each-at (changed sure) (λ b lb. changed-length b lb sure) ids 0 m (lit≤ tt) l k (omega arith) hk)
+      ∙ ap (part (w * structureSize) structureSize) (each-at (changed sure) (λ b lb. changed-length sure b lb) ids 0 m (lit≤ tt) l k (omega arith) hk)
 
-  force-behind : structureAt k 0 (changedFrom ids 0 sure m) ≡ leftBy sure (part 0 structureSize (applied sure (blockAt k m)))
-  force-behind = behind 0 (lit< tt) ∙ changed-force (blockAt k m) lb sure
+  pub force-behind : structureAt k 0 (changedFrom ids 0 sure m) ≡ forced sure (structureAt k 0 m) (structureAt k 1 m)
+  force-behind =
+      behind 0 (lit< tt) ∙ changed-force sure (blockAt k m) lb
+      ∙ ap₂ (forced sure) (block-structure m l k hk 0 (lit< tt)) (block-structure m l k hk 1 (lit< tt))
 
-  coming-behind : structureAt k 1 (changedFrom ids 0 sure m) ≡ comingIn (applied sure (blockAt k m))
-  coming-behind = behind 1 (lit< tt) ∙ changed-coming (blockAt k m) lb sure
+  pub cleared : structureAt k 1 (changedFrom ids 0 sure m) ≡ blank structureSize
+  cleared = behind 1 (lit< tt) ∙ changed-coming sure (blockAt k m) lb
 
-  pub unsure-begins : sure ≡ false → headOf (structureAt k 0 (changedFrom ids 0 sure m)) .whole ≡ 0 → 0 < headOf (structureAt k 0 (changedFrom ids 0 sure m)) .fields
-      → (t r : ℕ) → deletes t ≡ false → turnOf (structureAt k 0 (changedFrom ids 0 sure m)) t r ≡ Begins
-  unsure-begins q w f t r d =
-      let s : List ℕ = part 0 structureSize (applied sure (blockAt k m)) in
-      let e : structureAt k 0 (changedFrom ids 0 sure m) ≡ spoiled s = force-behind ∙ ap (λ (x : Bool). leftBy x s) q in
-      let ls : length s ≡ structureSize = part-length 0 structureSize (applied sure (blockAt k m)) (omega (arith, applied-length sure (blockAt k m) lb)) in
-      ap (λ (x : List ℕ). turnOf x t r) e
-      ∙ spoiled-begins s ls (ap (λ (x : List ℕ). headOf x .whole) (sym e) ∙ w) (subst (λ (x : List ℕ). 0 < headOf x .fields) e f) t r d
+  pub emptied : Empty (structureAt k 1 (changedFrom ids 0 sure m))
+  emptied = blank-empty _ cleared
+
+  by-said : (b : Bool) → said (headOf (structureAt k 1 m)) ≡ b
+      → structureAt k 0 (changedFrom ids 0 sure m) ≡ cond b (settled sure (structureAt k 1 m)) (stayed sure (structureAt k 0 m))
+  unfolding forced
+  by-said b e = force-behind ∙ ap (λ (x : Bool). cond x (settled sure (structureAt k 1 m)) (stayed sure (structureAt k 0 m))) e
 
   -- nothing was announced
-  module _ (f : headOf (structureAt k 1 m) .fields ≡ 0) (d : headOf (structureAt k 1 m) .deleted ≡ 0) where
-    as-was : applied sure (blockAt k m) ≡ blockAt k m
-    as-was =
-        unsaid sure (blockAt k m) lb (ap (λ (x : List ℕ). headOf x .fields) coming-is ∙ f) (ap (λ (x : List ℕ). headOf x .deleted) coming-is ∙ d)
-
-    pub stays : structureAt k 0 (changedFrom ids 0 sure m) ≡ leftBy sure (structureAt k 0 m)
-    stays = force-behind ∙ ap (λ (x : List ℕ). leftBy sure (part 0 structureSize x)) as-was ∙ ap (leftBy sure) (block-structure m l k hk 0 (lit< tt))
-
-    pub stays-unsaid : structureAt k 1 (changedFrom ids 0 sure m) ≡ structureAt k 1 m
-    stays-unsaid = coming-behind ∙ ap comingIn as-was ∙ coming-is
-
-  -- a deletion was announced
-  module _ (d : headOf (structureAt k 1 m) .deleted ≡ 1) where
-    all-gone : applied sure (blockAt k m) ≡ blank blockSize
-    all-gone = erased sure (blockAt k m) lb (ap (λ (x : List ℕ). headOf x .deleted) coming-is ∙ d)
-
-    pub gone : (w : ℕ) → w < 2 → structureAt k w (changedFrom ids 0 sure m) ≡ blank structureSize
-    gone zero hw =
-        force-behind ∙ ap (λ (x : List ℕ). leftBy sure (part 0 structureSize x)) all-gone
-        ∙ ap (leftBy sure) (part-blank 0 structureSize blockSize (lit≤ tt)) ∙ left-blank sure
-    gone (suc zero) hw = coming-behind ∙ ap comingIn all-gone ∙ part-blank structureSize structureSize blockSize (lit≤ tt)
-    gone (suc (suc w)) hw = absurd (omega arith)
-
-    pub goes : (w : ℕ) → w < 2 → Empty (structureAt k w (changedFrom ids 0 sure m))
-    goes w hw = blank-empty _ (gone w hw)
+  pub stays : headOf (structureAt k 1 m) .fields ≡ 0 → headOf (structureAt k 1 m) .deleted ≡ 0 → structureAt k 0 (changedFrom ids 0 sure m) ≡ stayed sure (structureAt k 0 m)
+  unfolding said
+  stays f d = by-said false (λ i. ltb 0 (f i) || eqb (d i) 1)
 
   -- a structure was announced
-  module _ (pos : 0 < headOf (structureAt k 1 m) .fields) (d : headOf (structureAt k 1 m) .deleted ≡ 0) where
-    abbrev pub moved : List ℕ
-    moved = withHead (settledHead sure (headOf (structureAt k 1 m))) (structureAt k 1 m)
+  pub comes-in : 0 < headOf (structureAt k 1 m) .fields → structureAt k 0 (changedFrom ids 0 sure m) ≡ settled sure (structureAt k 1 m)
+  unfolding said
+  comes-in f = by-said true (λ i. lt-ltb 0 (headOf (structureAt k 1 m) .fields) f i || eqb (headOf (structureAt k 1 m) .deleted) 1)
 
-    listed : applied sure (blockAt k m) ≡ moved ++ blank structureSize
-    listed =
-        lists sure (blockAt k m) lb
-        (subst (λ (x : List ℕ). 0 < headOf x .fields) (sym coming-is) pos)
-        (ap (λ (x : List ℕ). headOf x .deleted) coming-is ∙ d)
-        ∙ ap (λ (x : List ℕ). withHead (settledHead sure (headOf x)) x ++ blank structureSize) coming-is
-
-    lh : length moved ≡ structureSize
-    lh = with-head-length (structureAt k 1 m) (structure-length m l k 1 hk (lit< tt)) (settledHead sure (headOf (structureAt k 1 m)))
-
-    pub cleared : structureAt k 1 (changedFrom ids 0 sure m) ≡ blank structureSize
-    unfolding part
-    cleared =
-        coming-behind ∙ ap comingIn listed ∙ ap (take structureSize) (drop-at moved (blank structureSize) structureSize lh)
-        ∙ take-blank structureSize structureSize (lit≤ tt)
-
-    pub in-force : structureAt k 0 (changedFrom ids 0 sure m) ≡ leftBy sure moved
-    unfolding part
-    in-force =
-        force-behind ∙ ap (λ (x : List ℕ). leftBy sure (part 0 structureSize x)) listed
-        ∙ ap (leftBy sure) (take-at moved (blank structureSize) structureSize lh)
-
-    pub in-force-some : ltb 0 (headOf (structureAt k 0 (changedFrom ids 0 sure m)) .fields) ≡ true
-    unfolding settledHead
-    in-force-some =
-        ap (λ (x : List ℕ). ltb 0 (headOf x .fields)) in-force ∙ left-some sure moved lh
-        ∙ ap (λ (x : Structure). ltb 0 (x .fields))
-        (head-stored (structureAt k 1 m) (structure-length m l k 1 hk (lit< tt)) (settledHead sure (headOf (structureAt k 1 m))))
-        ∙ lt-ltb 0 (headOf (structureAt k 1 m) .fields) pos
-
-  module _ (n : ℕ) (xs : List ℕ) (v r : ℕ) (h : Holds (structureAt k 1 m) n xs v r) (pos : 0 < n) where
-    some : 0 < headOf (structureAt k 1 m) .fields
-    some = omega (arith, h .fields)
-
-    pub emptied : Empty (structureAt k 1 (changedFrom ids 0 sure m))
-    emptied = blank-empty _ (cleared some (h .deleted))
-
-    -- nothing of it is missing, or it was known to be whole
-    pub settled : (sure || eqb v 1) ≡ true → n ≤ most → Holds (structureAt k 0 (changedFrom ids 0 sure m)) n xs 1 r
-    unfolding settledHead
-    settled su few =
-        subst (λ (x : List ℕ). Holds x n xs 1 r) (sym (in-force some (h .deleted) ∙ left-whole sure (withHead (settledHead sure (headOf a)) a) (made .size) (made .whole))) made
-      where
-        a : List ℕ
-        a = structureAt k 1 m
-
-        head : headOf (withHead (settledHead sure (headOf a)) a) ≡ settledHead sure (headOf a)
-        head = head-stored a (h .size) (settledHead sure (headOf a))
-
-        fits : (ltb 0 (headOf a .fields) && leb (headOf a .fields) most) ≡ true
-        fits = λ i. lt-ltb 0 (headOf a .fields) (omega (arith, h .fields)) i && le-leb (headOf a .fields) most (omega (arith, h .fields)) i
-
-        marked : (q : Bool) → (q || eqb v 1) ≡ true → cond (q && (ltb 0 (headOf a .fields) && leb (headOf a .fields) most)) 1 (headOf a .whole) ≡ 1
-        marked true e = ap (λ (x : Bool). cond x 1 (headOf a .whole)) fits
-        marked false e = h .whole ∙ eqb-true v 1 e
-
-        made : Holds (withHead (settledHead sure (headOf a)) a) n xs 1 r
-        made = record {
-          size = with-head-length a (h .size) (settledHead sure (headOf a));
-          fields = ap (λ (x : Structure). x .fields) head ∙ h .fields;
-          whole = ap (λ (x : Structure). x .whole) head ∙ marked sure su;
-          links = ap (λ (x : Structure). x .links) head ∙ h .links;
-          deleted = ap (λ (x : Structure). x .deleted) head;
-          each = λ i hi. nth-head a (h .size) (settledHead sure (headOf a)) i ∙ h .each i hi;
-        }
+  -- or that the component is to be deleted
+  pub goes-out : headOf (structureAt k 1 m) .deleted ≡ 1 → structureAt k 0 (changedFrom ids 0 sure m) ≡ settled sure (structureAt k 1 m)
+  unfolding said
+  goes-out d = by-said true ((λ i. ltb 0 (headOf (structureAt k 1 m) .fields) || eqb (d i) 1) ∙ or-true (ltb 0 (headOf (structureAt k 1 m) .fields)))
+    where
+      or-true : (b : Bool) → (b || true) ≡ true
+      or-true true = refl
+      or-true false = refl

@@ -2,7 +2,7 @@
 --
 --   refused, accepted            a call that answers first and changes the bytes after: its answer with the bytes after
 --   start-refused, start-passed  start's one row, by the test of the length
---   show-refused, show-found     what is shown, by the answer of the rows
+--   show-*, heard-*, known-*     what is read, by the answer of the rows
 --   list-20, list-rest           the rows of a list; out-size: the length where the first does not hold
 --   marks-turn, marks-end        a turn and the end of the loop that stores the marks
 --   Fits, fits                   the lengths where a field is not refused; flag-lt: its flag is one bit
@@ -30,9 +30,11 @@ use Rattle.field.specs.Field.{fieldSize, bitsAt, fieldOf, panning}
 use Rattle.field.specs.declared.Field.{Field}
 use Rattle.frames.specs.Counts.{changing, again, skips, sureAt, framesAfter}
 use Rattle.map.specs.Map.{ids, mapSize, framesOf, withFrames, structureAt, withStructure, good, eachFrom, changedFrom, spoiledBoth}
-use Rattle.map.specs.Calls.{startAnswer, takeAnswer, overGap, upTo, putIn, takenIn, frameTaken, showAnswer, shownAt, shownBy, shown, markOf, marks, listAnswer}
+use Rattle.map.specs.Calls.{startAnswer, takeAnswer, overGap, upTo, putIn, takenIn, frameTaken, showAnswer, shownAt, shownBy, shown, markOf, marks, listAnswer, heardAt, heardBy, heard, knownAt, knownBy, known}
 use Rattle.frames.specs.declared.Frames.{Frames}
 use Rattle.map.specs.declared.Shown.{Shown}
+use Rattle.map.specs.declared.Gathered.{Gathered}
+use Rattle.map.specs.declared.Reach.{Reach}
 use Rattle.map.proofs.Changing.{from-length, gap-length}
 use Rattle.map.proofs.Looking.{neither, take-fit, map-size, field-size}
 
@@ -56,7 +58,7 @@ start-passed m e = sym (refusal-miss (not (eqb (length m) mapSize)) 20 [] (ap no
 -- ---- what is shown
 
 abbrev pub bare : ℕ → Shown
-bare n = record { number = n; at = 0; len = 0; announced = 0; frames = 0 }
+bare n = record { number = n; at = 0; len = 0; announced = 0; frames = 0; unknown = 0 }
 
 module _ (m : List ℕ) (id count r : ℕ) (e : r ≡ showAnswer m) where
   pub show-refused : (r ≡ 0 → ⊥) → bare r ≡ shown m id count
@@ -70,6 +72,38 @@ module _ (m : List ℕ) (id count r : ℕ) (e : r ≡ showAnswer m) where
   pub show-found : r ≡ 0 → (x : Shown) → x ≡ shownAt m id count → x ≡ shown m id count
   unfolding shown shownBy
   show-found z x q = q ∙ ap (λ (n : ℕ). shownBy n (shownAt m id count)) (sym z ∙ e)
+
+module _ (m : List ℕ) (id count r : ℕ) (e : r ≡ showAnswer m) where
+  pub heard-refused : (r ≡ 0 → ⊥) → record { number = r; at = 0; len = 0; whole = 0 } ≡ heard m id count
+  unfolding heard heardBy
+  heard-refused ne = ap none e ∙ go (showAnswer m) e
+    where
+      none : ℕ → Gathered
+      none n = record { number = n; at = 0; len = 0; whole = 0 }
+
+      go : (n : ℕ) → r ≡ n → none n ≡ heardBy n (heardAt m id count)
+      go zero q = absurd (ne q)
+      go (suc n) q = refl
+
+  pub heard-found : r ≡ 0 → (x : Gathered) → x ≡ heardAt m id count → x ≡ heard m id count
+  unfolding heard heardBy
+  heard-found z x q = q ∙ ap (λ (n : ℕ). heardBy n (heardAt m id count)) (sym z ∙ e)
+
+module _ (m : List ℕ) (count r : ℕ) (e : r ≡ showAnswer m) where
+  pub known-refused : (r ≡ 0 → ⊥) → record { number = r; row = 0; unbroken = 0; components = 0 } ≡ known m count
+  unfolding known knownBy
+  known-refused ne = ap none e ∙ go (showAnswer m) e
+    where
+      none : ℕ → Reach
+      none n = record { number = n; row = 0; unbroken = 0; components = 0 }
+
+      go : (n : ℕ) → r ≡ n → none n ≡ knownBy n (knownAt m count)
+      go zero q = absurd (ne q)
+      go (suc n) q = refl
+
+  pub known-found : r ≡ 0 → (x : Reach) → x ≡ knownAt m count → x ≡ known m count
+  unfolding known knownBy
+  known-found z x q = q ∙ ap (λ (n : ℕ). knownBy n (knownAt m count)) (sym z ∙ e)
 
 -- ---- the list
 

@@ -18,22 +18,21 @@ use Rattle.bits.specs.Bits.{blank}
 use Rattle.bits.specs.Rows.{done}
 use Rattle.bits.proofs.Rows.{done-refused, done-passed}
 use Rattle.bits.proofs.Search.{and-left, and-right, all-at, all-each}
-use Rattle.bits.proofs.Storing.{blank-length}
 use Rattle.slot.proofs.Laws.{blank-at}
 use Rattle.field.specs.Field.{fieldOf, deletes, panning}
 use Rattle.field.specs.declared.Field.{Field}
 use Rattle.field.proofs.Bytes.{Within}
 use Rattle.field.proofs.RoundTrip.{field-bounds}
-use Rattle.structure.specs.Structure.{structureSize, headOf, withHead, gathered, spoiled, deletion, goodHead, settledHead}
+use Rattle.structure.specs.Structure.{structureSize, headOf, withHead, markedHead, gathered, spoiled, deletion, absence, said, goodHead, settledHead}
 use Rattle.structure.specs.declared.Structure.{Structure}
 use Rattle.structure.proofs.Gathering.{head-stored, with-head-length}
-use Rattle.structure.proofs.Kept.{gathered-length, gathered-good, gathered-deleted, deletion-length, deletion-good, blank-good, good-deleted, settled-good, spoiled-good, spoiled-deleted}
+use Rattle.structure.proofs.Kept.{gathered-length, gathered-good, gathered-deleted, deletion-length, deletion-good, absence-length, absence-good, absence-deleted, blank-good, marked-good, settled-good, spoiled-good, spoiled-deleted}
 use Rattle.frames.specs.Counts.{goodFrames, changing, again, skips, sureAt, framesAfter}
-use Rattle.map.specs.Map.{ids, mapSize, blockSize, framesOf, withFrames, structureAt, withStructure, inForce, announced, goodAt, good, eachFrom, changedFrom, spoiledBoth}
+use Rattle.map.specs.Map.{ids, mapSize, blockSize, framesOf, withFrames, structureAt, withStructure, inForce, announced, goodAt, good, stayed, settled, forced, eachFrom, changedFrom, spoiledBoth}
 use Rattle.map.specs.Calls.{startAfter, startAnswer, takeAnswer, overGap, upTo, putIn, takenIn, frameTaken, takeAfter}
 use Rattle.frames.proofs.Distances.{after-good}
 use Rattle.map.proofs.Places.{structure-length, with-structure-length, structure-same, structure-other, frames-kept, with-frames-length, structures-kept, frames-stored}
-use Rattle.map.proofs.Changing.{blank-empty, part-blank, from-frames, gap-frames, gap-structure, leftBy, stays, stays-unsaid, gone, cleared, in-force}
+use Rattle.map.proofs.Changing.{blank-empty, part-blank, from-frames, gap-frames, gap-structure, force-behind, cleared}
 use Rattle.map.proofs.Doing.{start-passed, fits, over-gap-length, up-to-length}
 
 -- the bytes after, by cases of the answer
@@ -92,7 +91,7 @@ unfolding startAfter goodFrames framesOf structureAt
 start-good m l =
     ap good (done-passed (startAnswer m) (blank mapSize) m (sym (start-passed m l)))
     ∙ each-good (blank mapSize) (record {
-      frames = λ i. leb (blank-at mapSize 34817 i) 1 && leb (blank-at mapSize 34818 i) 1;
+      frames = λ i. leb (blank-at mapSize 36353 i) 1 && leb (blank-at mapSize 36354 i) 1;
       structures = λ k w hk hw. blank-fine w _ (part-blank (k * blockSize + w * structureSize) structureSize mapSize (omega arith));
     })
 
@@ -101,46 +100,50 @@ start-good m l =
 spoiled-fine : (w : ℕ) (s : List ℕ) → length s ≡ structureSize → Fine w s → Fine w (spoiled s)
 spoiled-fine w s ls f = record { head = spoiled-good s ls (f .head); deleted = λ z. spoiled-deleted s ls (f .deleted z) }
 
-left-fine : (sure : Bool) (s : List ℕ) → length s ≡ structureSize → Fine 0 s → Fine 0 (leftBy sure s)
-left-fine true s ls f = f
-left-fine false s ls f = spoiled-fine 0 s ls f
+stored-fine : (w : ℕ) (s : List ℕ) (h : Structure) → length s ≡ structureSize → goodHead h ≡ true → h .deleted ≡ 0 → Fine w (withHead h s)
+stored-fine w s h ls g d =
+    let e = head-stored s ls h in
+    record { head = ap goodHead e ∙ g; deleted = λ z. ap (λ (x : Structure). x .deleted) e ∙ d }
+
+stayed-fine : (sure : Bool) (s : List ℕ) → length s ≡ structureSize → Fine 0 s → Fine 0 (stayed sure s)
+unfolding stayed markedHead
+stayed-fine sure s ls f = go sure
+  where
+    unmarked : Fine 0 (withHead (markedHead 0 0 (headOf s)) s)
+    unmarked = stored-fine 0 s (markedHead 0 0 (headOf s)) ls (marked-good 0 0 (headOf s) (lit≤ tt) (f .head)) (f .deleted refl)
+
+    go : (b : Bool) → Fine 0 (cond b (withHead (markedHead 0 0 (headOf s)) s) (spoiled (withHead (markedHead 0 0 (headOf s)) s)))
+    go true = unmarked
+    go false = spoiled-fine 0 _ (with-head-length s ls (markedHead 0 0 (headOf s))) unmarked
+
+settled-fine : (sure : Bool) (c : List ℕ) → length c ≡ structureSize → Fine 1 c → Fine 0 (settled sure c)
+unfolding settled
+settled-fine sure c lc f =
+    let q = settled-good sure (headOf c) (f .head) in
+    spoiled-fine 0 _ (with-head-length c lc (settledHead sure (headOf c))) (stored-fine 0 c (settledHead sure (headOf c)) lc (q .0) (q .1))
+
+forced-fine : (sure : Bool) (f c : List ℕ) → length f ≡ structureSize → length c ≡ structureSize → Fine 0 f → Fine 1 c → Fine 0 (forced sure f c)
+unfolding forced
+forced-fine sure f c lf lc ff fc = go (said (headOf c))
+  where
+    go : (b : Bool) → Fine 0 (cond b (settled sure c) (stayed sure f))
+    go true = settled-fine sure c lc fc
+    go false = stayed-fine sure f lf ff
 
 module _ (sure : Bool) (m : List ℕ) (l : length m ≡ mapSize) (g : Good m) where
   changed-good : Good (changedFrom ids 0 sure m)
   changed-good = record {
     frames = ap goodFrames (from-frames sure ids 0 m (lit≤ tt) l) ∙ g .frames;
-    structures = λ k w hk hw. go k w hk hw (ℕ-discrete (coming k .deleted) 1) (ℕ-discrete (coming k .fields) 0);
+    structures = go;
   }
     where
-      coming : ℕ → Structure
-      coming k = headOf (structureAt k 1 m)
-
-      listed : (k w : ℕ) → k < ids → w < 2 → 0 < coming k .fields → coming k .deleted ≡ 0 → Fine w (structureAt k w (changedFrom ids 0 sure m))
-      listed k zero hk hw f d =
-          let h = settledHead sure (coming k) in
-          let ls = structure-length m l k 1 hk (lit< tt) in
-          let e = head-stored (structureAt k 1 m) ls h in
-          let q = settled-good sure (coming k) (g .structures k 1 hk (lit< tt) .head) in
-          subst (Fine 0) (sym (in-force sure m l k hk f d))
-          (left-fine sure (withHead h (structureAt k 1 m)) (with-head-length (structureAt k 1 m) ls h)
-          (record { head = ap goodHead e ∙ q .0; deleted = λ z. ap (λ (x : Structure). x .deleted) e ∙ q .1 }))
-      listed k (suc zero) hk hw f d = blank-fine 1 _ (cleared sure m l k hk f d)
-      listed k (suc (suc w)) hk hw f d = absurd (omega arith)
-
-      unsaid : (k w : ℕ) → k < ids → w < 2 → coming k .fields ≡ 0 → coming k .deleted ≡ 0 → Fine w (structureAt k w (changedFrom ids 0 sure m))
-      unsaid k zero hk hw f d =
-          subst (Fine 0) (sym (stays sure m l k hk f d))
-          (left-fine sure (structureAt k 0 m) (structure-length m l k 0 hk hw) (g .structures k 0 hk hw))
-      unsaid k (suc zero) hk hw f d = subst (Fine 1) (sym (stays-unsaid sure m l k hk f d)) (g .structures k 1 hk hw)
-      unsaid k (suc (suc w)) hk hw f d = absurd (omega arith)
-
-      go : (k w : ℕ) → k < ids → w < 2 → Dec (coming k .deleted ≡ 1) → Dec (coming k .fields ≡ 0)
-          → Fine w (structureAt k w (changedFrom ids 0 sure m))
-      go k w hk hw (yes d) f = blank-fine w _ (gone sure m l k hk d w hw)
-      go k w hk hw (no d) (yes f) =
-          unsaid k w hk hw f (good-deleted (coming k) (g .structures k 1 hk (lit< tt) .head) d)
-      go k w hk hw (no d) (no f) =
-          listed k w hk hw (omega arith) (good-deleted (coming k) (g .structures k 1 hk (lit< tt) .head) d)
+      go : (k w : ℕ) → k < ids → w < 2 → Fine w (structureAt k w (changedFrom ids 0 sure m))
+      go k zero hk hw =
+          subst (Fine 0) (sym (force-behind sure m l k hk))
+          (forced-fine sure (structureAt k 0 m) (structureAt k 1 m) (structure-length m l k 0 hk (lit< tt)) (structure-length m l k 1 hk (lit< tt))
+          (g .structures k 0 hk (lit< tt)) (g .structures k 1 hk (lit< tt)))
+      go k (suc zero) hk hw = blank-fine 1 _ (cleared sure m l k hk)
+      go k (suc (suc w)) hk hw = absurd (omega arith)
 
 -- a missed frame
 over-gap-good : (m : List ℕ) (n : ℕ) → length m ≡ mapSize → Good m → Good (overGap m n)
@@ -171,8 +174,8 @@ module _ (r : Field) (hr : Within r) where
     unfolding putIn
     put-length = go (deletes (r .tdms)) (eqb (r .flag) 0)
       where
-        go : (d f : Bool) → length (cond d (cond f (blank structureSize) deletion) (gathered s (r .tdms) (r .links))) ≡ structureSize
-        go true true = blank-length structureSize
+        go : (d f : Bool) → length (cond d (cond f absence deletion) (gathered s (r .tdms) (r .links))) ≡ structureSize
+        go true true = absence-length
         go true false = deletion-length
         go false f = gathered-length s (r .tdms) (r .links) l
 
@@ -180,8 +183,8 @@ module _ (r : Field) (hr : Within r) where
     unfolding putIn
     put-fine g = go (deletes (r .tdms)) (eqb (r .flag) 0) refl
       where
-        go : (d f : Bool) → eqb (r .flag) 0 ≡ f → Fine (r .flag) (cond d (cond f (blank structureSize) deletion) (gathered s (r .tdms) (r .links)))
-        go true true e = blank-fine (r .flag) (blank structureSize) refl
+        go : (d f : Bool) → eqb (r .flag) 0 ≡ f → Fine (r .flag) (cond d (cond f absence deletion) (gathered s (r .tdms) (r .links)))
+        go true true e = record { head = absence-good; deleted = λ z. absence-deleted }
         go true false e = record { head = deletion-good; deleted = λ z. absurd (eqb-false (r .flag) 0 e z) }
         go false f e = record {
           head = gathered-good s (r .tdms) (r .links) l (g .head) (omega (arith, hr .links));

@@ -3,12 +3,13 @@
 --   structure-lent           the part that is lent of a structure is the structure
 --   all-next, all-end        a turn and the end of the loop over all components
 --   shown-20 ..              the rows 20 and 34; Passed: a map that neither refuses
---   comes-then, said-then, stands-then    a component of a set, by the tests on the way
+--   comes-then, settled-then, stands-then    a component of a set, by the tests on the way
 --   count-on, count-end                   a turn and the end of the loop that counts them
 --   many-*                   one component too many, by the tests on the way
 --   neither, take-20 ..      the rows of a field taken in; idle: panning vectors, or a frame that was heard, which row 45 passes over
 --   mark-*, found-*                       what is shown of a component, by the tests on the way
---   behind-then, force-then, shown-then   and of which structure
+--   which-then, behind-then, force-then, shown-then   and of which structure
+--   heard-*, known-then                   what was heard of it, and how far it reaches
 --
 -- Assumes nothing.
 use mathlib.Core.Path.{_≡_, refl, sym, ap, ap₂, _∙_}
@@ -18,7 +19,7 @@ use Prim.Native.Nat.{ℕ, suc, _+_, _-_, _*_, _≤_, _<_}
 use native.Mathlib.Omega.{arith}
 use native.Mathlib.Nat.{add-assoc, add-zero}
 use borrow.Author.Tests.{eq-eqb, ne-eqb, eqb-true, not-false}
-use lib.Dec.{leb, ltb, eqb}
+use lib.Dec.{leb, ltb, eqb, lit<}
 use lib.ListN.{length, take, drop}
 use Rattle.bits.specs.Rows.{Row, row, refusal}
 use Rattle.bits.specs.Search.{all}
@@ -26,10 +27,10 @@ use Rattle.bits.proofs.Rows.{refusal-hit, refusal-miss, refusal-passed, refusal
 use Rattle.slot.specs.Part.{part}
 use Rattle.field.specs.Field.{fieldSize, fieldOf, badField, deletes, panning}
 use Rattle.field.specs.declared.Field.{Field}
-use Rattle.structure.specs.Structure.{structureSize, headOf, said, settledHead}
-use Rattle.frames.specs.Counts.{until, changing, again, allHeard}
+use Rattle.structure.specs.Structure.{structureSize, allOnes, headOf, nth, stored, said, certainly, settledHead}
+use Rattle.frames.specs.Counts.{until, changing, again, sureAt, enough, allHeard}
 use Rattle.map.specs.Map.{ids, mapSize, blockSize, framesOf, structureAt, inForce, announced, goodAt, good, stands, comes, present, counted, components}
-use Rattle.map.specs.Calls.{tooMany, takeRows, takeAnswer, thenWhich, thenHead, thenNumber, foundOf, shownAt, showAnswer, markOf}
+use Rattle.map.specs.Calls.{tooMany, takeRows, takeAnswer, thenWhich, thenHead, thenNumber, unknown, foundOf, shownAt, showAnswer, markOf, heardLen, heardAt, inForceThen, knownAt}
 use Rattle.structure.specs.declared.Structure.{Structure}
 use Rattle.frames.specs.declared.Frames.{Frames}
 use Rattle.map.specs.declared.Shown.{Shown}
@@ -92,29 +93,27 @@ module _ (m : List ℕ) where
 
 -- ---- the components of a set
 
-module _ (w : ℕ) (change : Bool) (m : List ℕ) (k : ℕ) (h : Structure) (e : h ≡ headOf (structureAt k 1 m)) where
-  by-set : (b : Bool) → eqb w 0 ≡ b → cond b (stands change m k) (comes change m k) ≡ present w change m k
+module _ (w : ℕ) (change sure : Bool) (m : List ℕ) (k : ℕ) (h : Structure) (e : h ≡ headOf (structureAt k 1 m)) where
+  by-set : (b : Bool) → eqb w 0 ≡ b → cond b (stands change sure m k) (comes change m k) ≡ present w change sure m k
   unfolding present
-  by-set b q = ap (λ (x : Bool). cond x (stands change m k) (comes change m k)) (sym q)
+  by-set b q = ap (λ (x : Bool). cond x (stands change sure m k) (comes change m k)) (sym q)
 
-  pub comes-then : (w ≡ 0 → ⊥) → (not change && ltb 0 (h .fields)) ≡ present w change m k
+  pub comes-then : (w ≡ 0 → ⊥) → (not change && ltb 0 (h .fields)) ≡ present w change sure m k
   unfolding comes announced
   comes-then ne = ap (λ (x : Structure). not change && ltb 0 (x .fields)) e ∙ by-set false (ne-eqb w 0 ne)
 
-  module _ (z : w ≡ 0) (s : Bool) (es : s ≡ said h) where
-    by-change : (b : Bool) → (change && s) ≡ b
-        → cond b (ltb 0 (headOf (structureAt k 1 m) .fields)) (ltb 0 (headOf (structureAt k 0 m) .fields)) ≡ present w change m k
+  module _ (z : w ≡ 0) where
+    by-change : (b : Bool) → change ≡ b → cond b (sure && certainly (headOf (structureAt k 1 m))) (certainly (headOf (structureAt k 0 m))) ≡ present w change sure m k
     unfolding stands announced inForce
     by-change b q =
-        ap (λ (x : Bool). cond x (ltb 0 (headOf (structureAt k 1 m) .fields)) (ltb 0 (headOf (structureAt k 0 m) .fields)))
-        (sym q ∙ ap (λ (x : Bool). change && x) (es ∙ ap said e))
+        ap (λ (x : Bool). cond x (sure && certainly (headOf (structureAt k 1 m))) (certainly (headOf (structureAt k 0 m)))) (sym q)
         ∙ by-set true (eq-eqb w 0 z)
 
-    pub said-then : (change && s) ≡ true → ltb 0 (h .fields) ≡ present w change m k
-    said-then q = ap (λ (x : Structure). ltb 0 (x .fields)) e ∙ by-change true q
+    pub settled-then : change ≡ true → (s : Bool) → s ≡ certainly h → (sure && s) ≡ present w change sure m k
+    settled-then q s es = ap (λ (x : Bool). sure && x) (es ∙ ap certainly e) ∙ by-change true q
 
-    pub stands-then : (change && s) ≡ false → (g : Structure) → g ≡ headOf (structureAt k 0 m) → ltb 0 (g .fields) ≡ present w change m k
-    stands-then q g eg = ap (λ (x : Structure). ltb 0 (x .fields)) eg ∙ by-change false q
+    pub stands-then : change ≡ false → (g : Structure) → g ≡ headOf (structureAt k 0 m) → (s : Bool) → s ≡ certainly g → s ≡ present w change sure m k
+    stands-then q g eg s es = es ∙ ap certainly eg ∙ by-change false q
 
 -- ---- the loop that counts them
 
@@ -140,22 +139,22 @@ module _ (p : ℕ → Bool) (k n total : ℕ) where
 
 -- ---- one too many
 
-module _ (m : List ℕ) (r : Field) (change : Bool) (e : change ≡ changing (framesOf m) (r .count)) where
-  by-tests : (d p : Bool) → deletes (r .tdms) ≡ d → present (r .flag) change m (r .id) ≡ p
-      → (not d && (not p && leb 128 (components (r .flag) change m))) ≡ tooMany m r
+module _ (m : List ℕ) (r : Field) (change : Bool) (e : change ≡ changing (framesOf m) (r .count)) (sure : Bool) (es : sure ≡ sureAt (framesOf m) (r .count)) where
+  by-tests : (d p : Bool) → deletes (r .tdms) ≡ d → present (r .flag) change sure m (r .id) ≡ p
+      → (not d && (not p && leb 128 (components (r .flag) change sure m))) ≡ tooMany m r
   unfolding tooMany
   by-tests d p ed ep =
-      ap₂ (λ (x y : Bool). not x && (not y && leb 128 (components (r .flag) change m))) (sym ed) (sym ep)
-      ∙ ap (λ (x : Bool). not (deletes (r .tdms)) && (not (present (r .flag) x m (r .id)) && leb 128 (components (r .flag) x m))) e
+      ap₂ (λ (x y : Bool). not x && (not y && leb 128 (components (r .flag) change sure m))) (sym ed) (sym ep)
+      ∙ ap₂ (λ (x y : Bool). not (deletes (r .tdms)) && (not (present (r .flag) x y m (r .id)) && leb 128 (components (r .flag) x y m))) e es
 
   pub many-deletes : deletes (r .tdms) ≡ true → false ≡ tooMany m r
-  many-deletes d = by-tests true (present (r .flag) change m (r .id)) d refl
+  many-deletes d = by-tests true (present (r .flag) change sure m (r .id)) d refl
 
   module _ (d : deletes (r .tdms) ≡ false) where
-    pub many-present : present (r .flag) change m (r .id) ≡ true → false ≡ tooMany m r
+    pub many-present : present (r .flag) change sure m (r .id) ≡ true → false ≡ tooMany m r
     many-present p = by-tests false true d p
 
-    pub many-counted : present (r .flag) change m (r .id) ≡ false → (n : ℕ) → n ≡ components (r .flag) change m → leb 128 n ≡ tooMany m r
+    pub many-counted : present (r .flag) change sure m (r .id) ≡ false → (n : ℕ) → n ≡ components (r .flag) change sure m → leb 128 n ≡ tooMany m r
     many-counted p n en = ap (leb 128) en ∙ by-tests false false d p
 
 -- ---- a field taken in, row by row
@@ -242,52 +241,66 @@ module _ (m f : List ℕ) where
 -- ---- what is shown of a component
 
 module _ (a : Shown) where
-  by-len : (b : Bool) → eqb (a .number) 46 ≡ b → cond b 2 (cond (eqb (a .len) 0) 0 1) ≡ markOf a
+  by-marks : (b n u : Bool) → eqb (a .number) 46 ≡ b → eqb (a .len) 0 ≡ n → eqb (a .unknown) 1 ≡ u → cond b 2 (cond n (cond u 3 0) 1) ≡ markOf a
   unfolding markOf
-  by-len b e = ap (λ (x : Bool). cond x 2 (cond (eqb (a .len) 0) 0 1)) (sym e)
+  by-marks b n u eb en eu = λ i. cond (sym eb i) 2 (cond (sym en i) (cond (sym eu i) 3 0) 1)
 
   pub mark-unfinished : a .number ≡ 46 → 2 ≡ markOf a
-  mark-unfinished e = by-len true (eq-eqb (a .number) 46 e)
+  mark-unfinished e = by-marks true _ _ (eq-eqb (a .number) 46 e) refl refl
 
   module _ (ne : a .number ≡ 46 → ⊥) where
-    pub mark-none : a .len ≡ 0 → 0 ≡ markOf a
-    mark-none e = sym (ap (λ (x : Bool). cond x 0 1) (eq-eqb (a .len) 0 e)) ∙ by-len false (ne-eqb (a .number) 46 ne)
-
     pub mark-whole : (a .len ≡ 0 → ⊥) → 1 ≡ markOf a
-    mark-whole e = sym (ap (λ (x : Bool). cond x 0 1) (ne-eqb (a .len) 0 e)) ∙ by-len false (ne-eqb (a .number) 46 ne)
+    mark-whole e = by-marks false false _ (ne-eqb (a .number) 46 ne) (ne-eqb (a .len) 0 e) refl
 
-module _ (f : Frames) (id w : ℕ) (h : Structure) (s : Bool) (a n : ℕ) (ea : a ≡ cond s 1 0) (en : n ≡ cond s (until (f .last)) 0) where
+    module _ (z : a .len ≡ 0) where
+      pub mark-unknown : a .unknown ≡ 1 → 3 ≡ markOf a
+      mark-unknown e = by-marks false true true (ne-eqb (a .number) 46 ne) (eq-eqb (a .len) 0 z) (eq-eqb (a .unknown) 1 e)
+
+      pub mark-none : (a .unknown ≡ 1 → ⊥) → 0 ≡ markOf a
+      mark-none e = by-marks false true false (ne-eqb (a .number) 46 ne) (eq-eqb (a .len) 0 z) (ne-eqb (a .unknown) 1 e)
+
+pub unknown-tests : (f : Frames) (h : Structure) (x : Bool) → x ≡ enough f → (eqb (h .fields) 0 && (eqb (h .certain) 0 && not x)) ≡ unknown f h
+unfolding unknown
+unknown-tests f h x e = ap (λ (y : Bool). eqb (h .fields) 0 && (eqb (h .certain) 0 && not y)) e
+
+module _ (f : Frames) (id w : ℕ) (h : Structure) (s : Bool) (a n u : ℕ) (ea : a ≡ cond s 1 0) (en : n ≡ cond s (until (f .last)) 0)
+    (eu : u ≡ cond (unknown f h) 1 0) where
   abbrev answer : ℕ → ℕ → ℕ → Shown
-  answer number at len = record { number = number; at = at; len = len; announced = a; frames = n }
+  answer number at len = record { number = number; at = at; len = len; announced = a; frames = n; unknown = u }
 
-  by-whole : (b : Bool) → eqb (h .whole) 1 ≡ b
-      → answer (thenNumber h) (cond b (id * blockSize + w * structureSize + 4) 0) (cond b (8 * h .fields) 0) ≡ foundOf f id w h s
+  abbrev place : ℕ
+  place = id * blockSize + w * structureSize + 7
+
+  by-whole : (b : Bool) → eqb (h .whole) 1 ≡ b → answer (thenNumber h) (cond b place 0) (cond b (8 * h .fields) 0) ≡ foundOf f id w h s
   unfolding foundOf
   by-whole b e =
       λ i. record {
         number = thenNumber h;
-        at = cond (sym e i) (id * blockSize + w * structureSize + 4) 0;
+        at = cond (sym e i) place 0;
         len = cond (sym e i) (8 * h .fields) 0;
         announced = ea i;
         frames = en i;
+        unknown = eu i;
       }
 
-  pub found-whole : h .whole ≡ 1 → answer 0 (id * blockSize + w * structureSize + 4) (8 * h .fields) ≡ foundOf f id w h s
+  pub found-whole : h .whole ≡ 1 → answer 0 place (8 * h .fields) ≡ foundOf f id w h s
   unfolding thenNumber
   found-whole e =
       let none : (ltb 0 (h .fields) && eqb (h .whole) 0) ≡ false =
       ap (λ (x : ℕ). ltb 0 (h .fields) && eqb x 0) e ∙ and-false (ltb 0 (h .fields)) in
-      ap (λ (x : Bool). answer (cond x 46 0) (id * blockSize + w * structureSize + 4) (8 * h .fields)) (sym none)
+      ap (λ (x : Bool). answer (cond x 46 0) place (8 * h .fields)) (sym none)
       ∙ by-whole true (eq-eqb (h .whole) 1 e)
 
   pub found-part : (h .whole ≡ 1 → ⊥) → (b : Bool) → (ltb 0 (h .fields) && eqb (h .whole) 0) ≡ b → answer (cond b 46 0) 0 0 ≡ foundOf f id w h s
   unfolding thenNumber
   found-part ne b e = ap (λ (x : Bool). answer (cond x 46 0) 0 0) (sym e) ∙ by-whole false (ne-eqb (h .whole) 1 ne)
 
+-- ---- of which structure
+
 module _ (m : List ℕ) (id count : ℕ) (b : Bool) (e : b ≡ (changing (framesOf m) count && said (announced id m))) where
-  which-then : (w : ℕ) → w ≡ cond b 1 0 → w ≡ thenWhich m id count
+  pub which-then : (t : Bool) → b ≡ t → cond t 1 0 ≡ thenWhich m id count
   unfolding thenWhich
-  which-then w q = q ∙ ap (λ (x : Bool). cond x 1 0) e
+  which-then t q = ap (λ (x : Bool). cond x 1 0) (sym q ∙ e)
 
   by-which : (t : Bool) → b ≡ t
       → cond (eqb (cond t 1 0) 1) (settledHead (allHeard (framesOf m)) (announced id m)) (inForce id m) ≡ thenHead m id count
@@ -301,8 +314,55 @@ module _ (m : List ℕ) (id count : ℕ) (b : Bool) (e : b ≡ (changing (frames
   pub force-then : b ≡ false → inForce id m ≡ thenHead m id count
   force-then q = by-which false q
 
-  -- what is found there is what is shown
-  pub shown-then : (x : Shown) (f : Frames) (w : ℕ) (h : Structure) (s : Bool) → f ≡ framesOf m → w ≡ cond b 1 0
-      → h ≡ thenHead m id count → s ≡ said (announced id m) → x ≡ foundOf f id w h s → x ≡ shownAt m id count
-  unfolding shownAt
-  shown-then x f w h s ef ew eh es q = q ∙ (λ i. foundOf (ef i) id (which-then w ew i) (eh i) (es i))
+pub which-lt : (m : List ℕ) (id count : ℕ) → thenWhich m id count < 2
+unfolding thenWhich
+which-lt m id count = go (changing (framesOf m) count && said (announced id m))
+  where
+    go : (b : Bool) → cond b 1 0 < 2
+    go true = lit< tt
+    go false = lit< tt
+
+-- what is found there is what is shown
+pub shown-then : (m : List ℕ) (id count : ℕ) (x : Shown) (f : Frames) (w : ℕ) (h : Structure) (s : Bool) → f ≡ framesOf m → w ≡ thenWhich m id count
+    → h ≡ thenHead m id count → s ≡ said (announced id m) → x ≡ foundOf f id w h s → x ≡ shownAt m id count
+unfolding shownAt
+shown-then m id count x f w h s ef ew eh es q = q ∙ (λ i. foundOf (ef i) id (ew i) (eh i) (es i))
+
+-- ---- what was heard
+
+module _ (h : Structure) (s : List ℕ) (x : ℕ) (ex : x ≡ nth 0 s) where
+  by-ones : (b : Bool) → eqb x allOnes ≡ b → cond b 0 (8 * stored h) ≡ heardLen h s
+  unfolding heardLen
+  by-ones b e = ap (λ (y : Bool). cond y 0 (8 * stored h)) (sym e ∙ ap (λ (y : ℕ). eqb y allOnes) ex)
+
+  pub heard-spoiled : x ≡ allOnes → 0 ≡ heardLen h s
+  heard-spoiled e = by-ones true (eq-eqb x allOnes e)
+
+  pub heard-fields : (x ≡ allOnes → ⊥) → (n : ℕ) → n ≡ stored h → 8 * n ≡ heardLen h s
+  heard-fields ne n en = ap (λ (y : ℕ). 8 * y) en ∙ by-ones false (ne-eqb x allOnes ne)
+
+module _ (m : List ℕ) (id count w len : ℕ) (h : Structure) (ew : w ≡ thenWhich m id count) (eh : h ≡ thenHead m id count)
+    (el : len ≡ heardLen h (structureAt id w m)) where
+  pub heard-then : (b : Bool) → eqb len 0 ≡ b → (a : ℕ) → a ≡ cond b 0 (id * blockSize + w * structureSize + 7)
+      → record { number = 0; at = a; len = len; whole = h .whole } ≡ heardAt m id count
+  unfolding heardAt
+  heard-then b eb a ea =
+      (λ i. record { number = 0; at = (ea ∙ ap (λ (x : Bool). cond x 0 (id * blockSize + w * structureSize + 7)) (sym eb)) i; len = len; whole = h .whole })
+      ∙ (λ i. record { number = 0; at = cond (eqb (el i) 0) 0 (id * blockSize + w * structureSize + 7); len = el i; whole = h .whole })
+      ∙ (λ i. record {
+        number = 0;
+        at = cond (eqb (heardLen (eh i) (structureAt id (ew i) m)) 0) 0 (id * blockSize + ew i * structureSize + 7);
+        len = heardLen (eh i) (structureAt id (ew i) m);
+        whole = eh i .whole;
+      })
+
+-- ---- how far it reaches
+
+pub then-counted : (m : List ℕ) (count k : ℕ) (h : Structure) → h ≡ thenHead m k count → ltb 0 (h .fields) ≡ inForceThen m count k
+unfolding inForceThen
+then-counted m count k h e = ap (λ (x : Structure). ltb 0 (x .fields)) e
+
+pub known-then : (m : List ℕ) (count n : ℕ) (f : Frames) → f ≡ framesOf m → n ≡ counted (inForceThen m count) ids 0
+    → record { number = 0; row = f .row; unbroken = f .unbroken; components = n } ≡ knownAt m count
+unfolding knownAt
+known-then m count n f ef en = λ i. record { number = 0; row = ef i .row; unbroken = ef i .unbroken; components = en i }

@@ -1,10 +1,10 @@
 -- What the functions that put structures in force, and fields into them, rest on.
 --
 --   move-none, move-turn, move-end         the loop that moves a structure down
---   apply-deletes, apply-stays, apply-lists    what is announced of a component comes into force, by the tests
---   change-sure, change-unsure             one component at a change
+--   settled-stored, stayed-sure, stayed-unsure    what is announced of a component comes into force, or its structure stays, by the tests
+--   change-said, change-unsaid             one component at a change
 --   block-span, change-turn, change-end    the loop over all components
---   put-gathers, put-clears, put-deletes   a structure with a field taken in, by the tests
+--   put-gathers, put-absent, put-deletes   a structure with a field taken in, by the tests
 --   structure-given                        the part of the map that is lent for it
 --
 -- Assumes nothing.
@@ -24,13 +24,14 @@ use Rattle.slot.specs.Part.{part, put}
 use Rattle.slot.proofs.Laws.{part-length, part-cons, part-cat, put-length, part-put, getD-put-after, put-next, sets-put}
 use Rattle.field.specs.Field.{deletes, panning}
 use Rattle.field.specs.declared.Field.{Field}
-use Rattle.structure.specs.Structure.{structureSize, headOf, withHead, gathered, spoiled, deletion, settledHead}
+use Rattle.structure.specs.Structure.{structureSize, headOf, withHead, markedHead, gathered, spoiled, absence, deletion, said, settledHead}
 use Rattle.structure.proofs.Kept.{spoiled-length}
-use Rattle.map.specs.Map.{ids, mapSize, blockSize, blockAt, withBlock, structureAt, withStructure, movedDown, spoiledFirst, applied, changed, eachFrom, spoiledBoth}
+use Rattle.map.specs.Map.{ids, mapSize, blockSize, blockAt, withBlock, structureAt, withStructure, stayed, settled, forced, changed, eachFrom, spoiledBoth}
 use Rattle.map.specs.Calls.{putIn, takenIn}
 use Rattle.structure.specs.declared.Structure.{Structure}
 use Rattle.map.proofs.Places.{block-length, with-block-length}
 use Rattle.map.proofs.Looking.{structure-lent}
+use Rattle.map.proofs.Changing.{stayed-length, settled-length}
 
 -- ---- a structure moved down: the first k bytes are those of the announced one
 
@@ -54,66 +55,81 @@ module _ (k : ℕ) (d b : List ℕ) (l : length d ≡ blockSize) (e : b ≡ put 
       ∙ ap (λ (y : List ℕ). put 0 (k + 1) (part structureSize k d ++ y) d) (sym (part-cons (structureSize + k) 0 d (omega arith)))
       ∙ ap (λ (y : List ℕ). put 0 (k + 1) y d) (sym (part-cat structureSize k 1 d))
 
-  -- what was announced is lent and comes back as 0
-  pub move-end : k ≤ structureSize → structureSize ≤ k → (t : List ℕ) → t ≡ blank (length (take 68 (drop 68 b)))
-      → (take 68 b ++ (t ++ drop 68 (drop 68 b))) ≡ movedDown d
-  unfolding movedDown part
-  move-end h q t et =
+  pub move-end : k ≤ structureSize → structureSize ≤ k → b ≡ put 0 structureSize (part structureSize structureSize d) d
+  move-end h q =
       let z : k ≡ structureSize = omega arith in
-      let p : List ℕ = part structureSize structureSize d in
-      let lp : length p ≡ structureSize = part-length structureSize structureSize d (omega arith) in
-      let eb : b ≡ put 0 structureSize p d = e ∙ ap (λ (i : ℕ). put 0 i (part structureSize i d) d) z in
-      let lb : length b ≡ blockSize = ap length eb ∙ put-length 0 structureSize p d (omega arith) lp ∙ l in
-      let front : take 68 b ≡ p = ap (take 68) eb ∙ part-put 0 structureSize p d (omega arith) lp in
-      let back : t ≡ blank structureSize = et ∙ ap blank (part-length structureSize structureSize b (omega arith)) in
-      let end : drop 68 (drop 68 b) ≡ [] =
-      drop-drop 68 68 b ∙ ap (λ (i : ℕ). drop i b) (sym lb) ∙ drop-length b in
-      (λ i. front i ++ (back i ++ end i)) ∙ ap (λ (y : List ℕ). p ++ y) (append-nil (blank structureSize))
+      e ∙ ap (λ (i : ℕ). put 0 i (part structureSize i d) d) z
+
+-- ---- one structure at a change
+
+pub settled-stored : (sure : Bool) (c : List ℕ) (h g : Structure) (x y : List ℕ) → h ≡ headOf c → g ≡ settledHead sure h → x ≡ withHead g c → y ≡ spoiled x
+    → y ≡ settled sure c
+unfolding settled
+settled-stored sure c h g x y eh eg ex ey =
+    ey ∙ ap spoiled (ex ∙ ap (λ (z : Structure). withHead z c) (eg ∙ ap (settledHead sure) eh))
+
+module _ (sure : Bool) (f : List ℕ) (h g : Structure) (x : List ℕ) (eh : h ≡ headOf f) (eg : g ≡ markedHead 0 0 h) (ex : x ≡ withHead g f) where
+  unmarked : x ≡ withHead (markedHead 0 0 (headOf f)) f
+  unmarked = ex ∙ ap (λ (z : Structure). withHead z f) (eg ∙ ap (markedHead 0 0) eh)
+
+  pub stayed-sure : sure ≡ true → x ≡ stayed sure f
+  unfolding stayed
+  stayed-sure q = unmarked ∙ sym (ap (λ (b : Bool). cond b (withHead (markedHead 0 0 (headOf f)) f) (spoiled (withHead (markedHead 0 0 (headOf f)) f))) q)
+
+  pub stayed-unsure : sure ≡ false → (y : List ℕ) → y ≡ spoiled x → y ≡ stayed sure f
+  unfolding stayed
+  stayed-unsure q y ey =
+      ey ∙ ap spoiled unmarked
+      ∙ sym (ap (λ (b : Bool). cond b (withHead (markedHead 0 0 (headOf f)) f) (spoiled (withHead (markedHead 0 0 (headOf f)) f))) q)
 
 -- ---- one component at a change
 
--- a structure's head, where the structure is lent
-head-front : (g : Structure) (m : List ℕ) → structureSize ≤ length m → (withHead g (take 68 m) ++ drop 68 m) ≡ withHead g m
-unfolding withHead put
-head-front g m h =
-    ap (λ (x : List ℕ). (g .fields ∷ g .whole ∷ g .links ∷ g .deleted ∷ []) ++ x)
-    (sym (drop-append-le 4 (take 68 m) (drop 68 m) (omega (arith, length-take-le 68 m h))) ∙ ap (drop 4) (take-append-drop 68 m))
+-- what is in force is lent and comes back changed; what was announced is lent and comes back as 0
+module _ (sure : Bool) (b : List ℕ) (l : length b ≡ blockSize) where
+  abbrev force : List ℕ
+  force = part 0 structureSize b
 
-module _ (sure : Bool) (b : List ℕ) (h : Structure) (e : h ≡ headOf (part structureSize structureSize b)) where
-  apply-tests : (d f : Bool) → eqb (h .deleted) 1 ≡ d → eqb (h .fields) 0 ≡ f
-      → applied sure b ≡ cond d (blank blockSize) (cond f b (withHead (settledHead sure h) (movedDown b)))
-  unfolding applied
-  apply-tests d f ed ef =
-      ap (λ (x : Structure). cond (eqb (x .deleted) 1) (blank blockSize)
-      (cond (eqb (x .fields) 0) b (withHead (settledHead sure x) (movedDown b)))) (sym e)
-      ∙ (λ i. cond (ed i) (blank blockSize) (cond (ef i) b (withHead (settledHead sure h) (movedDown b))))
+  abbrev coming : List ℕ
+  coming = part structureSize structureSize b
 
-  pub apply-deletes : h .deleted ≡ 1 → length b ≡ blockSize → (x : List ℕ) → x ≡ blank (length b) → x ≡ applied sure b
-  apply-deletes d l x ex = ex ∙ ap blank l ∙ sym (apply-tests true _ (eq-eqb (h .deleted) 1 d) refl)
+  by-said : (t : Bool) → said (headOf coming) ≡ t → (cond t (settled sure coming) (stayed sure force) ++ blank structureSize) ≡ changed sure b
+  unfolding changed forced
+  by-said t q = ap (λ (x : Bool). cond x (settled sure coming) (stayed sure force) ++ blank structureSize) (sym q)
 
-  module _ (d : h .deleted ≡ 1 → ⊥) where
-    pub apply-stays : h .fields ≡ 0 → b ≡ applied sure b
-    apply-stays f = sym (apply-tests false true (ne-eqb (h .deleted) 1 d) (eq-eqb (h .fields) 0 f))
+  -- the two halves
+  halves : (x y t z : List ℕ) → length x ≡ structureSize → y ≡ (x ++ drop structureSize t) → length t ≡ blockSize → z ≡ blank (length (take structureSize (drop structureSize y)))
+      → (take structureSize y ++ (z ++ drop structureSize (drop structureSize y))) ≡ (x ++ blank structureSize)
+  halves x y t z lx ey lt ez =
+      let far : length (drop structureSize t) ≡ structureSize = omega (arith, length-drop structureSize t) in
+      let back : drop structureSize y ≡ drop structureSize t = ap (drop structureSize) ey ∙ drop-at x (drop structureSize t) structureSize lx in
+      let end : drop structureSize (drop structureSize y) ≡ [] =
+      ap (drop structureSize) back ∙ ap (λ (n : ℕ). drop n (drop structureSize t)) (sym far) ∙ drop-length (drop structureSize t) in
+      let size : length (take structureSize (drop structureSize y)) ≡ structureSize =
+      ap length (ap (take structureSize) back ∙ take-all structureSize (drop structureSize t) (omega (arith, far))) ∙ far in
+      (λ i. (ap (take structureSize) ey ∙ take-at x (drop structureSize t) structureSize lx) i ++ ((ez ∙ ap blank size) i ++ end i))
+      ∙ ap (λ (v : List ℕ). x ++ v) (append-nil (blank structureSize))
 
-    -- the structure in force is lent and comes back with its head
-    pub apply-lists : (h .fields ≡ 0 → ⊥) → length b ≡ blockSize → (m t : List ℕ) (g : Structure) → m ≡ movedDown b → length m ≡ length b
-        → g ≡ settledHead sure h → t ≡ withHead g (take 68 m) → (t ++ drop 68 m) ≡ applied sure b
-    apply-lists f l m t g em lm eg et =
-        ap (λ (x : List ℕ). x ++ drop 68 m) et ∙ head-front g m (omega arith)
-        ∙ ap₂ withHead eg em ∙ sym (apply-tests false false (ne-eqb (h .deleted) 1 d) (ne-eqb (h .fields) 0 f))
+  module _ (h : Structure) (eh : h ≡ headOf coming) (s : Bool) (es : s ≡ said h) where
+    pub change-said : s ≡ true → (d x y z : List ℕ) → d ≡ put 0 structureSize coming b → x ≡ settled sure (take structureSize d) → y ≡ (x ++ drop structureSize d)
+        → z ≡ blank (length (take structureSize (drop structureSize y)))
+        → (take structureSize y ++ (z ++ drop structureSize (drop structureSize y))) ≡ changed sure b
+    unfolding part
+    change-said q d x y z ed ex ey ez =
+        let lc : length coming ≡ structureSize = part-length structureSize structureSize b (omega arith) in
+        let ld : length d ≡ blockSize = ap length ed ∙ put-length 0 structureSize coming b (omega arith) lc ∙ l in
+        let front : take structureSize d ≡ coming = ap (take structureSize) ed ∙ part-put 0 structureSize coming b (omega arith) lc in
+        let is : x ≡ settled sure coming = ex ∙ ap (settled sure) front in
+        halves x y d z (ap length is ∙ settled-length sure coming lc) ey ld ez ∙ ap (λ (v : List ℕ). v ++ blank structureSize) is
+        ∙ by-said true (sym (es ∙ ap said eh) ∙ q)
 
--- what is in force is lent, and comes back spoiled where the change is not sure
-module _ (sure : Bool) (b x : List ℕ) (e : x ≡ applied sure b) where
-  pub change-sure : sure ≡ true → x ≡ changed sure b
-  unfolding changed
-  change-sure q = e ∙ sym (ap (λ (v : Bool). cond v (applied sure b) (spoiledFirst (applied sure b))) q)
-
-  pub change-unsure : sure ≡ false → length x ≡ blockSize → (t : List ℕ) → t ≡ spoiled (take 68 x) → (t ++ drop 68 x) ≡ changed sure b
-  unfolding changed spoiledFirst part
-  change-unsure q l t et =
-      let rest : drop 68 x ≡ take 68 (drop 68 x) = sym (take-all 68 (drop 68 x) (omega (arith, length-drop 68 x))) in
-      ap₂ (λ (u v : List ℕ). u ++ v) et rest ∙ ap spoiledFirst e
-      ∙ sym (ap (λ (v : Bool). cond v (applied sure b) (spoiledFirst (applied sure b))) q)
+    pub change-unsaid : s ≡ false → (x y z : List ℕ) → x ≡ stayed sure (take structureSize b) → y ≡ (x ++ drop structureSize b)
+        → z ≡ blank (length (take structureSize (drop structureSize y)))
+        → (take structureSize y ++ (z ++ drop structureSize (drop structureSize y))) ≡ changed sure b
+    unfolding part
+    change-unsaid q x y z ex ey ez =
+        let lf : length force ≡ structureSize = part-length 0 structureSize b (omega arith) in
+        halves x y b z (ap length ex ∙ stayed-length force lf sure) ey l ez ∙ ap (λ (v : List ℕ). v ++ blank structureSize) ex
+        ∙ by-said false (sym (es ∙ ap said eh) ∙ q)
 
 -- ---- the loop over all components: those from k on are still to be changed
 
@@ -157,33 +173,33 @@ each-end f k m t h e =
 -- ---- a missed frame
 
 -- the two structures of a block, spoiled one after the other
-pub both-spoiled : (b x y : List ℕ) → length b ≡ blockSize → x ≡ spoiled (take 68 b)
-    → y ≡ spoiled (take 68 (drop 68 (x ++ drop 68 b))) → (take 68 (x ++ drop 68 b) ++ (y ++ drop 68 (drop 68 (x ++ drop 68 b)))) ≡ spoiledBoth b
+pub both-spoiled : (b x y : List ℕ) → length b ≡ blockSize → x ≡ spoiled (take 71 b)
+    → y ≡ spoiled (take 71 (drop 71 (x ++ drop 71 b))) → (take 71 (x ++ drop 71 b) ++ (y ++ drop 71 (drop 71 (x ++ drop 71 b)))) ≡ spoiledBoth b
 unfolding spoiledBoth part
 both-spoiled b x y l ex ey =
-    let lx : length x ≡ structureSize = ap length ex ∙ spoiled-length (take 68 b) (part-length 0 68 b (omega arith)) in
-    let back : drop 68 (x ++ drop 68 b) ≡ drop 68 b = drop-at x (drop 68 b) 68 lx in
-    let far : length (drop 68 b) ≡ 68 = omega (arith, length-drop 68 b) in
-    let rest : drop 68 (drop 68 b) ≡ [] = ap (λ (n : ℕ). drop n (drop 68 b)) (sym far) ∙ drop-length (drop 68 b) in
-    ap₂ (λ (u v : List ℕ). u ++ v) (take-at x (drop 68 b) 68 lx ∙ ex)
-    (ap₂ (λ (u v : List ℕ). u ++ v) (ey ∙ ap (λ (z : List ℕ). spoiled (take 68 z)) back) (ap (drop 68) back ∙ rest) ∙ append-nil _)
+    let lx : length x ≡ structureSize = ap length ex ∙ spoiled-length (take 71 b) (part-length 0 71 b (omega arith)) in
+    let back : drop 71 (x ++ drop 71 b) ≡ drop 71 b = drop-at x (drop 71 b) 71 lx in
+    let far : length (drop 71 b) ≡ 71 = omega (arith, length-drop 71 b) in
+    let rest : drop 71 (drop 71 b) ≡ [] = ap (λ (n : ℕ). drop n (drop 71 b)) (sym far) ∙ drop-length (drop 71 b) in
+    ap₂ (λ (u v : List ℕ). u ++ v) (take-at x (drop 71 b) 71 lx ∙ ex)
+    (ap₂ (λ (u v : List ℕ). u ++ v) (ey ∙ ap (λ (z : List ℕ). spoiled (take 71 z)) back) (ap (drop 71) back ∙ rest) ∙ append-nil _)
 
 -- ---- a field into its structure
 
 module _ (r : Field) (s : List ℕ) (q : Bool) (e : q ≡ deletes (r .tdms)) where
   put-tests : (d f : Bool) → q ≡ d → eqb (r .flag) 0 ≡ f
-      → putIn r s ≡ cond d (cond f (blank structureSize) deletion) (gathered s (r .tdms) (r .links))
+      → putIn r s ≡ cond d (cond f absence deletion) (gathered s (r .tdms) (r .links))
   unfolding putIn
   put-tests d f ed ef =
-      ap (λ (x : Bool). cond x (cond (eqb (r .flag) 0) (blank structureSize) deletion) (gathered s (r .tdms) (r .links))) (sym e ∙ ed)
-      ∙ ap (λ (x : Bool). cond d (cond x (blank structureSize) deletion) (gathered s (r .tdms) (r .links))) ef
+      ap (λ (x : Bool). cond x (cond (eqb (r .flag) 0) absence deletion) (gathered s (r .tdms) (r .links))) (sym e ∙ ed)
+      ∙ ap (λ (x : Bool). cond d (cond x absence deletion) (gathered s (r .tdms) (r .links))) ef
 
   pub put-gathers : q ≡ false → gathered s (r .tdms) (r .links) ≡ putIn r s
   put-gathers d = sym (put-tests false _ d refl)
 
   module _ (d : q ≡ true) where
-    pub put-clears : r .flag ≡ 0 → length s ≡ structureSize → blank (length s) ≡ putIn r s
-    put-clears f l = ap blank l ∙ sym (put-tests true true d (eq-eqb (r .flag) 0 f))
+    pub put-absent : r .flag ≡ 0 → absence ≡ putIn r s
+    put-absent f = sym (put-tests true true d (eq-eqb (r .flag) 0 f))
 
     pub put-deletes : (r .flag ≡ 0 → ⊥) → deletion ≡ putIn r s
     put-deletes f = sym (put-tests true false d (ne-eqb (r .flag) 0 f))

@@ -16,7 +16,7 @@ use lib.ListN.{length, getD}
 use Rattle.slot.specs.Part.{part, put}
 use Rattle.slot.proofs.Laws.{part-length, part-part, put-length, part-put, part-put-before, part-put-after, getD-put-in, getD-put-after}
 use Rattle.structure.specs.Structure.{structureSize}
-use Rattle.map.specs.Map.{ids, mapSize, blockSize, framesAt, framesOf, withFrames, blockAt, withBlock, structureAt, withStructure}
+use Rattle.map.specs.Map.{ids, mapSize, blockSize, framesAt, framesOf, framesBytes, withFrames, blockAt, withBlock, structureAt, withStructure}
 use Rattle.frames.specs.declared.Frames.{Frames}
 
 module _ (m : List ℕ) (l : length m ≡ mapSize) where
@@ -58,29 +58,35 @@ module _ (m : List ℕ) (l : length m ≡ mapSize) where
     frames-kept =
         let kept : (i : ℕ) → framesAt ≤ i → getD (put (k * blockSize + w * structureSize) structureSize s m) i 0 ≡ getD m i 0 =
         λ i h. getD-put-after (k * blockSize + w * structureSize) structureSize s m i (omega arith) ls (omega arith) in
-        λ i. record { last = kept 34816 (omega arith) i; heard = kept 34817 (omega arith) i; unbroken = kept 34818 (omega arith) i }
+        λ i. record {
+          last = kept 36352 (omega arith) i;
+          heard = kept 36353 (omega arith) i;
+          unbroken = kept 36354 (omega arith) i;
+          row = kept 36355 (omega arith) i;
+        }
 
   -- ---- the frames replaced
 
   module _ (h : Frames) where
     pub with-frames-length : length (withFrames h m) ≡ mapSize
     unfolding withFrames
-    with-frames-length = put-length framesAt 3 (h .last ∷ h .heard ∷ h .unbroken ∷ []) m (omega arith) refl ∙ l
+    with-frames-length = put-length framesAt 4 (framesBytes h) m (omega arith) refl ∙ l
 
     pub structures-kept : (j v : ℕ) → j < ids → v < 2 → structureAt j v (withFrames h m) ≡ structureAt j v m
     unfolding structureAt withFrames
     structures-kept j v hj hv =
-        part-put-before framesAt 3 (h .last ∷ h .heard ∷ h .unbroken ∷ []) m (j * blockSize + v * structureSize) structureSize (omega arith)
+        part-put-before framesAt 4 (framesBytes h) m (j * blockSize + v * structureSize) structureSize (omega arith)
         (omega arith)
 
     pub frames-stored : framesOf (withFrames h m) ≡ h
     unfolding framesOf withFrames
     frames-stored =
-        let b : List ℕ = h .last ∷ h .heard ∷ h .unbroken ∷ [] in
+        let b : List ℕ = framesBytes h in
         λ i. record {
-          last = getD-put-in framesAt 3 b m 0 (omega arith) refl (lit< tt) i;
-          heard = getD-put-in framesAt 3 b m 1 (omega arith) refl (lit< tt) i;
-          unbroken = getD-put-in framesAt 3 b m 2 (omega arith) refl (lit< tt) i;
+          last = getD-put-in framesAt 4 b m 0 (omega arith) refl (lit< tt) i;
+          heard = getD-put-in framesAt 4 b m 1 (omega arith) refl (lit< tt) i;
+          unbroken = getD-put-in framesAt 4 b m 2 (omega arith) refl (lit< tt) i;
+          row = getD-put-in framesAt 4 b m 3 (omega arith) refl (lit< tt) i;
         }
 
   -- ---- a component's block
@@ -116,4 +122,9 @@ module _ (m : List ℕ) (l : length m ≡ mapSize) where
     block-frames =
         let kept : (i : ℕ) → framesAt ≤ i → getD (put (k * blockSize) blockSize b m) i 0 ≡ getD m i 0 =
         λ i h. getD-put-after (k * blockSize) blockSize b m i (omega arith) lb (omega arith) in
-        λ i. record { last = kept 34816 (omega arith) i; heard = kept 34817 (omega arith) i; unbroken = kept 34818 (omega arith) i }
+        λ i. record {
+          last = kept 36352 (omega arith) i;
+          heard = kept 36353 (omega arith) i;
+          unbroken = kept 36354 (omega arith) i;
+          row = kept 36355 (omega arith) i;
+        }

@@ -21,8 +21,8 @@ use Rattle.map.specs.Map.{ids, mapSize, blockSize, framesOf, withFrames,
 use Rattle.structure.specs.declared.Structure.{Structure}
 use Rattle.frames.specs.declared.Frames.{Frames}
 use Rattle.map.specs.declared.Shown.{Shown}
-use Rattle.map.specs.declared.Heard.{Heard}
-use Rattle.map.specs.declared.Known.{Known}
+use Rattle.map.specs.declared.Gathered.{Gathered}
+use Rattle.map.specs.declared.Reach.{Reach}
 
 -- ---- start
 
@@ -147,7 +147,7 @@ listAfter m count out = done (listAnswer m out) (marks ids 0 m count) out
 unfoldable pub heardLen : Structure → List ℕ → ℕ
 heardLen h s = cond (eqb (nth 0 s) allOnes) 0 (8 * stored h)
 
-unfoldable pub heardAt : List ℕ → ℕ → ℕ → Heard
+unfoldable pub heardAt : List ℕ → ℕ → ℕ → Gathered
 heardAt m id count =
     let which = thenWhich m id count in
     let h = thenHead m id count in
@@ -159,11 +159,11 @@ heardAt m id count =
       whole = h .whole;
     }
 
-unfoldable pub heardBy : ℕ → Heard → Heard
+unfoldable pub heardBy : ℕ → Gathered → Gathered
 heardBy zero found = found
 heardBy (suc number) found = record { number = suc number; at = 0; len = 0; whole = 0 }
 
-unfoldable pub heard : List ℕ → ℕ → ℕ → Heard
+unfoldable pub heard : List ℕ → ℕ → ℕ → Gathered
 heard m id count = heardBy (showAnswer m) (heardAt m id count)
 
 -- ---- how far what was heard reaches
@@ -172,7 +172,7 @@ heard m id count = heardBy (showAnswer m) (heardAt m id count)
 unfoldable pub inForceThen : List ℕ → ℕ → ℕ → Bool
 inForceThen m count k = ltb 0 (thenHead m k count .fields)
 
-unfoldable pub knownAt : List ℕ → ℕ → Known
+unfoldable pub knownAt : List ℕ → ℕ → Reach
 knownAt m count = record {
   number = 0;
   row = framesOf m .row;
@@ -180,9 +180,9 @@ knownAt m count = record {
   components = counted (inForceThen m count) ids 0;
 }
 
-unfoldable pub knownBy : ℕ → Known → Known
+unfoldable pub knownBy : ℕ → Reach → Reach
 knownBy zero found = found
 knownBy (suc number) found = record { number = suc number; row = 0; unbroken = 0; components = 0 }
 
-unfoldable pub known : List ℕ → ℕ → Known
+unfoldable pub known : List ℕ → ℕ → Reach
 known m count = knownBy (showAnswer m) (knownAt m count)

@@ -8,7 +8,7 @@
 --   36,355          how many frames were heard in a row since the start or the last missed one, up to 255
 --
 --   inForce, announced      a component's structures
---   applied, changed        a component at a change
+--   forced, changed         a component at a change
 --   spoiledBoth b   a component's structures, where a frame was missed
 --   eachFrom        every component by such a rule
 --   good m          the condition of a good map
@@ -22,7 +22,7 @@ use Rattle.bits.specs.Bits.{blank}
 use Rattle.bits.specs.Search.{all}
 use Rattle.slot.specs.Part.{part, put}
 use Rattle.frames.specs.Counts.{goodFrames}
-use Rattle.structure.specs.Structure.{structureSize, headOf, withHead, markedHead, spoiled, goodHead, certainly, settledHead}
+use Rattle.structure.specs.Structure.{structureSize, headOf, withHead, markedHead, spoiled, goodHead, said, certainly, settledHead}
 use Rattle.structure.specs.declared.Structure.{Structure}
 use Rattle.frames.specs.declared.Frames.{Frames}
 
@@ -83,25 +83,23 @@ good m = goodFrames (framesOf m) && all (goodAt m) ids 0
 
 -- ---- a change
 
--- the announced structure's bytes in the place of those in force, and 0 in their own
-unfoldable pub movedDown : List ℕ → List ℕ
-movedDown b = part structureSize structureSize b ++ blank structureSize
+-- nothing was announced: the structure stays, and nothing was heard of it in the configuration that begins. A change that is not sure may
+-- have cut its repetition off.
+unfoldable pub stayed : Bool → List ℕ → List ℕ
+stayed sure f = let u = withHead (markedHead 0 0 (headOf f)) f in cond sure u (spoiled u)
 
--- the structure in force, where a change may have cut its repetition off
-unfoldable pub spoiledFirst : List ℕ → List ℕ
-spoiledFirst b = spoiled (part 0 structureSize b) ++ part structureSize structureSize b
+-- what was announced comes into force with its marks; what is not whole is begun anew
+unfoldable pub settled : Bool → List ℕ → List ℕ
+settled sure c = spoiled (withHead (settledHead sure (headOf c)) c)
 
--- what the announced structure leaves, if anything is announced of the component; whatever comes into force and is not whole is begun anew
-unfoldable pub applied : Bool → List ℕ → List ℕ
-applied sure b =
-    let h = headOf (part structureSize structureSize b) in
-    cond (eqb (h .deleted) 1) (withHead (settledHead sure h) (blank blockSize))
-    (cond (eqb (h .fields) 0) (withHead (markedHead 0 0 (headOf b)) b)
-    (spoiledFirst (withHead (settledHead sure h) (movedDown b))))
+-- what is in force behind a change, of a structure in force and an announced one
+unfoldable pub forced : Bool → List ℕ → List ℕ → List ℕ
+forced sure f c = cond (said (headOf c)) (settled sure c) (stayed sure f)
 
--- a change that is not sure spoils what is in force and not whole
+-- a change leaves nothing announced
 unfoldable pub changed : Bool → List ℕ → List ℕ
-changed sure b = cond sure (applied sure b) (spoiledFirst (applied sure b))
+changed sure b =
+    forced sure (part 0 structureSize b) (part structureSize structureSize b) ++ blank structureSize
 
 -- n components from k on
 unfoldable pub eachFrom : ℕ → ℕ → (List ℕ → List ℕ) → List ℕ → List ℕ

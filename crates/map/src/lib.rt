@@ -5,9 +5,9 @@
 ghost use mathlib.Core.Path.{_≡_};
 ghost use Prim.Native.Nat.{_<_};
 ghost use lib.ListN.{length};
-ghost use Rattle.map.specs.Map.{framesOf, withFrames, movedDown, applied, changed, eachFrom, changedFrom, spoiledBoth};
+ghost use Rattle.slot.specs.Part.{part, put};
+ghost use Rattle.map.specs.Map.{framesOf, withFrames, stayed, settled, changed, eachFrom, changedFrom, spoiledBoth};
 ghost use Rattle.map.specs.Calls.{startAnswer, startAfter, putIn, takenIn, takeAnswer, takeAfter, shown, listAnswer, listAfter, heard, known};
-ghost use Rattle.structure.specs.Structure.{headOf, withHead, markedHead};
 use field::Field;
 use field::Tdms;
 use frames::Frames;
@@ -43,7 +43,7 @@ pub struct Shown {
 }
 
 // What was heard of a component: its fields so far, and whether they are known to be all.
-pub struct Heard {
+pub struct Gathered {
     pub number: u8,
     pub at: usize,
     pub len: usize,
@@ -52,7 +52,7 @@ pub struct Heard {
 
 // How far what was heard reaches: frames in a row, whether every frame of the running configuration was heard, and how many components
 // are in force.
-pub struct Known {
+pub struct Reach {
     pub number: u8,
     pub row: u8,
     pub unbroken: u8,
@@ -134,43 +134,40 @@ fn change(map: &mut [u8], sure: bool)
     }
 }
 
-// One component at a change. Where it is not sure it may have cut a repetition off: what is in force and not whole is begun anew.
+// One component at a change.
 fn change_one(block: &mut [u8], sure: bool)
     requires { ⌜ length (now block) ≡ 142 ⌝ }
     ensures { λ _. ⌜ now (block .exit) ≡ changed sure (now (block .entry)) ⌝ }
 {
-    apply(block, sure);
-    if !sure {
-        structure::spoil(&mut block[0..Structure::SIZE]);
-    }
-}
-
-// What is announced of a component comes into force.
-fn apply(block: &mut [u8], sure: bool)
-    requires { ⌜ length (now block) ≡ 142 ⌝ }
-    ensures { λ _. ⌜ now (block .exit) ≡ applied sure (now (block .entry)) ⌝ }
-{
     let coming = Structure::load(&block[Structure::SIZE..Map::BLOCK]);
-    if coming.deleted == 1 {
-        room::clear(block);
-        coming.settled(sure).store(&mut block[0..Structure::SIZE]);
-        return;
+    if coming.said() {
+        copy_down(block);
+        settle(&mut block[0..Structure::SIZE], sure);
+        room::clear(&mut block[Structure::SIZE..Map::BLOCK]);
+    } else {
+        stay(&mut block[0..Structure::SIZE], sure);
+        room::clear(&mut block[Structure::SIZE..Map::BLOCK]);
     }
-    if coming.fields == 0 {
-        unmark(&mut block[0..Structure::SIZE]);
-        return;
-    }
-    move_down(block);
-    coming.settled(sure).store(&mut block[0..Structure::SIZE]);
-    structure::spoil(&mut block[0..Structure::SIZE]);
 }
 
-// A configuration has begun, and nothing was heard of the component in it.
-fn unmark(s: &mut [u8])
+// What was announced comes into force; what is not whole is begun anew.
+fn settle(s: &mut [u8], sure: bool)
     requires { ⌜ length (now s) ≡ 71 ⌝ }
-    ensures { λ _. ⌜ now (s .exit) ≡ withHead (markedHead 0 0 (headOf (now (s .entry)))) (now (s .entry)) ⌝ }
+    ensures { λ _. ⌜ now (s .exit) ≡ settled sure (now (s .entry)) ⌝ }
+{
+    Structure::load(s).settled(sure).store(s);
+    structure::spoil(s);
+}
+
+// Nothing was announced. A change that is not sure may have cut a repetition off.
+fn stay(s: &mut [u8], sure: bool)
+    requires { ⌜ length (now s) ≡ 71 ⌝ }
+    ensures { λ _. ⌜ now (s .exit) ≡ stayed sure (now (s .entry)) ⌝ }
 {
     Structure::load(s).marked(0, 0).store(s);
+    if !sure {
+        structure::spoil(s);
+    }
 }
 
 // A frame was missed: nothing that is being gathered is taken for the whole.
@@ -194,17 +191,16 @@ fn spoil_one(block: &mut [u8])
     structure::spoil(&mut block[Structure::SIZE..Map::BLOCK]);
 }
 
-// The announced structure's bytes take the place of those in force, and leave 0.
-fn move_down(block: &mut [u8])
+// The announced structure's bytes take the place of those in force.
+fn copy_down(block: &mut [u8])
     requires { ⌜ length (now block) ≡ 142 ⌝ }
-    ensures { λ _. ⌜ now (block .exit) ≡ movedDown (now (block .entry)) ⌝ }
+    ensures { λ _. ⌜ now (block .exit) ≡ put 0 71 (part 71 71 (now (block .entry))) (now (block .entry)) ⌝ }
 {
     let mut k: usize = 0;
     while k < Structure::SIZE {
         block[k] = block[Structure::SIZE + k];
         k += 1;
     }
-    room::clear(&mut block[Structure::SIZE..Map::BLOCK]);
 }
 
 // A field into its structure.
@@ -270,12 +266,12 @@ pub fn list(map: &[u8], count: u8, out: &mut [u8]) -> u8
 }
 
 // 20, 34. What was heard of a component that is in force in the frame with a count, whole or not.
-pub fn heard(map: &[u8], id: u8, count: u8) -> Heard
+pub fn heard(map: &[u8], id: u8, count: u8) -> Gathered
     ensures { λ r. ⌜ r ≡ heard (now (map .entry)) id count ⌝ }
 {
     let refused = look::checked(map);
     if refused != 0 {
-        return Heard {
+        return Gathered {
             number: refused,
             at: 0,
             len: 0,
@@ -286,12 +282,12 @@ pub fn heard(map: &[u8], id: u8, count: u8) -> Heard
 }
 
 // 20, 34. How far what was heard reaches, and how many components are in force in the frame with a count.
-pub fn known(map: &[u8], count: u8) -> Known
+pub fn known(map: &[u8], count: u8) -> Reach
     ensures { λ r. ⌜ r ≡ known (now (map .entry)) count ⌝ }
 {
     let refused = look::checked(map);
     if refused != 0 {
-        return Known {
+        return Reach {
             number: refused,
             row: 0,
             unbroken: 0,

@@ -5,9 +5,9 @@ ghost use lib.ListN.{length};
 ghost use Rattle.map.specs.Map.{structureAt, goodAt, good, present, components};
 ghost use Rattle.structure.specs.Structure.{headOf};
 ghost use Rattle.map.specs.Calls.{tooMany, takeAnswer, thenWhich, thenHead, unknown, foundOf, shownAt, showAnswer, markOf, heardLen, heardAt, knownAt};
-use crate::Heard;
-use crate::Known;
+use crate::Gathered;
 use crate::Map;
+use crate::Reach;
 use crate::Shown;
 use field::Field;
 use field::Tdms;
@@ -234,7 +234,7 @@ fn heard_len(map: &[u8], id: usize, which: usize, head: Structure) -> usize
 }
 
 // What was heard of a component, in the frame with a count.
-pub fn heard_at(map: &[u8], id: usize, count: u8) -> Heard
+pub fn heard_at(map: &[u8], id: usize, count: u8) -> Gathered
     requires { ⌜ length (now map) ≡ 36356 ⌝ }
     requires { ⌜ id < 256 ⌝ }
     ensures { λ r. ⌜ r ≡ heardAt (now (map .entry)) id count ⌝ }
@@ -246,7 +246,7 @@ pub fn heard_at(map: &[u8], id: usize, count: u8) -> Heard
     } else {
         id * Map::BLOCK + then.which * Structure::SIZE + Structure::FIELDS
     };
-    Heard {
+    Gathered {
         number: 0,
         at,
         len,
@@ -255,7 +255,7 @@ pub fn heard_at(map: &[u8], id: usize, count: u8) -> Heard
 }
 
 // How far what was heard reaches, and how many components are in force in the frame with a count.
-pub fn known_at(map: &[u8], count: u8) -> Known
+pub fn known_at(map: &[u8], count: u8) -> Reach
     requires { ⌜ length (now map) ≡ 36356 ⌝ }
     ensures { λ r. ⌜ r ≡ knownAt (now (map .entry)) count ⌝ }
 {
@@ -268,7 +268,7 @@ pub fn known_at(map: &[u8], count: u8) -> Known
         id += 1;
     }
     let frames = crate::frames_of(map);
-    Known {
+    Reach {
         number: 0,
         row: frames.row,
         unbroken: frames.unbroken,

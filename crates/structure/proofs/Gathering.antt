@@ -142,6 +142,17 @@ alike-empty s x a e = record {
   links = omega (arith, a .links, e .links);
 }
 
+pub alike-also : (s x y : List ℕ) → Alike s x → Alike x y → Alike s y
+alike-also s x y a b = record {
+  size = λ l. b .size (a .size l);
+  fields = b .fields ∙ a .fields;
+  whole = b .whole ∙ a .whole;
+  links = b .links ∙ a .links;
+  deleted = b .deleted ∙ a .deleted;
+  late = b .late ∙ a .late;
+  each = λ i. b .each i ∙ a .each i;
+}
+
 pub marked-alike : (s : List ℕ) → length s ≡ structureSize → (last certain : ℕ) → Alike s (withHead (markedHead last certain (headOf s)) s)
 unfolding markedHead
 marked-alike s ls last certain =

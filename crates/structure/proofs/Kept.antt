@@ -98,23 +98,43 @@ unfolding settledHead complete
 settled-good sure h g = (bounds-good (settledHead sure h) (go (good-bounds h g) sure (complete h) refl), refl)
   where
     go : Bounds h → (u c : Bool) → complete h ≡ c → Bounds (record {
-          fields = h .fields;
-          whole = cond (u && c) 1 (h .whole);
-          links = h .links;
-          deleted = 0;
-          late = h .late;
-          last = 0;
-          certain = cond u (h .certain) 0;
-        })
+      fields = h .fields;
+      whole = cond (u && c) 1 (h .whole);
+      links = h .links;
+      deleted = 0;
+      late = h .late;
+      last = 0;
+      certain = cond u (h .certain) 0;
+    })
     go k true true q = record {
-      fields = k .fields; whole = lit≤ tt; links = k .links; deleted = lit≤ tt; late = k .late; certain = k .certain;
-      room = and-right (eqb (h .late) 0) _ q; none = refl;
+      fields = k .fields;
+      whole = lit≤ tt;
+      links = k .links;
+      deleted = lit≤ tt;
+      late = k .late;
+      certain = k .certain;
+      room = and-right (eqb (h .late) 0) _ q;
+      none = refl;
     }
     go k true false q = record {
-      fields = k .fields; whole = k .whole; links = k .links; deleted = lit≤ tt; late = k .late; certain = k .certain; room = k .room; none = refl;
+      fields = k .fields;
+      whole = k .whole;
+      links = k .links;
+      deleted = lit≤ tt;
+      late = k .late;
+      certain = k .certain;
+      room = k .room;
+      none = refl;
     }
     go k false c q = record {
-      fields = k .fields; whole = k .whole; links = k .links; deleted = lit≤ tt; late = k .late; certain = lit≤ tt; room = k .room; none = refl;
+      fields = k .fields;
+      whole = k .whole;
+      links = k .links;
+      deleted = lit≤ tt;
+      late = k .late;
+      certain = lit≤ tt;
+      room = k .room;
+      none = refl;
     }
 
 -- ---- one more field
@@ -132,7 +152,14 @@ one-good : (late certain t l : ℕ) → late ≤ 1 → certain ≤ 1 → l ≤ 1
 one-good late certain t l ht hc hl =
     ap goodHead (beginning-head late certain t l)
     ∙ bounds-good _ (record {
-      fields = lit≤ tt; whole = lit≤ tt; links = hl; deleted = lit≤ tt; late = ht; certain = hc; room = refl; none = refl;
+      fields = lit≤ tt;
+      whole = lit≤ tt;
+      links = hl;
+      deleted = lit≤ tt;
+      late = ht;
+      certain = hc;
+      room = refl;
+      none = refl;
     })
 
 one-deleted : (late certain t l : ℕ) → headOf (beginning late certain t l) .deleted ≡ 0
@@ -175,7 +202,14 @@ module _ (s : List ℕ) (t l : ℕ) (ls : length s ≡ structureSize) where
   unfolding gatheringHead
   gathering-good n hn g hl =
       bounds-good (gatheringHead n l (headOf s)) (record {
-        fields = hn; whole = lit≤ tt; links = hl; deleted = lit≤ tt; late = good-bounds (headOf s) g .late; certain = lit≤ tt; room = refl; none = refl;
+        fields = hn;
+        whole = lit≤ tt;
+        links = hl;
+        deleted = lit≤ tt;
+        late = good-bounds (headOf s) g .late;
+        certain = lit≤ tt;
+        room = refl;
+        none = refl;
       })
 
   completed-good : (ltb 0 (headOf s .fields) && leb (headOf s .fields) most) ≡ true → l ≤ 1 → goodHead (completedHead l (headOf s)) ≡ true
@@ -183,7 +217,14 @@ module _ (s : List ℕ) (t l : ℕ) (ls : length s ≡ structureSize) where
   completed-good r hl =
       let n : headOf s .fields ≤ most = leb-true (headOf s .fields) most (and-right (ltb 0 (headOf s .fields)) _ r) in
       bounds-good (completedHead l (headOf s)) (record {
-        fields = omega arith; whole = lit≤ tt; links = hl; deleted = lit≤ tt; late = lit≤ tt; certain = lit≤ tt; room = r; none = refl;
+        fields = omega arith;
+        whole = lit≤ tt;
+        links = hl;
+        deleted = lit≤ tt;
+        late = lit≤ tt;
+        certain = lit≤ tt;
+        room = r;
+        none = refl;
       })
 
   kept : Kept s l (gathered s t l)
@@ -359,7 +400,14 @@ module _ (d : ℕ) where
   none-good h =
       ap goodHead none-head
       ∙ bounds-good (noneHead d) (record {
-        fields = lit≤ tt; whole = lit≤ tt; links = lit≤ tt; deleted = h; late = lit≤ tt; certain = lit≤ tt; room = refl; none = either-none (eqb d 0);
+        fields = lit≤ tt;
+        whole = lit≤ tt;
+        links = lit≤ tt;
+        deleted = h;
+        late = lit≤ tt;
+        certain = lit≤ tt;
+        room = refl;
+        none = either-none (eqb d 0);
       })
     where
       either-none : (b : Bool) → (b || true) ≡ true

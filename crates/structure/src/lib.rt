@@ -71,7 +71,8 @@ impl Structure {
         ensures { λ r. ⌜ r ≡ goodHead self ⌝ }
     {
         let marks = (self.whole <= 1)
-            & ((self.links <= 1) & ((self.deleted <= 1) & ((self.late <= 1) & (self.certain <= 1))));
+            & ((self.links <= 1)
+                & ((self.deleted <= 1) & ((self.late <= 1) & (self.certain <= 1))));
         let bounds = (self.fields <= Self::MOST + 1) & marks;
         let whole = (self.whole == 0) | ((0 < self.fields) & (self.fields <= Self::MOST));
         bounds & (whole & ((self.deleted == 0) | (self.fields == 0)))
@@ -283,8 +284,7 @@ fn begin(s: &mut [u8], late: u8, certain: u8, tdms: u64, links: u8)
         late,
         last: 0,
         certain,
-    }
-    .store(s);
+    }.store(s);
     put_nth(s, 0, tdms);
 }
 

@@ -48,7 +48,7 @@ loop-again c =
     let turn = c .before .before .before .before in
     let now = turn .before .loop in
     let sure = c .before .before .before .before .before .before .before .args .sure in
-    let after = each-turn (changed sure) (λ b lb. changed-length b lb sure) (now .id) (now .map) (now .inv .0) (turn .loop-test .taken) _ (c .before .before .change-one .ensures) in
+    let after = each-turn (changed sure) (changed-length sure) (now .id) (now .map) (now .inv .0) (turn .loop-test .taken) _ (c .before .before .change-one .ensures) in
     (after .0, after .1 ∙ now .inv .1)
 
 same-length : tie.Need-same-length Inv-loop μ-loop

@@ -20,6 +20,12 @@ add-t7 c = search needs
 shared-slice-read-t9 : tie.Need-shared-slice-read-t9
 shared-slice-read-t9 c = search needs
 
+add-t10 : tie.Need-add-t10
+add-t10 c = search needs
+
+shared-slice-read-t12 : tie.Need-shared-slice-read-t12
+shared-slice-read-t12 c = search needs
+
 returns : tie.Need-returns
 unfolding framesOf
 returns c = refl
@@ -27,4 +33,12 @@ returns c = refl
 pub frames-of-spec : {M : Type 1} → statement M
 frames-of-spec =
     tie.close
-    (tie.spec shared-slice-read-t3 add-t4 shared-slice-read-t6 add-t7 shared-slice-read-t9 returns)
+    (tie.spec
+    shared-slice-read-t3
+    add-t4
+    shared-slice-read-t6
+    add-t7
+    shared-slice-read-t9
+    add-t10
+    shared-slice-read-t12
+    returns)

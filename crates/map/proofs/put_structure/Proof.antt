@@ -1,7 +1,7 @@
 -- `map::put_structure` meets its contract. Assumes nothing.
 use mathlib.Core.Path.{_∙_}
 use borrow.Author.Tests.{not-true, not-false}
-use Rattle.map.proofs.Moving.{put-gathers, put-clears, put-deletes}
+use Rattle.map.proofs.Moving.{put-gathers, put-absent, put-deletes}
 use borrow.Author.Needs.{needs}
 use Rattle.map.proofs.put_structure.Statement.{statement}
 use Rattle.map.proofs.put_structure.Tie as tie
@@ -12,8 +12,8 @@ deletes-requires c κs = search needs
 gather-requires : tie.Need-gather-requires
 gather-requires c κs = search needs
 
-clear-requires : tie.Need-clear-requires
-clear-requires c κs = search needs
+absent-requires : tie.Need-absent-requires
+absent-requires c κs = search needs
 
 delete-requires : tie.Need-delete-requires
 delete-requires c κs = search needs
@@ -23,31 +23,21 @@ same-length c = search needs
 
 returns : tie.Need-returns
 returns c =
-    let test = c .before .before .before .before in
-    let start = test .before .before .before in
-    c .before .before .gather .ensures ∙ put-gathers (start .args .field) (start .args .s .now) _ (test .before .deletes .ensures) (not-true _ (test .if1 .taken))
+    (c .before .before) .gather .ensures ∙ put-gathers ((c .before .before .before .before .before .before .before) .args .field) ((c .before .before .before .before .before .before .before) .args .s .now) _ ((c .before .before .before .before .before) .deletes .ensures) (not-true _ ((c .before .before .before .before) .if1 .taken))
 
 same-length-2 : tie.Need-same-length-2
 same-length-2 c = search needs
 
 returns-2 : tie.Need-returns-2
 returns-2 c =
-    let flag = c .before .before .before .before in
-    let test = flag .before .before in
-    let start = test .before .before .before in
-    c .before .before .clear .ensures
-    ∙ put-clears (start .args .field) (start .args .s .now) _ (test .before .deletes .ensures) (not-false _ (test .if1 .left)) (flag .if2 .taken) (start .pre)
+    (c .before .before) .absent .ensures ∙ put-absent ((c .before .before .before .before .before .before .before .before .before) .args .field) ((c .before .before .before .before .before .before .before .before .before) .args .s .now) _ ((c .before .before .before .before .before .before .before) .deletes .ensures) (not-false _ ((c .before .before .before .before .before .before) .if1 .left)) ((c .before .before .before .before) .if2 .taken)
 
 same-length-3 : tie.Need-same-length-3
 same-length-3 c = search needs
 
 returns-3 : tie.Need-returns-3
 returns-3 c =
-    let flag = c .before .before .before .before in
-    let test = flag .before .before in
-    let start = test .before .before .before in
-    c .before .before .delete .ensures
-    ∙ put-deletes (start .args .field) (start .args .s .now) _ (test .before .deletes .ensures) (not-false _ (test .if1 .left)) (flag .if2 .left)
+    (c .before .before) .delete .ensures ∙ put-deletes ((c .before .before .before .before .before .before .before .before .before) .args .field) ((c .before .before .before .before .before .before .before .before .before) .args .s .now) _ ((c .before .before .before .before .before .before .before) .deletes .ensures) (not-false _ ((c .before .before .before .before .before .before) .if1 .left)) ((c .before .before .before .before) .if2 .left)
 
 pub put-structure-spec : {M : Type 1} → statement M
 put-structure-spec =
@@ -55,7 +45,7 @@ put-structure-spec =
     (tie.spec
     deletes-requires
     gather-requires
-    clear-requires
+    absent-requires
     delete-requires
     same-length
     returns

@@ -8,7 +8,7 @@ mod values;
 
 pub use field::{Field, FIELD, PANNING};
 pub use structure::{Component, Structure, COMPONENT, STRUCTURE};
-pub use values::{Map, Shown, IDS, MAP};
+pub use values::{Heard, Map, Shown, IDS, MAP};
 
 use crate::numbers::{done, refuse_unless, DONE, LENGTH, TOO_LARGE, UNFINISHED};
 
@@ -35,16 +35,24 @@ fn taken(map: &[u8], field: &[u8]) -> Result<Vec<u8>, u8> {
     Ok(map.encode())
 }
 
-/// (number, place, length, announced, frames): the part of the map that holds a component's fields in the frame of a
-/// count, whether something is announced of it, and in how many frames that comes.
-pub fn show(map: &[u8], id: u8, count: u8) -> (u8, usize, usize, u8, u8) {
+/// (number, place, length, announced, frames, unknown): the part of the map that holds a component's fields in the frame
+/// of a count, whether something is announced of it, in how many frames that comes, and whether nothing is known of it.
+pub fn show(map: &[u8], id: u8, count: u8) -> (u8, usize, usize, u8, u8, u8) {
     match Map::decode(map).map(|map| map.show(id, count)) {
-        Ok(it) => (it.number, it.at, it.length, it.announced.into(), it.frames),
-        Err(number) => (number, 0, 0, 0, 0),
+        Ok(it) => (
+            it.number,
+            it.at,
+            it.length,
+            it.announced.into(),
+            it.frames,
+            it.unknown.into(),
+        ),
+        Err(number) => (number, 0, 0, 0, 0, 0),
     }
 }
 
-/// For every TDMCID, what show says of it: 0 nothing, 1 its fields, 2 that they are not known to be all.
+/// For every TDMCID, what show says of it: 0 that there is none, 1 its fields, 2 that they are not known to be all, 3 that
+/// nothing is known of it.
 pub fn list(map: &[u8], count: u8, out: &mut [u8]) -> u8 {
     done(listed(map, count, out.len()).map(|bytes| out.copy_from_slice(&bytes)))
 }
@@ -54,9 +62,34 @@ fn listed(map: &[u8], count: u8, room: usize) -> Result<Vec<u8>, u8> {
     let map = Map::decode(map)?;
     let known = |id| match map.show(id, count) {
         shown if shown.number == UNFINISHED => 2,
-        shown => u8::from(shown.length > 0),
+        shown if shown.length > 0 => 1,
+        shown if shown.unknown => 3,
+        _ => 0,
     };
     Ok((0..=u8::MAX).map(known).collect())
+}
+
+/// (number, place, length, whole): the part of the map that holds the fields that were heard of a component, for the frame
+/// of a count, and whether they are known to be all.
+pub fn heard(map: &[u8], id: u8, count: u8) -> (u8, usize, usize, u8) {
+    match Map::decode(map).map(|map| map.heard_of(id, count)) {
+        Ok(it) => (DONE, it.at, it.length, it.whole.into()),
+        Err(number) => (number, 0, 0, 0),
+    }
+}
+
+/// (number, row, unbroken, components): how many frames were heard in a row, whether every one of the running
+/// configuration was, and how many components are in force in the frame of a count.
+pub fn known(map: &[u8], count: u8) -> (u8, u8, u8, usize) {
+    match Map::decode(map) {
+        Ok(map) => (
+            DONE,
+            map.row,
+            map.unbroken.into(),
+            map.components_then(count),
+        ),
+        Err(number) => (number, 0, 0, 0),
+    }
 }
 
 /// (number, count, flag, id, tdms, links)

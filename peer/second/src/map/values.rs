@@ -6,13 +6,16 @@ use crate::numbers::{refuse_unless, DONE, LENGTH, NOT_GOOD, TOO_MANY, UNFINISHED
 
 /// Components that a map has room for, one for each TDMCID, and its bytes.
 pub const IDS: usize = 256;
-pub const MAP: usize = IDS * COMPONENT + 3;
+pub const MAP: usize = IDS * COMPONENT + 4;
 
 /// What is announced comes into force with the frame that has this count, modulo so many.
 const CHANGE: u8 = 2;
 const CYCLE: i32 = 128;
 /// So many components a multiplex has at most.
 const MOST: usize = 128;
+/// Behind so many frames in a row, a component of which nothing came is held to be absent. The standard bounds no repetition; this is a
+/// rule of the house.
+const ENOUGH: u8 = 255;
 
 #[derive(Clone, Debug, PartialEq, Eq)]
 pub struct Map {
@@ -20,11 +23,13 @@ pub struct Map {
     /// The count of the frame whose field was taken in last; `heard` says whether there was one.
     pub last: u8,
     pub heard: bool,
-    /// Whether every frame of the running configuration was heard.
+    /// Whether every frame of the running configuration was heard, and the one before it too unless it was started behind that.
     pub unbroken: bool,
+    /// How many frames were heard in a row, up to 255.
+    pub row: u8,
 }
 
-/// What a map shows of a component: a number, a part of the map, and what is to come.
+/// What a map shows of a component: a number, a part of the map, what is to come, and whether nothing is known of it.
 #[derive(Clone, Copy, Debug, PartialEq, Eq)]
 pub struct Shown {
     pub number: u8,
@@ -33,13 +38,24 @@ pub struct Shown {
     pub announced: bool,
     /// In how many frames behind the last one the change comes, if something is announced.
     pub frames: u8,
+    /// There are no fields, and not enough was heard to hold that there is no such component.
+    pub unknown: bool,
+}
+
+/// The part of a map in which the fields stand that were heard of a component, and whether they are known to be all.
+#[derive(Clone, Copy, Debug, PartialEq, Eq)]
+pub struct Heard {
+    pub at: usize,
+    pub length: usize,
+    pub whole: bool,
 }
 
 impl Map {
     /// The map that some bytes stand for; 20 and 34 are refused here, for every call.
     pub fn decode(bytes: &[u8]) -> Result<Map, u8> {
         refuse_unless(bytes.len() == MAP, LENGTH)?;
-        let (components, &[last, heard, unbroken]) = bytes.split_last_chunk().ok_or(LENGTH)?;
+        let (components, &[last, heard, unbroken, row]) =
+            bytes.split_last_chunk().ok_or(LENGTH)?;
         let components: Option<_> = components
             .chunks(COMPONENT)
             .map(Component::decode)
@@ -49,6 +65,7 @@ impl Map {
             last,
             heard: mark(heard).ok_or(NOT_GOOD)?,
             unbroken: mark(unbroken).ok_or(NOT_GOOD)?,
+            row,
         })
     }
 
@@ -57,7 +74,7 @@ impl Map {
         for component in &self.components {
             component.encode(&mut bytes);
         }
-        bytes.extend([self.last, self.heard.into(), self.unbroken.into()]);
+        bytes.extend([self.last, self.heard.into(), self.unbroken.into(), self.row]);
         bytes
     }
 
@@ -82,25 +99,29 @@ impl Map {
             last: count,
             heard: true,
             unbroken: !skips && (self.unbroken || begins(count)),
+            row: if skips { 1 } else { self.row.saturating_add(1) },
             ..self.clone()
         };
         if skips {
             next.components.iter_mut().for_each(Component::spoil);
         }
         if self.changing(count) {
-            for component in &mut next.components {
-                *component = component.behind_change(all_heard);
-            }
+            let components = next.components.iter_mut();
+            components.for_each(|component| component.change(all_heard));
         }
         next
     }
 
     /// The set that a field is about is looked at alone: components that go and others that come may be announced in
-    /// any order.
+    /// any order. Of those in force only what is certain counts. Others may have been deleted unheard.
     fn refuse_one_too_many(&self, field: &Field) -> Result<(), u8> {
+        let in_set = |component: &Component| match field.flag {
+            true => component.announced.has_list(),
+            false => component.in_force.is_certainly_there(),
+        };
         let set: Vec<u8> = (0..=u8::MAX)
             .zip(&self.components)
-            .filter(|(_, component)| structure(component, field.flag).has_list())
+            .filter(|(_, component)| in_set(component))
             .map(|(id, _)| id)
             .collect();
         let joins = !field.is_panning() && !field.is_deletion() && !set.contains(&field.id);
@@ -114,7 +135,7 @@ impl Map {
         }
         let component = &mut self.components[usize::from(field.id)];
         match (field.is_deletion(), field.flag) {
-            (true, false) => component.in_force = Structure::default(),
+            (true, false) => component.in_force = Structure::absence(),
             (true, true) => component.announced = Structure::deletion(),
             (false, false) => component.in_force.take(field.tdms, field.links),
             (false, true) => component.announced.take(field.tdms, field.links),
@@ -123,30 +144,56 @@ impl Map {
 
     /// What is in force in the frame of a count, as far as is known.
     pub fn show(&self, id: u8, count: u8) -> Shown {
-        let place = COMPONENT * usize::from(id) + HEAD;
-        let component = &self.components[usize::from(id)];
-        let announced = component.is_announced();
-        let frames = ahead(self.last, CHANGE - 1) + 1;
-        let (structure, room) = if announced && self.changing(count) {
-            // Something more could be announced in the frames between, but for the last.
-            let all_heard = self.unbroken && frames == 1;
-            let behind = component.behind_change(all_heard);
-            (behind.in_force, place + STRUCTURE)
-        } else {
-            (component.in_force.clone(), place)
-        };
+        let (structure, place) = self.then(id, count);
         let (number, at, length) = match structure.fields {
             0 => (DONE, 0, 0),
-            fields if structure.whole => (DONE, room, 8 * usize::from(fields)),
+            fields if structure.whole => (DONE, place, 8 * usize::from(fields)),
             _ => (UNFINISHED, 0, 0),
         };
+        let announced = self.components[usize::from(id)].is_announced();
         Shown {
             number,
             at,
             length,
             announced,
-            frames: if announced { frames as u8 } else { 0 },
+            frames: if announced { self.to_change() } else { 0 },
+            unknown: !structure.has_list() && !structure.certain && self.row < ENOUGH,
         }
+    }
+
+    /// The fields that were heard of what is in force in the frame of a count, whether they are all or not.
+    pub fn heard_of(&self, id: u8, count: u8) -> Heard {
+        let (structure, place) = self.then(id, count);
+        let fields = structure.heard().len();
+        Heard {
+            at: if fields > 0 { place } else { 0 },
+            length: 8 * fields,
+            whole: structure.whole,
+        }
+    }
+
+    /// How many components are in force in the frame of a count, whole or not. More than 128 means that deletions were missed.
+    pub fn components_then(&self, count: u8) -> usize {
+        let there = |&id: &u8| self.then(id, count).0.has_list();
+        (0..=u8::MAX).filter(there).count()
+    }
+
+    /// The structure of a component that is in force in the frame of a count, and where its fields stand.
+    fn then(&self, id: u8, count: u8) -> (Structure, usize) {
+        let component = &self.components[usize::from(id)];
+        let place = COMPONENT * usize::from(id) + HEAD;
+        if !component.is_announced() || !self.changing(count) {
+            return (component.in_force.clone(), place);
+        }
+        // Something more could be announced in the frames between, but for the last.
+        let all_heard = self.unbroken && self.to_change() == 1;
+        let structure = component.announced.behind_change(all_heard);
+        (structure, place + STRUCTURE)
+    }
+
+    /// In how many frames behind the last one the next change comes.
+    fn to_change(&self) -> u8 {
+        ahead(self.last, CHANGE - 1) as u8 + 1
     }
 
     /// Whether a change falls behind the last frame, up to the frame of a count: one of these frames begins a configuration.
@@ -171,15 +218,6 @@ impl Map {
             return 0;
         }
         1 + ahead(self.last.wrapping_add(1), count) as u8
-    }
-}
-
-/// Which of a component's structures a field with this flag is about.
-fn structure(component: &Component, flag: bool) -> &Structure {
-    if flag {
-        &component.announced
-    } else {
-        &component.in_force
     }
 }
 

@@ -1,49 +1,70 @@
 //! Lawful broadcasts of the multiplex's description: frames without end, one field in each. The broadcaster knows what
 //! is in force and what it has announced. It knows nothing of the map that a listener keeps.
+//!
+//! The fields of a component go round in order, those in force and those announced each by themselves. A repetition is sent
+//! whole, over a change too where the component stays as it is. An announcement begins with the first field, and all ones
+//! come before it where a component is deleted and made anew by the same change.
 
-use super::structures::{altered, list, DELETION};
+use super::speaker::{Speaker, Switches};
+use super::structures::{self, altered};
+use super::style::{Order, Style};
 use crate::map::{self, FIELD, PANNING};
 use crate::xorshift::Xorshift;
 use std::collections::{BTreeMap, BTreeSet};
+use std::rc::Rc;
 
 /// The TDMS numbers of each component that there is, rising in (FLN1, FCP).
 pub type Configuration = BTreeMap<u8, Vec<u64>>;
-
-/// Components of a configuration at most, unless it is said otherwise.
-const COMPONENTS: usize = 20;
 
 /// A frame, and what is true in it.
 pub struct Frame {
     pub count: u8,
     pub field: [u8; FIELD],
+    pub sent: Sent,
+    /// Whether a configuration begins with it.
+    pub first: bool,
     /// What is in force in this frame, in the one behind it, and from the next change on.
-    pub present: Configuration,
-    pub following: Configuration,
-    pub next: Configuration,
+    pub present: Rc<Configuration>,
+    pub following: Rc<Configuration>,
+    pub next: Rc<Configuration>,
     /// The components of which something was announced since the last change.
     pub announced: BTreeSet<u8>,
     /// In how many frames the next change comes.
     pub to_change: u8,
 }
 
+/// What the field of a frame is.
+#[derive(Clone, Copy, Debug, PartialEq, Eq)]
+pub enum Sent {
+    /// The so-and-so-many-th field, counted from 0, of a component's structure: the announced one, or the one in force.
+    New(u8, usize),
+    Old(u8, usize),
+    /// All ones of a component, with the flag and without.
+    Going(u8),
+    Gone(u8),
+    Panning,
+}
+
 pub struct Broadcast {
     random: Xorshift,
-    /// Components of a configuration at most.
-    most: usize,
+    style: Style,
     /// The count of the frame that comes next.
     count: u8,
-    present: Configuration,
-    /// How far the fields of each component in force have come round; without it they come in any order.
-    rounds: Option<BTreeMap<u8, Speaker>>,
-    next: Configuration,
-    announced: BTreeSet<u8>,
+    present: Rc<Configuration>,
+    next: Rc<Configuration>,
+    /// How far the fields of each component in force have come round, and those of each announcement.
+    rounds: BTreeMap<u8, Speaker>,
     speakers: Vec<Speaker>,
+    switches: Switches,
+    announced: BTreeSet<u8>,
+    /// The component in force that was spoken of last.
+    last: u8,
     /// Whose turn it is in each frame up to the change, the next one last.
     turns: Vec<Turn>,
 }
 
 /// Of what a frame's field is.
-#[derive(Clone, Copy)]
+#[derive(Clone, Copy, PartialEq, Eq)]
 enum Turn {
     /// An announcement, by the place of its speaker.
     Announced(usize),
@@ -57,26 +78,27 @@ enum Turn {
 impl Broadcast {
     /// A broadcast whose first frame has this count, and in which there is nothing yet.
     pub fn new(seed: u64, count: u8) -> Broadcast {
-        Broadcast {
-            random: Xorshift::new(seed),
-            most: COMPONENTS,
-            count,
-            present: Configuration::new(),
-            rounds: None,
-            next: Configuration::new(),
-            announced: BTreeSet::new(),
-            speakers: Vec::new(),
-            turns: Vec::new(),
-        }
+        Broadcast::with(seed, count, Style::default())
     }
 
-    /// One with so many components at most, in which the fields of a component in force go round in order: a repetition is sent whole,
-    /// over a change too where the component stays as it is.
-    pub fn in_turn(seed: u64, count: u8, most: usize) -> Broadcast {
+    pub fn with(seed: u64, count: u8, style: Style) -> Broadcast {
+        let mut random = Xorshift::new(seed);
+        let mut next = Configuration::new();
+        while style.full && next.len() < style.most {
+            next.insert(anybody(&mut random), style.list(&mut random));
+        }
         Broadcast {
-            most,
-            rounds: Some(BTreeMap::new()),
-            ..Broadcast::new(seed, count)
+            random,
+            style,
+            count,
+            present: Rc::default(),
+            next: Rc::new(next),
+            rounds: BTreeMap::new(),
+            speakers: Vec::new(),
+            switches: Switches::new(style.links),
+            announced: BTreeSet::new(),
+            last: 0,
+            turns: Vec::new(),
         }
     }
 
@@ -86,16 +108,19 @@ impl Broadcast {
             self.change();
         }
         let turn = self.turns.pop().unwrap_or(Turn::Panning);
-        let (count, field) = (self.count, self.field(turn));
+        let count = self.count;
+        let (sent, field) = self.field(turn);
         self.count = count.wrapping_add(1);
         let last = self.turns.is_empty();
         let following = if last { &self.next } else { &self.present };
         Frame {
             count,
             field,
-            present: self.present.clone(),
-            following: following.clone(),
-            next: self.next.clone(),
+            sent,
+            first: count % 128 == 2,
+            present: Rc::clone(&self.present),
+            following: Rc::clone(following),
+            next: Rc::clone(&self.next),
             announced: self.announced.clone(),
             to_change: self.turns.len() as u8 + 1,
         }
@@ -103,64 +128,78 @@ impl Broadcast {
 
     /// Puts in force what was announced, and thinks of what comes next.
     fn change(&mut self) {
-        self.present = self.next.clone();
-        if let Some(rounds) = &mut self.rounds {
-            rounds.retain(|id, speaker| self.present.get(id) == Some(&speaker.list));
-        }
+        self.present = Rc::clone(&self.next);
+        let present = Rc::clone(&self.present);
+        self.rounds
+            .retain(|id, speaker| present.get(id) == Some(&speaker.list));
         self.announced.clear();
         self.speakers.clear();
         let frames = to_change(self.count);
         let mut left = frames;
         for _ in 0..self.attempts() {
-            if let Some(speaker) = self.speaker().filter(|speaker| speaker.list.len() <= left) {
-                left -= speaker.list.len();
+            if let Some(speaker) = self.speaker().filter(|speaker| speaker.needs() <= left) {
+                left -= speaker.needs();
                 self.plan(speaker);
             }
         }
-        let busy = self.random.chance();
-        while self.turns.len() < frames {
-            let turn = self.other_turn(busy);
-            self.turns.push(turn);
-        }
-        shuffle(&mut self.random, &mut self.turns);
+        self.fill(frames);
     }
 
     /// How many announcements to think of. Often there are none, and what is in force stays so.
     fn attempts(&mut self) -> usize {
         match self.random.below(3) {
             0 => 0,
-            _ => self.random.below(self.most + 1),
+            _ => self.random.below(self.style.most + 1),
         }
     }
 
-    /// An announcement for a component that has none yet: it comes, changes, goes, or stays as it is.
+    /// An announcement for a component that has none yet: it comes, changes, goes, stays as it is, or is made anew.
     fn speaker(&mut self) -> Option<Speaker> {
         let random = &mut self.random;
         let id = match random.below(3) {
             0 => any_id(random),
-            _ => choose(random, &self.present).map_or(0, |(id, _)| id),
+            _ => choose(random, &self.present).unwrap_or(0),
         };
         let taken = self.speakers.iter().any(|speaker| speaker.id == id);
-        let list = match (self.present.get(&id), random.below(6)) {
-            (_, 0) => vec![DELETION],
-            (Some(list), 1) => list.clone(),
-            (Some(list), 2 | 3) => altered(random, list),
-            (None, _) if self.next.len() >= self.most => return None,
-            _ => list(random),
+        let (ones, list) = match (self.present.get(&id), random.below(7)) {
+            (_, 0) => (1, vec![]),
+            (None, _) if self.next.len() >= self.style.most => return None,
+            (Some(list), 1) => (random.below(2), list.clone()),
+            (Some(list), 2 | 3) if !self.style.few => (0, altered(random, list)),
+            (_, 4) => (1 + random.below(2), self.style.list(random)),
+            _ => (0, self.style.list(random)),
         };
-        (!taken).then(|| Speaker::new(random, id, list))
+        (!taken).then(|| Speaker::new(id, ones, list))
     }
 
-    /// Takes an announcement up, with a turn for each of its fields.
+    /// Takes an announcement up, with a turn for all that it has to say.
     fn plan(&mut self, speaker: Speaker) {
-        if speaker.list == [DELETION] {
-            self.next.remove(&speaker.id);
+        let next = Rc::make_mut(&mut self.next);
+        if speaker.list.is_empty() {
+            next.remove(&speaker.id);
         } else {
-            self.next.insert(speaker.id, speaker.list.clone());
+            next.insert(speaker.id, speaker.list.clone());
         }
         let turn = Turn::Announced(self.speakers.len());
-        self.turns.extend(speaker.list.iter().map(|_| turn));
+        self.turns.extend(vec![turn; speaker.needs()]);
         self.speakers.push(speaker);
+    }
+
+    /// Gives the other frames up to the change to somebody, and puts all in an order.
+    fn fill(&mut self, frames: usize) {
+        let busy = self.random.chance();
+        while self.turns.len() < frames {
+            let turn = self.other_turn(busy);
+            self.turns.push(turn);
+        }
+        shuffle(&mut self.random, &mut self.turns);
+        let announces = |turn: &Turn| matches!(turn, Turn::Announced(_));
+        // The last turn of the row comes first.
+        match self.style.order {
+            Order::Mixed => {}
+            Order::NewFirst => self.turns.sort_by_key(announces),
+            Order::NewLast => self.turns.sort_by_key(|turn| !announces(turn)),
+        }
     }
 
     /// A turn beyond those that have to be. If it is busy, most are announcements over again.
@@ -177,73 +216,77 @@ impl Broadcast {
         }
     }
 
-    fn field(&mut self, turn: Turn) -> [u8; FIELD] {
-        let random = &mut self.random;
-        let any_links = random.below(2) as u8;
-        let (flag, id, tdms, links) = match turn {
-            Turn::Announced(place) => {
-                let speaker = &mut self.speakers[place];
-                self.announced.insert(speaker.id);
-                let (tdms, links) = speaker.speak(random);
-                (1, speaker.id, tdms, links)
-            }
-            Turn::Present => match choose(random, &self.present) {
-                Some((id, list)) => {
-                    let (tdms, links) = match &mut self.rounds {
-                        Some(rounds) => rounds
-                            .entry(id)
-                            .or_insert_with(|| Speaker::new(random, id, list.to_vec()))
-                            .speak(random),
-                        None => (list[random.below(list.len())], any_links),
-                    };
-                    (0, id, tdms, links)
-                }
-                None => panning(random),
-            },
-            Turn::Absent => match any_id(random) {
-                id if self.present.contains_key(&id) => panning(random),
-                id => (0, id, DELETION, any_links),
-            },
-            Turn::Panning => panning(random),
+    /// What is sent in a turn, and the bytes of it.
+    fn field(&mut self, turn: Turn) -> (Sent, [u8; FIELD]) {
+        let (sent, tdms, links) = match turn {
+            Turn::Announced(place) => self.announce(place),
+            Turn::Present => self.describe(),
+            Turn::Absent => self.deny(),
+            Turn::Panning => self.pan(),
+        };
+        let (flag, id) = match sent {
+            Sent::New(id, _) | Sent::Going(id) => (1, id),
+            Sent::Old(id, _) | Sent::Gone(id) => (0, id),
+            Sent::Panning => (self.random.below(2) as u8, PANNING),
         };
         let mut field = [0; FIELD];
         let number = map::write(self.count, flag, id, tdms, links, &mut field);
         assert_eq!(number, 0, "a lawful field");
-        field
+        (sent, field)
     }
-}
 
-/// A component's fields, announced or in force, sent over and over.
-struct Speaker {
-    id: u8,
-    list: Vec<u64>,
-    /// How many of its fields were sent.
-    sent: usize,
-    /// LINKS of this repetition, and whether it is another in the next.
-    links: bool,
-    alternates: bool,
-}
-
-impl Speaker {
-    fn new(random: &mut Xorshift, id: u8, list: Vec<u64>) -> Speaker {
-        Speaker {
-            id,
-            list,
-            sent: 0,
-            links: random.chance(),
-            alternates: random.chance(),
+    /// The next field of an announcement.
+    fn announce(&mut self, place: usize) -> (Sent, u64, u8) {
+        let speaker = &mut self.speakers[place];
+        let id = speaker.id;
+        self.announced.insert(id);
+        match speaker.speak(&mut self.random, &mut self.switches) {
+            Some((place, tdms, links)) => (Sent::New(id, place), tdms, links),
+            None => self.ones(Sent::Going(id)),
         }
     }
 
-    /// The next field's TDMS and LINKS.
-    fn speak(&mut self, random: &mut Xorshift) -> (u64, u8) {
-        let place = self.sent % self.list.len();
-        if place == 0 {
-            // A broadcaster that alternates may forget to.
-            self.links ^= self.alternates && random.below(8) != 0;
+    /// The next field of a component in force.
+    fn describe(&mut self) -> (Sent, u64, u8) {
+        let next = self.present.keys().find(|&&id| id > self.last);
+        let id = match self.style.cyclic {
+            true => next.or(self.present.keys().next()).copied(),
+            false => choose(&mut self.random, &self.present),
+        };
+        let Some(id) = id else { return self.pan() };
+        self.last = id;
+        let list = &self.present[&id];
+        let random = &mut self.random;
+        let begins = if self.style.middle { random.below(list.len()) } else { 0 };
+        let speaker = self
+            .rounds
+            .entry(id)
+            .or_insert_with(|| Speaker::from(id, list.clone(), begins));
+        match speaker.speak(random, &mut self.switches) {
+            Some((place, tdms, links)) => (Sent::Old(id, place), tdms, links),
+            None => self.pan(),
         }
-        self.sent += 1;
-        (self.list[place], self.links.into())
+    }
+
+    /// All ones of a component that there is not.
+    fn deny(&mut self) -> (Sent, u64, u8) {
+        match any_id(&mut self.random) {
+            id if self.present.contains_key(&id) => self.pan(),
+            id => self.ones(Sent::Gone(id)),
+        }
+    }
+
+    /// The lines decide. Annex C prints another number for the clock periods.
+    fn ones(&mut self, sent: Sent) -> (Sent, u64, u8) {
+        let clock = [[2047, 2047], [1023, 1023], [3, 5]][self.random.below(3)];
+        let tdms = map::pack([1023, 1023, 1023, 1023, clock[0], clock[1]]).1;
+        (sent, tdms, self.random.below(2) as u8)
+    }
+
+    /// Any bits at all.
+    fn pan(&mut self) -> (Sent, u64, u8) {
+        let tdms = self.random.next() & structures::DELETION;
+        (Sent::Panning, tdms, self.random.below(2) as u8)
     }
 }
 
@@ -258,20 +301,17 @@ fn to_change(count: u8) -> usize {
 fn any_id(random: &mut Xorshift) -> u8 {
     match random.below(2) {
         0 => random.below(24) as u8,
-        _ => (usize::from(PANNING) + 1 + random.below(255)) as u8,
+        _ => anybody(random),
     }
 }
 
-fn choose<'a>(random: &mut Xorshift, from: &'a Configuration) -> Option<(u8, &'a [u64])> {
-    let place = random.below(from.len().max(1));
-    let (&id, list) = from.iter().nth(place)?;
-    Some((id, list))
+fn anybody(random: &mut Xorshift) -> u8 {
+    (usize::from(PANNING) + 1 + random.below(255)) as u8
 }
 
-/// Any bits at all.
-fn panning(random: &mut Xorshift) -> (u8, u8, u64, u8) {
-    let (flag, links) = (random.below(2) as u8, random.below(2) as u8);
-    (flag, PANNING, random.next() & DELETION, links)
+fn choose(random: &mut Xorshift, from: &Configuration) -> Option<u8> {
+    let place = random.below(from.len().max(1));
+    from.keys().nth(place).copied()
 }
 
 fn shuffle<T>(random: &mut Xorshift, row: &mut [T]) {

@@ -8,36 +8,48 @@ use crate::xorshift::Xorshift;
 const WHOLE: usize = 1;
 const LINKS: usize = 2;
 const DELETED: usize = 3;
-const HEAD: usize = 4;
-/// Where the marks of a map stand.
-const HEARD: usize = MAP - 2;
+const LATE: usize = 4;
+const LAST: usize = 5;
+const CERTAIN: usize = 6;
+const HEAD: usize = 7;
+/// Where the frames of a map stand: the last count, two marks, and how many came in a row.
+const FRAMES: usize = MAP - 4;
+const HEARD: usize = FRAMES + 1;
+const UNBROKEN: usize = FRAMES + 2;
+const ROW: usize = FRAMES + 3;
 
 /// A good map. Components are anything that they can be, and what no field was stored in holds anything too.
 pub fn good(random: &mut Xorshift) -> Vec<u8> {
     let mut map = vec![0; MAP];
     let crowd = [random.below(9), 4, 8][random.below(3)];
-    for component in map[..HEARD - 1].chunks_mut(COMPONENT) {
+    let certain = [random.below(9), 8][random.below(2)];
+    for component in map[..FRAMES].chunks_mut(COMPONENT) {
         let (in_force, announced) = component.split_at_mut(STRUCTURE);
         if random.below(8) < crowd {
-            structure(random, in_force);
+            structure(random, certain, in_force);
         }
         if random.below(8) < crowd {
-            structure(random, announced);
+            structure(random, certain, announced);
             announced[DELETED] = u8::from(announced[0] == 0 && random.chance());
         }
     }
-    map[HEARD - 1] = count(random);
+    map[FRAMES] = count(random);
     map[HEARD] = u8::from(random.below(8) != 0);
-    map[HEARD + 1] = random.below(2) as u8;
+    map[UNBROKEN] = random.below(2) as u8;
+    map[ROW] = [0, 1, 253, 254, 255, random.below(256) as u8][random.below(6)];
     map
 }
 
-/// A good structure that is not deleted.
-fn structure(random: &mut Xorshift, bytes: &mut [u8]) {
+/// A good structure that is not deleted. So many of eight are certain.
+fn structure(random: &mut Xorshift, certain: usize, bytes: &mut [u8]) {
     let fields = [0, 1, 1, 2, random.below(10), 8, 9][random.below(7)];
     bytes[0] = fields as u8;
     bytes[WHOLE] = u8::from((1..=8).contains(&fields) && random.chance());
     bytes[LINKS] = random.below(2) as u8;
+    bytes[LATE] = random.below(2) as u8;
+    bytes[CERTAIN] = u8::from(random.below(8) < certain);
+    // Of a list, any of its fields may have come last, and a byte may be anything.
+    bytes[LAST] = [0, random.below(1 + fields), random.below(256)][random.below(3)] as u8;
     let dirty = random.below(4) == 0;
     for (k, room) in bytes[HEAD..].chunks_mut(8).enumerate() {
         if k < fields || dirty {
@@ -51,6 +63,7 @@ fn stored(random: &mut Xorshift) -> u64 {
     match random.below(8) {
         0 => random.next(),
         1 => tdms(random) | 1 << (62 + random.below(2)),
+        2 => structures::DELETION,
         _ => tdms(random),
     }
 }
@@ -60,16 +73,16 @@ pub fn bad(random: &mut Xorshift) -> Vec<u8> {
     let mut map = good(random);
     let at = STRUCTURE * random.below(2 * IDS);
     let fields = map[at];
-    match random.below(8) {
+    match random.below(6) {
         0 => map[HEARD] = more_than(random, 1),
-        1 => map[HEARD + 1] = more_than(random, 1),
-        2 => map[at] = more_than(random, 9),
-        3 => map[at + WHOLE] = more_than(random, 1),
-        4 => map[at + LINKS] = more_than(random, 1),
-        5 => map[at + DELETED] = more_than(random, 1),
-        // The last two are bad by what stands beside them.
-        6 if fields == 0 || fields == 9 => map[at + WHOLE] = 1,
-        7 if fields > 0 || at % COMPONENT == 0 => map[at + DELETED] = 1,
+        1 => map[UNBROKEN] = more_than(random, 1),
+        2 => {
+            let mark = [WHOLE, LINKS, DELETED, LATE, CERTAIN][random.below(5)];
+            map[at + mark] = more_than(random, 1);
+        }
+        // These two are bad by what stands beside them.
+        3 if fields == 0 || fields == 9 => map[at + WHOLE] = 1,
+        4 if fields > 0 || at % COMPONENT == 0 => map[at + DELETED] = 1,
         _ => map[at] = more_than(random, 9),
     }
     map

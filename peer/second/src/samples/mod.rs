@@ -4,8 +4,10 @@
 pub mod broadcast;
 pub mod calls;
 pub mod maps;
+pub mod speaker;
 pub mod states;
 pub mod structures;
+pub mod style;
 
 use crate::image::{self, HEADER_AT, IMAGE, PROTECTED, TYPE_AT, USEFUL, USEFUL_AT, WORD};
 use crate::types::{DATA, TYPES};

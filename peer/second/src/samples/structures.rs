@@ -14,6 +14,21 @@ pub fn list(random: &mut Xorshift) -> Vec<u64> {
     rising((0..count).map(|_| structure(random)).collect())
 }
 
+/// Fields of a small stock, so that structures share them and come back. Some differ in what does not count for their order.
+pub fn of_stock(random: &mut Xorshift) -> Vec<u64> {
+    let count = 1 + random.below(4);
+    let mut number = |from: u32, below| from + random.below(below) as u32;
+    let rows = (0..count).map(|_| [number(0, 4), number(10, 2), 1023, 1023, 40, 50]);
+    rising(rows.collect())
+}
+
+/// More fields than a map has room for.
+pub fn long(random: &mut Xorshift) -> Vec<u64> {
+    let count = FIELDS + 1 + random.below(3);
+    let lines = 0..count as u32;
+    rising(lines.map(|line| [line, 20, 1023, 1023, 40, 50]).collect())
+}
+
 /// The same fields but for one, which goes, comes, or is another.
 pub fn altered(random: &mut Xorshift, list: &[u64]) -> Vec<u64> {
     let mut rows: Vec<[u32; 6]> = list.iter().map(|&tdms| map::unpack(tdms).1).collect();

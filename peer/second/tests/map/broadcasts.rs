@@ -88,28 +88,42 @@ fn check(map: &[u8], frame: &Frame, random: &mut Xorshift, seen: &mut Seen) {
             assert_eq!(shown.frames, frames, "{id} {count}");
             seen.announced += usize::from(announced);
         }
-        // What is shown of a change before its time is what comes.
+        // What is shown of a change before its time is what comes. All ones may still be followed by fields.
         let shown = values.show(id, 2);
-        if frame.announced.contains(&id) && shown.number == DONE && frame.count % 128 != 2 {
+        if frame.announced.contains(&id) && shown.length > 0 && frame.count % 128 != 2 {
             let list = listed(map, shown.at, shown.length);
             assert_eq!(list, fields(&frame.next, id), "{id} {}", frame.count);
             seen.early += 1;
         }
     }
-    check_list(map, frame.count, &frame.present);
-    check_list(map, behind, &frame.following);
+    let enough = values.row == 255;
+    check_list(map, frame.count, &frame.present, enough);
+    check_list(map, behind, &frame.following, enough);
     // The call says what the values say.
     let id = random.below(256) as u8;
     let it = values.show(id, behind);
-    let expected = (it.number, it.at, it.length, it.announced.into(), it.frames);
+    let expected = (
+        it.number,
+        it.at,
+        it.length,
+        it.announced.into(),
+        it.frames,
+        it.unknown.into(),
+    );
     assert_eq!(show(map, id, behind), expected);
 }
 
-fn check_list(map: &[u8], count: u8, truth: &Configuration) {
+/// Every component that there is, and no other. Of others it may be that nothing is known, until enough was heard.
+fn check_list(map: &[u8], count: u8, truth: &Configuration, enough: bool) {
     let mut out = [0xA5; 256];
     assert_eq!(list(map, count, &mut out), DONE);
     for (id, said) in (0..=255).zip(out) {
-        assert_eq!(said, u8::from(truth.contains_key(&id)), "{id} {count}");
+        let lawful: &[u8] = match (truth.contains_key(&id), enough) {
+            (true, _) => &[1],
+            (false, true) => &[0],
+            (false, false) => &[0, 3],
+        };
+        assert!(lawful.contains(&said), "{id} {count} {said}");
     }
 }
 

@@ -1,6 +1,6 @@
 //! Frames: when a change comes, how far apart two counts are, and what is missed between them.
 
-use crate::listener::{said, Listener, GONE};
+use crate::listener::{said, Listener, GONE, LAST};
 
 /// At 2 modulo 128 and at no other count. What show says of the next frame is what comes.
 #[test]
@@ -112,7 +112,7 @@ fn the_first_frame() {
         assert_eq!(listener.at(7, count), said(0, ""));
         listener.hears(1, 7, "a", 0);
         assert_eq!(listener.marks(), [1, u8::from(count % 128 == 2)]);
-        assert_eq!(listener.map[34_816], count);
+        assert_eq!(listener.map[LAST], count);
         assert_eq!(listener.now(7), said(0, ""));
         assert_eq!(listener.announced(7).0, 1);
     }
@@ -181,6 +181,9 @@ fn missed_frames_leave_it_unfinished() {
         assert_eq!(listener.now(7), open, "{missed:?}");
         assert_eq!(listener.now(8), said(0, "ab"), "{missed:?}");
         assert_eq!(listener.now(9), said(0, ""), "{missed:?}");
+        // A deletion may have been followed by a field that was missed.
+        let unknown = u8::from(missed.is_some());
+        assert_eq!(listener.unknown(9), unknown, "{missed:?}");
     }
 }
 
@@ -252,7 +255,7 @@ fn a_field_lost_in_a_repetition_is_missed() {
         let mut listener = Listener::new(100);
         listener.hears(flag, 7, "a", 0);
         // Here was "b".
-        listener.count += 1;
+        listener.miss();
         listener.hears(flag, 7, "c", 0);
         let behind = |listener: &Listener| {
             if flag == 0 {
@@ -281,7 +284,7 @@ fn a_missed_frame_leaves_what_is_whole() {
     for (letters, number, shown) in [("a", 46, ""), ("abcdefghi", 46, ""), ("aba", 0, "ab")] {
         let mut listener = Listener::new(20);
         listener.hears(0, 7, letters, 0);
-        listener.count += 1;
+        listener.miss();
         listener.idle_to(listener.count + 1);
         assert_eq!(listener.now(7), said(number, shown), "{letters}");
         // A list that was open is begun anew with the next field.

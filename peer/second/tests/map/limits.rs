@@ -11,7 +11,7 @@ fn an_announcement_that_nobody_heard() {
         listener.hears(0, 7, "a", links);
     }
     // Here "b" was announced.
-    listener.count += 1;
+    listener.miss();
     listener.idle_to(131);
     assert_eq!(listener.now(7), said(0, "a"));
     listener.hears(0, 7, "b", 0);

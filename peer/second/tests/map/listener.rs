@@ -4,6 +4,8 @@ use second::map::{self, MAP, PANNING};
 
 /// The TDMS of a deletion.
 pub const GONE: [u32; 6] = [1023, 1023, 1023, 1023, 2047, 2047];
+/// Where the last frame's count stands in a map.
+pub const LAST: usize = 36_352;
 
 pub struct Listener {
     pub map: Vec<u8>,
@@ -47,6 +49,11 @@ impl Listener {
         }
     }
 
+    /// Hears nothing in the next frame.
+    pub fn miss(&mut self) {
+        self.count = self.count.wrapping_add(1);
+    }
+
     /// What show says of a component in the last frame, and in the one behind it: a number and letters.
     pub fn now(&self, id: u8) -> (u8, String) {
         self.at(id, self.count.wrapping_sub(1))
@@ -57,24 +64,50 @@ impl Listener {
     }
 
     pub fn at(&self, id: u8, count: u8) -> (u8, String) {
-        let (number, at, length, _, _) = map::show(&self.map, id, count);
+        let (number, at, length, ..) = map::show(&self.map, id, count);
+        (number, self.letters(at, length))
+    }
+
+    /// What was heard of a component for the frame of a count: letters, and whether they are all.
+    pub fn heard(&self, id: u8, count: u8) -> (String, u8) {
+        let (number, at, length, whole) = map::heard(&self.map, id, count);
+        assert_eq!(number, 0);
+        (self.letters(at, length), whole)
+    }
+
+    /// The fields in a part of the map.
+    fn letters(&self, at: usize, length: usize) -> String {
         let letter = |bytes: &[u8]| {
             let tdms = u64::from_le_bytes(bytes.try_into().expect("eight bytes"));
             char::from(b'a' + map::unpack(tdms).1[0] as u8)
         };
         let part = &self.map[at..at + length];
-        (number, part.chunks(8).map(letter).collect())
+        part.chunks(8).map(letter).collect()
     }
 
     /// Whether something is announced of a component, and in how many frames it comes.
     pub fn announced(&self, id: u8) -> (u8, u8) {
-        let (_, _, _, announced, frames) = map::show(&self.map, id, self.count);
+        let (_, _, _, announced, frames, _) = map::show(&self.map, id, self.count);
         (announced, frames)
+    }
+
+    /// Whether nothing is known of a component in the last frame, or in that of a count.
+    pub fn unknown(&self, id: u8) -> u8 {
+        self.unknown_at(id, self.count.wrapping_sub(1))
+    }
+
+    pub fn unknown_at(&self, id: u8, count: u8) -> u8 {
+        map::show(&self.map, id, count).5
     }
 
     /// The marks of a frame that was heard, and of all of the running configuration.
     pub fn marks(&self) -> [u8; 2] {
-        [self.map[MAP - 2], self.map[MAP - 1]]
+        [self.map[LAST + 1], self.map[LAST + 2]]
+    }
+
+    /// How many components are in force in the last frame.
+    pub fn components(&self) -> usize {
+        map::known(&self.map, self.count.wrapping_sub(1)).3
     }
 }
 

@@ -16,7 +16,7 @@ fn heard(flag: u8, row: &str) -> Listener {
     listener
 }
 
-const ROWS: [(&str, u8, &str); 24] = [
+const ROWS: [(&str, u8, &str); 33] = [
     ("", 0, ""),
     ("a", 46, ""),
     ("aa", 0, "a"),
@@ -33,8 +33,18 @@ const ROWS: [(&str, u8, &str); 24] = [
     ("aBa", 46, ""),
     ("aBB", 0, "b"),
     ("aBCB", 0, "bc"),
-    // Once it is whole, its fields may come in any order, with any LINKS.
-    ("abcaCbBAca", 0, "abc"),
+    // Once it is whole, its fields come in turn, with any LINKS.
+    ("abcaBcAbC", 0, "abc"),
+    ("aaAa", 0, "a"),
+    // One that is not next begins it anew: it left one out, it came too soon, or it went back.
+    ("abcac", 46, ""),
+    ("abcaca", 46, ""),
+    ("abcacac", 46, ""),
+    ("abcacaca", 0, "ac"),
+    ("abcaa", 46, ""),
+    ("abcaaa", 0, "a"),
+    ("abcaba", 46, ""),
+    ("abcabaa", 0, "a"),
     ("abcad", 46, ""),
     ("abcadabcda", 0, "abcd"),
     // A list that was whole is forgotten with the first field that it has not.
@@ -90,7 +100,7 @@ fn the_order_of_fields() {
         for numbers in [one, other] {
             assert_eq!(listener.hear(0, 7, numbers, 0), 0);
         }
-        let fields = listener.map[136 * 7];
+        let fields = listener.map[142 * 7];
         assert_eq!(fields, if rises { 2 } else { 1 }, "{one:?} {other:?}");
     }
 }
@@ -116,40 +126,142 @@ fn nine_fields_stay_unfinished() {
         assert_eq!(heard(0, row).now(7), said(46, ""), "{row}");
     }
     let mut listener = heard(1, "abcdefghi");
-    assert_eq!(listener.map[136 * 7 + 68], 9);
+    assert_eq!(listener.map[142 * 7 + 71], 9);
     listener.idle_to(130);
     assert_eq!(listener.next(7), said(46, ""));
+    // What comes into force and is not whole is begun anew.
     listener.idle_to(131);
     assert_eq!(listener.now(7), said(46, ""));
-    assert_eq!(listener.map[136 * 7], 9);
+    assert_eq!(listener.map[142 * 7], 1);
+    assert_eq!(listener.heard(7, 130), ("".into(), 0));
     // The eighth that is stored counts for the order, not the ninth.
     let mut listener = heard(0, "abcdefghj");
     listener.hears(0, 7, "i", 0);
-    assert_eq!(listener.map[136 * 7], 9);
+    assert_eq!(listener.map[142 * 7], 9);
     listener.hears(0, 7, "h", 0);
-    assert_eq!(listener.map[136 * 7], 1);
+    assert_eq!(listener.map[142 * 7], 1);
+}
+
+/// Nine announced fields go into a second repetition before a sure change: the part of it that came is not the structure, whether it
+/// has room or not.
+#[test]
+fn nine_announced_fields_twice() {
+    for part in ["a", "ab", "abcdefgh", "abcdefghi", "A", "ABCDEFGH"] {
+        let mut listener = heard(1, &format!("abcdefghi{part}"));
+        let (small, eight) = (part.to_ascii_lowercase(), part.len().min(8));
+        assert_eq!(listener.heard(7, 2), (small[..eight].into(), 0));
+        listener.idle_to(130);
+        assert_eq!(listener.marks(), [1, 1]);
+        assert_eq!(listener.next(7), said(46, ""), "{part}");
+        listener.idle_to(131);
+        assert_eq!(listener.now(7), said(46, ""), "{part}");
+    }
+}
+
+/// An announcement that begins in the middle, with a listener who has heard everything: what came before its first field is not known to
+/// be of another structure, so its last repetition is not the whole. One that comes round is.
+#[test]
+fn announced_from_the_middle_on() {
+    for (row, number, letters) in [
+        ("bca", 46, ""),
+        ("bcab", 46, ""),
+        ("bcabc", 46, ""),
+        ("bcA", 46, ""),
+        ("bcABC", 46, ""),
+        ("bcabca", 0, "abc"),
+        ("bcABCa", 0, "abc"),
+        // Behind all ones it begins.
+        ("bc.a", 0, "a"),
+        (".abc", 0, "abc"),
+        ("abc", 0, "abc"),
+    ] {
+        let mut listener = heard(1, row);
+        listener.idle_to(130);
+        assert_eq!(listener.marks(), [1, 1]);
+        assert_eq!(listener.next(7), said(number, letters), "{row}");
+        listener.idle_to(131);
+        assert_eq!(listener.now(7), said(number, letters), "{row}");
+    }
+}
+
+/// "abc" is whole and known. Then a field or two of it went, and neither the announcement nor the change was heard. It heals with the
+/// third beginning of a repetition, and no part of either structure is shown on the way.
+#[test]
+fn a_list_that_shrank_heals() {
+    for left in ["ac", "bc", "ab", "a", "b", "c"] {
+        let mut listener = heard(0, "abca");
+        listener.count = 140;
+        let mut beginnings = 0;
+        for letter in left.repeat(4).chars() {
+            listener.hears(0, 7, &letter.to_string(), 0);
+            beginnings += usize::from(left.starts_with(letter));
+            let (number, shown) = listener.now(7);
+            let healed = (number, shown.as_str()) == (0, left);
+            let open = number == 46 || (number, shown.as_str()) == (0, "abc");
+            assert!(healed || beginnings < 3 && open, "{left} {shown}");
+        }
+    }
+    // Row by row.
+    let mut listener = heard(0, "abca");
+    listener.count = 140;
+    for (letter, expected) in [
+        ("a", said(0, "abc")),
+        ("c", said(46, "")),
+        ("a", said(46, "")),
+        ("c", said(46, "")),
+        ("a", said(0, "ac")),
+        ("c", said(0, "ac")),
+    ] {
+        listener.hears(0, 7, letter, 0);
+        assert_eq!(listener.now(7), expected);
+    }
 }
 
 /// Every byte of a list that goes on, is whole, and begins anew.
 #[test]
 fn bytes() {
-    let place = 136 * 7;
+    let place = 142 * 7;
     let mut listener = heard(0, "AB");
-    assert_eq!(listener.map[place..place + 4], [2, 0, 1, 0]);
+    assert_eq!(listener.map[place..place + 7], [2, 0, 1, 0, 0, 0, 1]);
     listener.hears(0, 7, "a", 0);
-    assert_eq!(listener.map[place..place + 4], [2, 1, 0, 0]);
+    assert_eq!(listener.map[place..place + 7], [2, 1, 0, 0, 0, 1, 1]);
     let tdms = second::map::pack(fields("b")[0]).1;
-    assert_eq!(listener.map[place + 12..place + 20], tdms.to_le_bytes());
-    // What a whole list knows already leaves every byte, LINKS too.
+    assert_eq!(listener.map[place + 15..place + 23], tdms.to_le_bytes());
+    // What a whole list knows already leaves every byte but the place of the last, LINKS too.
     listener.hears(0, 7, "b", 1);
-    assert_eq!(listener.map[place..place + 4], [2, 1, 0, 0]);
+    assert_eq!(listener.map[place..place + 7], [2, 1, 0, 0, 0, 2, 1]);
     listener.hears(0, 7, "c", 1);
-    assert_eq!(listener.map[place..place + 4], [1, 0, 1, 0]);
-    assert_eq!(listener.map[place + 12..place + 136], [0; 124]);
+    assert_eq!(listener.map[place..place + 7], [1, 0, 1, 0, 1, 0, 1]);
+    assert_eq!(listener.map[place + 15..place + 142], [0; 127]);
     assert_eq!(listener.hear(1, 7, GONE, 1), 0);
-    assert_eq!(listener.map[place + 68..place + 72], [0, 0, 0, 1]);
+    assert_eq!(listener.map[place + 71..place + 78], [0, 0, 0, 1, 0, 0, 1]);
+    // Behind a sure change it is certain that there is none, and behind the next nothing was heard of it yet.
     listener.idle_to(131);
-    assert_eq!(listener.map[place..place + 136], [0; 136]);
+    assert_eq!(listener.map[place..place + 7], [0, 0, 0, 0, 0, 0, 1]);
+    assert_eq!(listener.map[place + 7..place + 142], [0; 135]);
+    listener.idle_to(3);
+    assert_eq!(listener.map[place..place + 142], [0; 142]);
+}
+
+/// How far a list has come round is forgotten over a change and over a missed frame. Whether it is certain is forgotten over a change.
+#[test]
+fn bytes_behind_a_change() {
+    let place = 142 * 7;
+    let mut listener = heard(0, "abab");
+    assert_eq!(listener.map[place..place + 7], [2, 1, 0, 0, 0, 2, 1]);
+    listener.miss();
+    listener.idle_to(listener.count + 1);
+    assert_eq!(listener.map[place..place + 7], [2, 1, 0, 0, 0, 0, 1]);
+    listener.hears(0, 7, "b", 0);
+    assert_eq!(listener.map[place..place + 7], [2, 1, 0, 0, 0, 2, 1]);
+    listener.idle_to(131);
+    assert_eq!(listener.map[place..place + 7], [2, 1, 0, 0, 0, 0, 0]);
+    // An announced one comes into force: over a sure change it is whole and certain.
+    listener.hears(1, 7, "ac", 1);
+    assert_eq!(listener.map[place + 71..place + 78], [2, 0, 1, 0, 0, 0, 1]);
+    listener.idle_to(3);
+    assert_eq!(listener.map[place..place + 7], [2, 1, 1, 0, 0, 0, 1]);
+    assert_eq!(listener.map[place + 71..place + 142], [0; 71]);
 }
 
 /// In force and announced do not touch each other, and the panning vector touches neither.

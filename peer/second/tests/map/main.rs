@@ -3,6 +3,7 @@
 mod broadcasts;
 mod fields;
 mod frames;
+mod laws;
 mod limits;
 mod listener;
 mod lists;
@@ -10,3 +11,5 @@ mod maps;
 mod missed;
 mod parts;
 mod sets;
+mod story;
+mod unknown;

@@ -1,6 +1,7 @@
 //! What is good, byte by byte; lengths; and that every byte comes back.
 
-use second::map::{list, show, start, take, Map, MAP};
+use crate::listener::LAST;
+use second::map::{heard, known, list, show, start, take, Map, MAP};
 use second::samples::{difference, maps, rounds};
 use second::xorshift::Xorshift;
 
@@ -9,16 +10,16 @@ const FIELD: [u8; 10] = [0xFE, 0x02, 0x00, 0x70, 0xF3, 0xFF, 0xFF, 0x13, 0xD0, 0
 /// Whether every call takes a map for good, or every call refuses it with 34 and leaves all as it is.
 fn is_good(map: &[u8]) -> bool {
     let (mut after, mut out) = (map.to_vec(), [0xA5; 256]);
-    let shown = show(map, 1, 9);
-    let numbers = [take(&mut after, &FIELD), list(map, 9, &mut out), shown.0];
+    let (shown, heard, known) = (show(map, 1, 9), heard(map, 1, 9), known(map, 9));
+    let (taken, listed) = (take(&mut after, &FIELD), list(map, 9, &mut out));
+    let numbers = [taken, listed, shown.0, heard.0, known.0];
     let refused = numbers.map(|number| number == 34);
-    if refused == [true; 3] {
-        assert_eq!(
-            (&after[..], out, shown),
-            (map, [0xA5; 256], (34, 0, 0, 0, 0))
-        );
+    if refused == [true; 5] {
+        assert_eq!((&after[..], out), (map, [0xA5; 256]));
+        assert_eq!(shown, (34, 0, 0, 0, 0, 0));
+        assert_eq!((heard, known), ((34, 0, 0, 0), (34, 0, 0, 0)));
     } else {
-        assert_eq!(refused, [false; 3]);
+        assert_eq!(refused, [false; 5]);
     }
     !refused[0]
 }
@@ -32,8 +33,8 @@ fn with(at: usize, bytes: &[u8]) -> Vec<u8> {
 #[test]
 fn bounds_of_the_bytes() {
     for place in [0, 1, 0x81, 255] {
-        for at in [136 * place, 136 * place + 68] {
-            let announced = at % 136 != 0;
+        for at in [142 * place, 142 * place + 71] {
+            let announced = at % 142 != 0;
             for byte in 0..=255 {
                 let mark = byte <= 1;
                 assert_eq!(is_good(&with(at, &[byte])), byte <= 9);
@@ -43,19 +44,26 @@ fn bounds_of_the_bytes() {
                 let deleted = mark && (announced || byte == 0);
                 assert_eq!(is_good(&with(at, &[0, 0, 1, byte])), deleted);
                 assert_eq!(is_good(&with(at, &[1, 0, 0, byte])), byte == 0);
+                assert_eq!(is_good(&with(at, &[2, 0, 0, 0, byte])), mark);
+                // How far a list has come round may be anything, without a list too.
+                assert!(is_good(&with(at, &[byte % 10, 0, 0, 0, 0, byte])));
+                assert!(is_good(&with(at, &[3, 1, 0, 0, 0, byte])));
+                assert_eq!(is_good(&with(at, &[0, 0, 0, 0, 0, 0, byte])), mark);
+                assert_eq!(is_good(&with(at, &[8, 1, 1, 0, 1, 8, byte])), mark);
             }
         }
     }
     for byte in 0..=255 {
-        assert!(is_good(&with(34_816, &[byte])));
-        assert_eq!(is_good(&with(34_817, &[byte])), byte <= 1);
-        assert_eq!(is_good(&with(34_818, &[byte])), byte <= 1);
+        assert!(is_good(&with(LAST, &[byte])));
+        assert_eq!(is_good(&with(LAST + 1, &[byte])), byte <= 1);
+        assert_eq!(is_good(&with(LAST + 2, &[byte])), byte <= 1);
+        assert!(is_good(&with(LAST + 3, &[byte])));
     }
 }
 
 #[test]
 fn the_fields_are_not_tested() {
-    for at in [4, 72, 136 * 255 + 4, 136 * 255 + 72] {
+    for at in [7, 78, 142 * 255 + 7, 142 * 255 + 78] {
         assert!(is_good(&with(at, &[0xA5; 64])));
     }
 }
@@ -100,32 +108,66 @@ fn wrong_lengths() {
             assert_eq!(out, vec![0xA5; other]);
         }
         let number = if length == MAP { 34 } else { 20 };
-        assert_eq!(show(&map, 1, 9), (number, 0, 0, 0, 0));
+        assert_eq!(show(&map, 1, 9), (number, 0, 0, 0, 0, 0));
+        assert_eq!(heard(&map, 1, 9), (number, 0, 0, 0));
+        assert_eq!(known(&map, 9), (number, 0, 0, 0));
         assert_eq!(map, vec![0xA5; length]);
         let number = if length == MAP { 0 } else { 20 };
         assert_eq!(start(&mut map), number);
     }
 }
 
-/// List says of every component what show says of it, on any good map.
+/// List says of every component what show says of it, on any good map; known counts those that are there, and what was heard is what is
+/// shown where that is whole.
 #[test]
-fn list_is_what_show_says() {
+fn all_readings_say_the_same() {
     let mut random = Xorshift::new(322);
     for _ in 0..rounds(20) {
         let map = maps::good(&mut random);
-        let values = Map::decode(&map).expect("a good map");
-        for count in [0, 1, 2, 3, 130, map[34_816]] {
+        for count in [0, 1, 2, 3, 130, map[LAST]] {
             let mut out = [0xA5; 256];
             assert_eq!(list(&map, count, &mut out), 0);
             for (id, said) in (0..=255).zip(out) {
-                let shown = values.show(id, count);
-                let expected = match (shown.number, shown.length) {
-                    (46, _) => 2,
-                    (_, 0) => 0,
-                    _ => 1,
+                let shown = show(&map, id, count);
+                let expected = match shown {
+                    (46, _, _, _, _, 0) => 2,
+                    (0, 0, 0, _, _, unknown) => 3 * unknown,
+                    (0, _, _, _, _, 0) => 1,
+                    other => panic!("{other:?}"),
                 };
                 assert_eq!(said, expected);
+                let (number, at, length, whole) = heard(&map, id, count);
+                assert_eq!((number, whole == 1), (0, said == 1));
+                // A list in a map made by hand may begin with all ones and be called whole.
+                assert!(whole == 0 || length == 0 || (at, length) == (shown.1, shown.2));
             }
+            let there = out.iter().filter(|said| [1, 2].contains(*said)).count();
+            let expected = (0, map[LAST + 3], map[LAST + 2], there);
+            assert_eq!(known(&map, count), expected);
         }
     }
+}
+
+/// Where each reading looks: a whole list in force, and an announced one of three fields that is not.
+#[test]
+fn places_and_lengths() {
+    let mut map = with(142 * 9, &[2, 1, 0, 0, 0, 0, 0]);
+    map[142 * 9 + 71..142 * 9 + 78].copy_from_slice(&[3, 0, 0, 0, 1, 0, 1]);
+    map[LAST..].copy_from_slice(&[100, 1, 1, 7]);
+    let (here, there) = (142 * 9 + 7, 142 * 9 + 78);
+    assert_eq!(show(&map, 9, 101), (0, here, 16, 1, 30, 0));
+    assert_eq!(heard(&map, 9, 101), (0, here, 16, 1));
+    assert_eq!(show(&map, 9, 130), (46, 0, 0, 1, 30, 0));
+    assert_eq!(heard(&map, 9, 130), (0, there, 24, 0));
+    assert_eq!(show(&map, 8, 130), (0, 0, 0, 0, 0, 1));
+    assert_eq!(heard(&map, 8, 130), (0, 0, 0, 0));
+    assert_eq!(known(&map, 130), (0, 7, 1, 1));
+    // Nine are eight that have room.
+    map[142 * 9 + 71] = 9;
+    assert_eq!(heard(&map, 9, 130), (0, there, 64, 0));
+    // All ones first is a list that was spoiled.
+    let ones = (1_u64 << 62) - 1;
+    map[there..there + 8].copy_from_slice(&ones.to_le_bytes());
+    assert_eq!(heard(&map, 9, 130), (0, 0, 0, 0));
+    assert_eq!(known(&map, 130), (0, 7, 1, 1));
 }

@@ -10,7 +10,7 @@ fn heard(listener: &mut Listener, row: &str) {
         let next = listener.count.wrapping_add(1);
         match letter {
             '.' => listener.idle_to(next),
-            '-' => listener.count = next,
+            '-' => listener.miss(),
             _ => {
                 let flag = u8::from(letter.is_ascii_uppercase());
                 listener.hears(flag, 7, &letter.to_ascii_lowercase().to_string(), 0);
@@ -131,16 +131,49 @@ fn whatever_comes_begins_anew() {
     }
 }
 
-/// A list of which a field may be missing is one that is no field: every byte.
+/// Heard from a configuration's first frame on, all of it: an announcement of "abc" that begins with "b" and is cut off behind "a".
+#[test]
+fn announced_from_the_middle_on() {
+    for origin in [2, 130_u8] {
+        let change = origin.wrapping_add(128);
+        let mut listener = Listener::late(origin);
+        listener.idle_to(origin + 123);
+        heard(&mut listener, "BCA");
+        assert_eq!(listener.at(7, change), said(46, ""));
+        heard(&mut listener, "..");
+        assert_eq!(listener.count, change);
+        assert_eq!(listener.marks(), [1, 1]);
+        assert_eq!(listener.next(7), said(46, ""));
+        heard(&mut listener, ".");
+        assert_eq!(listener.now(7), said(46, ""));
+        heard(&mut listener, "abca");
+        assert_eq!(listener.now(7), said(0, "abc"));
+    }
+}
+
+/// A list of which a field may be missing is one that is no field: every byte. It is certain that the component is there if its fields
+/// were heard in this configuration, and not if a change that is not sure put it in force.
 #[test]
 fn bytes() {
-    let place = 136 * 7;
-    for (origin, row) in [(50, "abcdefghi-."), (50, "ab-."), (127, "ABC..")] {
+    let place = 142 * 7;
+    for (origin, row, certain) in [
+        (50, "abcdefghi-.", 1),
+        (50, "ab-.", 1),
+        (127, "ABC..", 0),
+        (127, "abc..", 0),
+    ] {
         let mut listener = Listener::late(origin);
         heard(&mut listener, row);
-        assert_eq!(listener.map[place..place + 4], [1, 0, 0, 0], "{row}");
+        let head = [1, 0, 0, 0, 1, 0, certain];
+        assert_eq!(listener.map[place..place + 7], head, "{row}");
         let ones = ((1_u64 << 62) - 1).to_le_bytes();
-        assert_eq!(listener.map[place + 4..place + 12], ones, "{row}");
-        assert_eq!(listener.map[place + 12..place + 136], [0; 124], "{row}");
+        assert_eq!(listener.map[place + 7..place + 15], ones, "{row}");
+        assert_eq!(listener.map[place + 15..place + 142], [0; 127], "{row}");
     }
+    // Announced, and a frame missed.
+    let mut listener = Listener::late(50);
+    heard(&mut listener, "AB-.");
+    let announced = &listener.map[place + 71..place + 86];
+    assert_eq!(announced[..7], [1, 0, 0, 0, 1, 0, 1]);
+    assert_eq!(announced[7..], ((1_u64 << 62) - 1).to_le_bytes());
 }

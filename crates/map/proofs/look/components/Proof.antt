@@ -11,11 +11,11 @@ use Rattle.map.proofs.look.components.Statement.{statement}
 use Rattle.map.proofs.look.components.Tie as tie
 
 abbrev Inv-loop : tie.InvT-loop
-Inv-loop map which change count₀ id₀ count id =
-    (id ≤ ids) × (count ≤ id) × (counts (present which change map) count id ≡ components which change map)
+Inv-loop map which change sure count₀ id₀ count id =
+    (id ≤ ids) × (count ≤ id) × (counts (present which change sure map) count id ≡ components which change sure map)
 
 abbrev μ-loop : tie.MeasureT-loop
-μ-loop map which change count₀ id₀ count id = ids - id
+μ-loop map which change sure count₀ id₀ count id = ids - id
 
 loop-holds : tie.Need-loop-holds Inv-loop μ-loop
 unfolding components
@@ -43,7 +43,7 @@ loop-again c =
     (λ w. w .1 ∙ sym (add-zero (l .count)) ∙ ap (λ (b : Bool). l .count + cond b 1 0) (sym (w .0 .left))) (c .if1 .came) in (
       omega arith,
       ⊎-elim (λ w. omega (arith, w .1)) (λ w. omega (arith, w .1)) (c .if1 .came),
-      count-on (present (a .which) (a .change) (a .map .now)) (l .id) (l .count) _ (c .before .before .loop-test .taken) (l .inv .2)
+      count-on (present (a .which) (a .change) (a .sure) (a .map .now)) (l .id) (l .count) _ (c .before .before .loop-test .taken) (l .inv .2)
           (p .result) (p .ensures) (c .if1 .count) more,
     )
 
@@ -51,7 +51,7 @@ returns : tie.Need-returns Inv-loop μ-loop
 returns c =
     let l = c .before .loop in
     let a = c .before .before .before .args in
-    count-end (present (a .which) (a .change) (a .map .now)) (l .id) (l .count) _ (c .loop-test .left) (l .inv .2)
+    count-end (present (a .which) (a .change) (a .sure) (a .map .now)) (l .id) (l .count) _ (c .loop-test .left) (l .inv .2)
 
 pub components-spec : {M : Type 1} → statement M
 components-spec =

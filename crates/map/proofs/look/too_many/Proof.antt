@@ -1,6 +1,6 @@
 -- `map::look::too_many` meets its contract: the tests are those of the definition, in its order. Assumes nothing.
 use mathlib.Core.Path.{_≡_, sym, ap, _∙_}
-use Rattle.frames.specs.Counts.{changing}
+use Rattle.frames.specs.Counts.{changing, sureAt}
 use Rattle.map.specs.Map.{framesOf}
 use Rattle.frames.specs.declared.Frames.{Frames}
 use Rattle.map.proofs.Looking.{many-deletes, many-present, many-counted}
@@ -11,20 +11,24 @@ use Rattle.map.proofs.look.too_many.Tie as tie
 change : (c : tie.After-changing) → c .changing .result ≡ changing (framesOf (c .before .before .before .args .map .now)) (c .before .before .before .args .field .count)
 change c = c .changing .ensures ∙ ap (λ (f : Frames). changing f (c .before .before .before .args .field .count)) (c .before .frames-of .ensures)
 
+sure : (c : tie.After-sure-at) → c .sure-at .result ≡ sureAt (framesOf (c .before .before .before .before .args .map .now)) (c .before .before .before .before .args .field .count)
+sure c = c .sure-at .ensures ∙ ap (λ (f : Frames). sureAt f (c .before .before .before .before .args .field .count)) (c .before .before .frames-of .ensures)
+
 frames-of-requires : tie.Need-frames-of-requires
 frames-of-requires c κs = search needs
 
 changing-requires : tie.Need-changing-requires
 changing-requires c κs = search needs
 
+sure-at-requires : tie.Need-sure-at-requires
+sure-at-requires c κs = search needs
+
 deletes-requires : tie.Need-deletes-requires
 deletes-requires c κs = search needs
 
 returns : tie.Need-returns
 returns c =
-    let now = c .before .before in
-    let a = now .before .before .before .args in
-    many-deletes (a .map .now) (a .field) _ (change now) (sym (c .before .deletes .ensures) ∙ c .if1 .taken)
+    many-deletes ((c .before .before .before .before .before .before) .args .map .now) ((c .before .before .before .before .before .before) .args .field) _ (change (c .before .before .before)) _ (sure (c .before .before)) (sym ((c .before) .deletes .ensures) ∙ c .if1 .taken)
 
 cast-present : tie.Need-cast-present
 cast-present c = search needs
@@ -37,11 +41,7 @@ present-requires c κs = search needs
 
 returns-2 : tie.Need-returns-2
 returns-2 c =
-    let one = c .before .before .before .before in
-    let now = one .before .before in
-    let a = now .before .before .before .args in
-    many-present (a .map .now) (a .field) _ (change now) (sym (one .before .deletes .ensures) ∙ one .if1 .left)
-    (sym (c .before .present .ensures) ∙ c .if2 .taken)
+    many-present ((c .before .before .before .before .before .before .before .before .before .before) .args .map .now) ((c .before .before .before .before .before .before .before .before .before .before) .args .field) _ (change (c .before .before .before .before .before .before .before)) _ (sure (c .before .before .before .before .before .before)) (sym ((c .before .before .before .before .before) .deletes .ensures) ∙ (c .before .before .before .before) .if1 .left) (sym ((c .before) .present .ensures) ∙ c .if2 .taken)
 
 cast-components : tie.Need-cast-components
 cast-components c = search needs
@@ -51,12 +51,7 @@ components-requires c κs = search needs
 
 returns-3 : tie.Need-returns-3
 returns-3 c =
-    let two = c .before .before in
-    let one = two .before .before .before .before in
-    let now = one .before .before in
-    let a = now .before .before .before .args in
-    many-counted (a .map .now) (a .field) _ (change now) (sym (one .before .deletes .ensures) ∙ one .if1 .left)
-    (sym (two .before .present .ensures) ∙ two .if2 .left) _ (c .components .ensures)
+    many-counted ((c .before .before .before .before .before .before .before .before .before .before .before .before) .args .map .now) ((c .before .before .before .before .before .before .before .before .before .before .before .before) .args .field) _ (change (c .before .before .before .before .before .before .before .before .before)) _ (sure (c .before .before .before .before .before .before .before .before)) (sym ((c .before .before .before .before .before .before .before) .deletes .ensures) ∙ (c .before .before .before .before .before .before) .if1 .left) (sym ((c .before .before .before) .present .ensures) ∙ (c .before .before) .if2 .left) _ (c .components .ensures)
 
 pub too-many-spec : {M : Type 1} → statement M
 too-many-spec =
@@ -64,6 +59,7 @@ too-many-spec =
     (tie.spec
     frames-of-requires
     changing-requires
+    sure-at-requires
     deletes-requires
     returns
     cast-present

@@ -1,0 +1,80 @@
+//! How a broadcaster goes about it. All of it is lawful, but for LINKS that does not change, which no listener may rest on.
+
+use super::structures;
+use crate::xorshift::Xorshift;
+
+#[derive(Clone, Copy, Debug)]
+pub struct Style {
+    /// Components of a configuration at most.
+    pub most: usize,
+    /// Whether there are so many from the first frame on. Otherwise there are none.
+    pub full: bool,
+    /// Whether structures are made of few fields, so that they share them and come back.
+    pub few: bool,
+    /// Whether some structures have more fields than a map has room for.
+    pub long: bool,
+    /// Whether the first repetition of a structure in force begins anywhere in it.
+    pub middle: bool,
+    /// Whether the components in force come one after the other.
+    pub cyclic: bool,
+    pub links: Links,
+    pub order: Order,
+}
+
+/// When LINKS changes.
+#[derive(Clone, Copy, Debug, PartialEq, Eq)]
+pub enum Links {
+    /// With each repetition of the announced fields, and of those in force, each by themselves.
+    Each,
+    /// With each repetition of either.
+    Both,
+    Seldom,
+}
+
+/// Where announcements stand among the other fields of a configuration.
+#[derive(Clone, Copy, Debug, PartialEq, Eq)]
+pub enum Order {
+    Mixed,
+    NewFirst,
+    NewLast,
+}
+
+impl Default for Style {
+    fn default() -> Style {
+        Style {
+            most: 20,
+            full: false,
+            few: false,
+            long: false,
+            middle: false,
+            cyclic: false,
+            links: Links::Each,
+            order: Order::Mixed,
+        }
+    }
+}
+
+impl Style {
+    /// Any style with so many components at most.
+    pub fn any(random: &mut Xorshift, most: usize) -> Style {
+        Style {
+            most,
+            full: random.below(4) != 0,
+            few: random.chance(),
+            long: random.below(8) == 0,
+            middle: random.chance(),
+            cyclic: random.chance(),
+            links: [Links::Each, Links::Both, Links::Seldom][random.below(3)],
+            order: [Order::Mixed, Order::NewFirst, Order::NewLast][random.below(3)],
+        }
+    }
+
+    /// A structure.
+    pub fn list(&self, random: &mut Xorshift) -> Vec<u64> {
+        match random.below(4) {
+            0 if self.long => structures::long(random),
+            _ if self.few => structures::of_stock(random),
+            _ => structures::list(random),
+        }
+    }
+}
