@@ -7,6 +7,8 @@
 --   Took s xs due       one more field was taken in: a part again, or all of xs
 --   part-takes          the field that comes in turn
 --   gathered-some       a field that is taken in leaves at least one
+--   Stays s ys m t      all of ys is held on, and t is one of its fields
+--   member-place        the place of a field that a structure has
 --   whole-takes         a field of any structure, where another one is held as whole
 --
 -- Assumes nothing.
@@ -18,11 +20,12 @@ use Prim.Native.Nat.{ℕ, zero, suc, _+_, _-_, _*_, _%_, _^_, _≤_, _<_}
 use native.Mathlib.Omega.{arith}
 use native.Mathlib.Decide.{decLt, ℕ-discrete}
 use borrow.Author.Tests.{eq-eqb, ne-eqb, le-ltb, lt-ltb, ltb-true}
-use lib.Dec.{T, leb, ltb, eqb, lit<}
+use lib.Dec.{T, leb, ltb, eqb, eqb→eq, lit<}
 use lib.ListN.{length, getD, drop}
 use lib.Seq.{getD-drop}
 use Rattle.bits.specs.Bits.{blank}
-use Rattle.bits.proofs.Search.{and-left}
+use Rattle.bits.specs.Search.{first}
+use Rattle.bits.proofs.Search.{first-holds, and-left}
 use Rattle.bits.proofs.Storing.{blank-length}
 use Rattle.field.specs.Field.{key, fln1, fcp, deletes}
 use Rattle.structure.specs.Structure.{most, structureSize, allOnes, headOf, withHead, nth, stored, member, goesOn, turnOf, turned, gathered, spoiled}
@@ -182,6 +185,34 @@ pub data Took (s xs : List ℕ) (due : ℕ) : Type 0 where
   partly : Part s xs due → Took s xs due
   wholly : (l : ℕ) → l ≤ 1 → Holds s (length xs) xs 1 l → Took s xs due
 
+pub record Stays (s ys : List ℕ) (m t : ℕ) : Type 0 where
+  pub holds : Holds s (length ys) ys 1 m
+  pub place : ℕ
+  pub within : place < length ys
+  pub listed : getD ys place 0 ≡ t
+
+stored-most : (h : Structure) → stored h ≤ h .fields
+unfolding stored
+stored-most h = go (ltb most (h .fields)) refl
+  where
+    go : (b : Bool) → ltb most (h .fields) ≡ b → cond b most (h .fields) ≤ h .fields
+    go true e = omega (arith, ltb-true most (h .fields) e)
+    go false e = omega arith
+
+member-place : (s ys : List ℕ) (m t : ℕ) → Holds s (length ys) ys 1 m → member s t ≡ true → Stays s ys m t
+unfolding member
+member-place s ys m t h e =
+    let n = stored (headOf s) in
+    let p : ℕ → Bool = λ k. eqb (nth k s) t in
+    let low : first p n 0 < n = ltb-true (first p n 0) n e in
+    let at : first p n 0 < length ys = omega (arith, low, stored-most (headOf s), h .fields) in
+    record {
+      holds = h;
+      place = first p n 0;
+      within = at;
+      listed = sym (h .each (first p n 0) at) ∙ eqb→eq (nth (first p n 0) s) t (first-holds p n 0 (omega (arith, low)));
+    }
+
 module _ (xs : List ℕ) (f : Fields xs) (i : ℕ) (hi : i < length xs) (l : ℕ) (hl : l ≤ 1) where
   abbrev t : ℕ
   t = getD xs i 0
@@ -315,10 +346,10 @@ module _ (xs : List ℕ) (f : Fields xs) (i : ℕ) (hi : i < length xs) (l : ℕ
       go (yes q) at = comes-round s j k m hm pos fits h (at ∙ ap (λ (b : Bool). cond b 0 (j + k)) (eq-eqb (j + k) (length xs) q)) q
       go (no q) at = goes-on s j k m hm pos fits h (at ∙ ap (λ (b : Bool). cond b 0 (j + k)) (ne-eqb (j + k) (length xs) q))
 
-  -- where a structure is held as whole: it lists the field, or this is begun anew
-  pub whole-takes : (s : List ℕ) → headOf s .whole ≡ 1 → (gathered s t l ≡ s) ⊎ Took (gathered s t l) xs (suc i)
+  -- where a structure is held as whole: it lists the field and is held on, or this is begun anew
+  pub whole-takes : (s ys : List ℕ) (m : ℕ) → Holds s (length ys) ys 1 m → Stays (gathered s t l) ys m t ⊎ Took (gathered s t l) xs (suc i)
   unfolding gathered turnOf turned
-  whole-takes s w = go (member s t) refl
+  whole-takes s ys m h = go (member s t) refl
     where
       either : Bool → Turn
       either b =
@@ -326,9 +357,10 @@ module _ (xs : List ℕ) (f : Fields xs) (i : ℕ) (hi : i < length xs) (l : ℕ
           (cond (ltb 0 (headOf s .fields) && (leb (headOf s .fields) most && eqb (nth 0 s) t)) Completes Begins))
 
       is : (b : Bool) → either b ≡ cond b Known Begins
-      is b = λ j. cond (eqb (w j) 1) (cond b Known Begins) (cond (goesOn s t l) (cond (ltb (headOf s .fields) most) Joins Overflows)
+      is b = λ j. cond (eqb (h .whole j) 1) (cond b Known Begins) (cond (goesOn s t l) (cond (ltb (headOf s .fields) most) Joins Overflows)
           (cond (ltb 0 (headOf s .fields) && (leb (headOf s .fields) most && eqb (nth 0 s) t)) Completes Begins))
 
-      go : (b : Bool) → member s t ≡ b → (gathered s t l ≡ s) ⊎ Took (gathered s t l) xs (suc i)
-      go true e = inl (ap (λ (u : Turn). turned u s t l) (ap either e ∙ is true))
+      go : (b : Bool) → member s t ≡ b → Stays (gathered s t l) ys m t ⊎ Took (gathered s t l) xs (suc i)
+      go true e =
+          inl (subst (λ (x : List ℕ). Stays x ys m t) (sym (ap (λ (u : Turn). turned u s t l) (ap either e ∙ is true))) (member-place s ys m t h e))
       go false e = inr (begins-run s (ap either e ∙ is false))
