@@ -1,4 +1,4 @@
--- Whatever a map shows is a whole structure, and was announced away in no frame that was heard.
+-- Whatever a map shows is a whole structure, and was announced away, or denied, in no frame that was heard.
 --
 --   front-shows, next-shows    by the structure in force, and by the announced one
 --   never-wrong                the theorem, of our machine
@@ -22,9 +22,10 @@ use Rattle.map.specs.Calls.{thenHead, shown}
 use Rattle.multiplex.specs.Broadcast.{countAt, change, epoch, begun}
 use Rattle.multiplex.specs.Heard.{ours, shownFields}
 use Rattle.multiplex.specs.Air.{Air, timed, oldIn, later, lastOld, newTo, goneTo, Said, nothing, described, deleted, Orderly}
-use Rattle.multiplex.specs.Sound.{kept, Listener, Quiet, there, wordFor, Whole, NeverWrong}
+use Rattle.multiplex.specs.Sound.{kept, Listener, Quiet, Undenied, there, wordFor, Whole, NeverWrong}
 use Rattle.multiplex.proofs.Standing.{present, deletion-head}
 use Rattle.multiplex.proofs.Seeing.{head-force, seen-force, head-coming, seen-coming}
+use Rattle.multiplex.proofs.Distances.{epoch-mono}
 use Rattle.multiplex.proofs.Knowing.{Front, some, all, Next, none, delete, piece, sure, full, QuietTo, Silent, Settled, stayed, told, ends, part-head, quiet-over}
 use Rattle.multiplex.proofs.Listening.{Known}
 use Rattle.multiplex.proofs.Asked.{shown-good, shown-whole, changing-now, next-now, same-now, not-blank}
@@ -111,6 +112,7 @@ module _ (a : Air) (w : Orderly a) (hears : ℕ → Bool) (t : ℕ) (m : List �
     pub past : from ≤ epoch (timed a) v
     pub fields : shownFields m id c ≡ a .config from id
     pub quiet : Quiet a hears t from (epoch (timed a) v) id
+    pub undenied : Undenied a hears t from id (a .config from id)
 
   changing-is : changing (framesOf m) c ≡ ltb e (epoch (timed a) v)
   changing-is = changing-now a hears t m u k v lo hi
@@ -122,7 +124,10 @@ module _ (a : Air) (w : Orderly a) (hears : ℕ → Bool) (t : ℕ) (m : List �
   whole-head = shown-whole m id c zero-number some-fields
 
   quiet-shown : (j x : ℕ) → QuietTo a hears (suc t) j x id → Quiet a hears t j x id
-  quiet-shown j x q y hy hh l h = q y (omega (arith, hy)) hh l h
+  quiet-shown j x q y hy hh l h = q .quiet y (omega (arith, hy)) hh l h
+
+  undenied-shown : (j x : ℕ) → QuietTo a hears (suc t) j x id → Undenied a hears t j id (a .config j id)
+  undenied-shown j x q y hy hh l = q .undenied y (omega (arith, hy)) hh l
 
   -- ---- the structure in force
 
@@ -146,6 +151,7 @@ module _ (a : Air) (w : Orderly a) (hears : ℕ → Bool) (t : ℕ) (m : List �
             past = omega (arith, hj, on);
             fields = shows;
             quiet = subst (λ (x : ℕ). Quiet a hears t j x id) (sym on) (quiet-shown j e quiet);
+            undenied = undenied-shown j e quiet;
           }
       go true z =
           let on = next-now a t v lo hi z in
@@ -156,6 +162,7 @@ module _ (a : Air) (w : Orderly a) (hears : ℕ → Bool) (t : ℕ) (m : List �
             fields = shows;
             quiet = subst (λ (x : ℕ). Quiet a hears t j x id) (sym on)
                 (quiet-shown j (suc e) (quiet-over a hears (suc t) j e id quiet (silent-by unsaid)));
+            undenied = undenied-shown j e quiet;
           }
 
   -- ---- the announced one
@@ -192,6 +199,7 @@ module _ (a : Air) (w : Orderly a) (hears : ℕ → Bool) (t : ℕ) (m : List �
         past = omega (arith, on);
         fields = seen-coming m id c (k .size) gm q su refl (a .config (suc e) id) (f .mark) (f .links) (f .known) (f .some) (w .linked (suc e) id hid .few) (f .holds) .fields;
         quiet = λ x hx hh l h. absurd (omega (arith, l, h, on));
+        undenied = λ x hx hh l. absurd (omega (arith, l, epoch-mono (timed a) x t hx));
       }
 
   shows : Shows
@@ -229,7 +237,7 @@ never-wrong = record {
         → (shownFields (kept ours a hears (suc t)) id (countAt (timed a) v) ≡ [] → ⊥) → Kept a hears t → Whole ours a hears t v id
     whole a w hears t v id lo hi hid number fields x =
         let s = shows a w hears t (kept ours a hears (suc t)) (x .unbroken) (x .holds) v id hid lo hi number fields in
-        record { from = s .from; past = s .past; fields = s .fields; quiet = s .quiet }
+        record { from = s .from; past = s .past; fields = s .fields; quiet = s .quiet; undenied = s .undenied }
 
     none : (a : Air) (hears : ℕ → Bool) (t v id : ℕ) → t ≤ v → v ≤ t + 128 → id < ids
         → shown (kept ours a hears (suc t)) id (countAt (timed a) v) .number ≡ 0

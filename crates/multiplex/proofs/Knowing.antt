@@ -1,19 +1,22 @@
 -- What a map that was started anywhere and missed frames can hold of one component, and how that goes on.
 --
---   QuietTo n j e id    of the frames before n none that was heard has announced a change of the component, from configuration j on to e
+--   QuietTo n j e id    of the frames before n none that was heard has announced a change of the component, from configuration j on to e, and
+--                       none in a later configuration than j has denied that its structure is configuration j's
 --   Silent n e id       nor has one in configuration e
 --   Front               the structure in force: a part of configuration e's, or the whole one of a configuration j since which all was quiet
 --   Next                the announced one: nothing, a deletion, a part of configuration e + 1's, one of which nothing was missed, or a whole one
 --   front-gap, next-gap       frames are missed
 --   front-sure, front-unsure  a change
+--   Past n e                  the frames before n are of configurations up to e
+--   listed-undenied           a present field that the structure lists does not deny it
 --   front-old, next-new       a field
 --
 -- Assumes nothing.
 use mathlib.Core.Path.{_≡_, refl, sym, ap, _∙_, subst}
-use mathlib.Core.Bool.{Bool, true, false, cond, _&&_, _||_}
-use mathlib.Core.List.{List, []}
+use mathlib.Core.Bool.{Bool, true, false, cond, not, _&&_, _||_}
+use mathlib.Core.List.{List, [], _∷_}
 use mathlib.Core.Logic.{_⊎_, inl, inr}
-use Prim.Native.Nat.{ℕ, suc, _+_, _-_, _^_, _≤_, _<_}
+use Prim.Native.Nat.{ℕ, zero, suc, _+_, _-_, _^_, _≤_, _<_}
 use native.Mathlib.Omega.{arith}
 use native.Mathlib.Decide.{ℕ-discrete, decLt}
 use borrow.Author.Tests.{eq-eqb, ne-eqb}
@@ -24,13 +27,14 @@ use Rattle.structure.specs.Structure.{structureSize, headOf, withHead, gathered
 use Rattle.structure.specs.declared.Structure.{Structure}
 use Rattle.structure.proofs.Gathering.{Holds, Empty, head-stored, begun, joined, completed, kept}
 use Rattle.structure.proofs.Kept.{spoiled-none}
-use Rattle.structure.proofs.Runs.{Fields, Part, empty, stuck, run, spoiled-part, spoiled-whole, spoils, Took, partly, wholly, gathered-some, part-takes, whole-takes, rises-to}
+use Rattle.structure.proofs.Runs.{Fields, Part, empty, stuck, run, spoiled-part, spoiled-whole, spoils, Took, partly, wholly, gathered-some, part-takes, Stays, whole-takes, rises-to}
 use Rattle.map.specs.Map.{ids, mapSize, structureAt, changedFrom}
 use Rattle.map.proofs.Changing.{leftBy, stays, stays-unsaid, goes, settled, emptied, in-force, cleared, blank-empty}
 use Rattle.multiplex.specs.Broadcast.{epoch, Linked}
-use Rattle.multiplex.specs.Air.{Air, timed, turn}
-use Rattle.multiplex.specs.Sound.{announces}
+use Rattle.multiplex.specs.Air.{old, Air, timed, inForce, turn}
+use Rattle.multiplex.specs.Sound.{announces, lists, denies}
 use Rattle.multiplex.proofs.Standing.{deletion-head, deletion-length}
+use Rattle.multiplex.proofs.Distances.{epoch-mono}
 
 pub linked-fields : (xs : List ℕ) → Linked xs → Fields xs
 linked-fields xs k = record {
@@ -40,9 +44,9 @@ linked-fields xs k = record {
   rising = k .rising;
 }
 
-abbrev pub QuietTo : Air → (ℕ → Bool) → ℕ → ℕ → ℕ → ℕ → Type 0
-QuietTo a hears n j e id =
-    (v : ℕ) → v < n → hears v ≡ true → j ≤ epoch (timed a) v → epoch (timed a) v < e → announces id (a .carries v) ≡ false
+pub record QuietTo (a : Air) (hears : ℕ → Bool) (n j e id : ℕ) : Type 0 where
+  pub quiet : (v : ℕ) → v < n → hears v ≡ true → j ≤ epoch (timed a) v → epoch (timed a) v < e → announces id (a .carries v) ≡ false
+  pub undenied : (v : ℕ) → v < n → hears v ≡ true → j < epoch (timed a) v → denies a v id (a .config j id) (a .carries v) ≡ false
 
 abbrev pub Silent : Air → (ℕ → Bool) → ℕ → ℕ → ℕ → Type 0
 Silent a hears n e id = (v : ℕ) → v < n → hears v ≡ true → epoch (timed a) v ≡ e → announces id (a .carries v) ≡ false
@@ -117,11 +121,22 @@ module _ (a : Air) (hears : ℕ → Bool) (n e id : ℕ) where
 
 -- nothing was announced of it, up to the change
 pub quiet-over : (a : Air) (hears : ℕ → Bool) (n j e id : ℕ) → QuietTo a hears n j e id → Silent a hears n e id → QuietTo a hears n j (suc e) id
-quiet-over a hears n j e id q z v hv hh lo hi = go (ℕ-discrete (epoch (timed a) v) e)
+quiet-over a hears n j e id q z =
+    record { quiet = λ v hv hh lo hi. go v hv hh lo hi (ℕ-discrete (epoch (timed a) v) e); undenied = q .undenied }
   where
-    go : Dec (epoch (timed a) v ≡ e) → announces id (a .carries v) ≡ false
-    go (yes s) = z v hv hh s
-    go (no s) = q v hv hh lo (omega (arith, hi, s))
+    go : (v : ℕ) → v < n → hears v ≡ true → j ≤ epoch (timed a) v → epoch (timed a) v < suc e → Dec (epoch (timed a) v ≡ e) → announces id (a .carries v) ≡ false
+    go v hv hh lo hi (yes s) = z v hv hh s
+    go v hv hh lo hi (no s) = q .quiet v hv hh lo (omega (arith, hi, s))
+
+-- what is known of the running configuration, or of the coming one, nobody can have denied yet
+abbrev pub Past : Air → ℕ → ℕ → Type 0
+Past a n e = (v : ℕ) → v < n → epoch (timed a) v ≤ e
+
+quiet-yet : (a : Air) (hears : ℕ → Bool) (n e id : ℕ) → Past a n e → QuietTo a hears n e e id
+quiet-yet a hears n e id past = record {
+  quiet = λ v hv hh lo hi. absurd (omega (arith, lo, hi));
+  undenied = λ v hv hh lo. absurd (omega (arith, lo, past v hv));
+}
 
 -- what the coming structure is by then, where the whole configuration was heard
 pub data Settled (xs zs : List ℕ) (count : ℕ) (gone : Bool) : Type 0 where
@@ -129,7 +144,7 @@ pub data Settled (xs zs : List ℕ) (count : ℕ) (gone : Bool) : Type 0 where
   told : 0 < length zs → length zs ≤ count → Settled xs zs count gone
   ends : zs ≡ [] → gone ≡ true → Settled xs zs count gone
 
-module _ (a : Air) (hears : ℕ → Bool) (n e id : ℕ) (hid : id < ids) (m : List ℕ) (lm : length m ≡ mapSize) (k : Linked (a .config (suc e) id)) where
+module _ (a : Air) (hears : ℕ → Bool) (n e id : ℕ) (past : Past a n e) (hid : id < ids) (m : List ℕ) (lm : length m ≡ mapSize) (k : Linked (a .config (suc e) id)) where
   abbrev pub F : List ℕ
   F = structureAt id 0 m
 
@@ -146,7 +161,7 @@ module _ (a : Air) (hears : ℕ → Bool) (n e id : ℕ) (hid : id < ids) (m : L
   applied : (b : Bool) (next v r l : ℕ) → l ≤ 1 → 0 < length (a .config (suc e) id) → Holds A (length (a .config (suc e) id)) (a .config (suc e) id) v l
       → (b || eqb v 1) ≡ true → After next b
   applied b next v r l hl pos h w = (
-    all (suc e) l hl (omega arith) pos (settled b m lm id hid _ _ v l h pos w (k .few)) (λ x hx hh lo hi. absurd (omega (arith, lo, hi))),
+    all (suc e) l hl (omega arith) pos (settled b m lm id hid _ _ v l h pos w (k .few)) (quiet-yet a hears n (suc e) id (λ x hx. omega (arith, past x hx))),
     emptied b m lm id hid _ _ v l h pos,
   )
 
@@ -205,15 +220,46 @@ module _ (a : Air) (hears : ℕ → Bool) (n e id : ℕ) (hid : id < ids) (m : L
 
 -- ---- a field
 
+-- a field of a list is listed
+listed : (xs : List ℕ) (i t : ℕ) → i < length xs → getD xs i 0 ≡ t → lists xs t ≡ true
+unfolding lists
+listed [] i t h e = absurd (omega arith)
+listed (x ∷ xs) zero t h e = ap (λ (b : Bool). b || lists xs t) (eq-eqb x t e)
+listed (x ∷ xs) (suc i) t h e = ap (λ (b : Bool). eqb x t || b) (listed xs i t (omega arith) e) ∙ or-yes (eqb x t)
+  where
+    or-yes : (b : Bool) → (b || true) ≡ true
+    or-yes true = refl
+    or-yes false = refl
+
+listed-undenied : (a : Air) (n id i l : ℕ) (xs : List ℕ) → lists xs (getD (inForce a n id) i 0) ≡ true → denies a n id xs (old id i l) ≡ false
+unfolding denies
+listed-undenied a n id i l xs e = ap (λ (b : Bool). eqb id id && not b) e ∙ and-no (eqb id id)
+  where
+    and-no : (b : Bool) → (b && false) ≡ false
+    and-no true = refl
+    and-no false = refl
+
 module _ (a : Air) (hears : ℕ → Bool) (n e id : ℕ) (now : epoch (timed a) n ≡ e) where
-  quiet-on : (j : ℕ) → QuietTo a hears n j e id → QuietTo a hears (suc n) j e id
-  quiet-on j q v hv hh lo hi = go (decLt v n)
+  past-now : Past a (suc n) e
+  past-now v hv = omega (arith, epoch-mono (timed a) v n (omega (arith, hv)), now)
+
+  same-place : (x y : ℕ) → (x < y → ⊥) → x < suc y → x ≡ y
+  same-place x y p r = omega (arith, p, r)
+
+  -- the field does not deny it
+  quiet-on : (j : ℕ) → denies a n id (a .config j id) (a .carries n) ≡ false → QuietTo a hears n j e id → QuietTo a hears (suc n) j e id
+  quiet-on j here q = record {
+    quiet = λ v hv hh lo hi. still v hv hh lo hi (decLt v n);
+    undenied = λ v hv hh lo. none v hv hh lo (decLt v n);
+  }
     where
-      go : Dec (v < n) → announces id (a .carries v) ≡ false
-      go (yes h) = q v h hh lo hi
-      go (no h) =
-          let z : v ≡ n = omega (arith, hv, h) in
-          absurd (omega (arith, hi, ap (epoch (timed a)) z ∙ now))
+      still : (v : ℕ) → v < suc n → hears v ≡ true → j ≤ epoch (timed a) v → epoch (timed a) v < e → Dec (v < n) → announces id (a .carries v) ≡ false
+      still v hv hh lo hi (yes h) = q .quiet v h hh lo hi
+      still v hv hh lo hi (no h) = absurd (omega (arith, hi, ap (epoch (timed a)) (same-place v n h hv) ∙ now))
+
+      none : (v : ℕ) → v < suc n → hears v ≡ true → j < epoch (timed a) v → Dec (v < n) → denies a v id (a .config j id) (a .carries v) ≡ false
+      none v hv hh lo (yes h) = q .undenied v h hh lo
+      none v hv hh lo (no h) = ap (λ (i : ℕ). denies a i id (a .config j id) (a .carries i)) (same-place v n h hv) ∙ here
 
   pub silent-on : announces id (a .carries n) ≡ false → Silent a hears n e id → Silent a hears (suc n) e id
   silent-on here q v hv hh z = go (decLt v n)
@@ -221,31 +267,38 @@ module _ (a : Air) (hears : ℕ → Bool) (n e id : ℕ) (now : epoch (timed a) 
       go : Dec (v < n) → announces id (a .carries v) ≡ false
       go (yes h) = q v h hh z
       go (no h) = ap (λ (i : ℕ). announces id (a .carries i)) (same-place v n h hv) ∙ here
-        where
-          same-place : (x y : ℕ) → (x < y → ⊥) → x < suc y → x ≡ y
-          same-place x y p r = omega (arith, p, r)
 
-  -- nothing was carried of its present structure
-  pub front-on : (due : ℕ) (s : List ℕ) → Front a hears n e id due s → Front a hears (suc n) e id due s
-  front-on due s (some p) = some p
-  front-on due s (all j l hl hj pos h q) = all j l hl hj pos h (quiet-on j q)
+  -- nothing was carried of its present structure, nor that it is not there
+  pub front-on : (due : ℕ) (s : List ℕ) → ((xs : List ℕ) → denies a n id xs (a .carries n) ≡ false)
+      → Front a hears n e id due s → Front a hears (suc n) e id due s
+  front-on due s here (some p) = some p
+  front-on due s here (all j l hl hj pos h q) = all j l hl hj pos h (quiet-on j (here (a .config j id)) q)
 
   took-front : (due : ℕ) (s : List ℕ) → 0 < length (a .config e id) → Took s (a .config e id) due → Front a hears (suc n) e id due s
   took-front due s pos (partly p) = some p
-  took-front due s pos (wholly l hl h) = all e l hl (omega arith) pos h (λ v hv hh lo hi. absurd (omega (arith, lo, hi)))
+  took-front due s pos (wholly l hl h) = all e l hl (omega arith) pos h (quiet-yet a hears (suc n) e id past-now)
 
-  pub front-old : Linked (a .config e id) → (i l due : ℕ) (s : List ℕ) → i < length (a .config e id) → l ≤ 1
+  -- a present field: a list that is whole is held on only where it lists the field
+  pub front-old : Linked (a .config e id) → (i l due : ℕ) (s : List ℕ) → a .carries n ≡ old id i l → i < length (a .config e id) → l ≤ 1
       → ((k : ℕ) → due ≡ suc k → i ≡ turn (length (a .config e id)) k)
       → Front a hears n e id due s → Front a hears (suc n) e id (suc i) (gathered s (getD (a .config e id) i 0) l)
   unfolding turn
-  front-old k i l due s hi hl order (some p) =
+  front-old k i l due s is hi hl order (some p) =
       took-front (suc i) _ (omega arith) (part-takes _ (linked-fields _ k) i hi l hl s due order p)
-  front-old k i l due s hi hl order (all j m hm hj pos h q) =
-      go (whole-takes _ (linked-fields _ k) i hi l hl s (h .whole))
+  front-old k i l due s is hi hl order (all j m hm hj pos h q) =
+      go (whole-takes _ (linked-fields _ k) i hi l hl s (a .config j id) m h)
     where
-      go : (gathered s (getD (a .config e id) i 0) l ≡ s) ⊎ Took (gathered s (getD (a .config e id) i 0) l) (a .config e id) (suc i)
+      here : Stays (gathered s (getD (a .config e id) i 0) l) (a .config j id) m (getD (a .config e id) i 0)
+          → denies a n id (a .config j id) (a .carries n) ≡ false
+      here z =
+          ap (denies a n id (a .config j id)) is
+          ∙ listed-undenied a n id i l (a .config j id)
+          (ap (λ (x : ℕ). lists (a .config j id) (getD (a .config x id) i 0)) now ∙ listed (a .config j id) (z .place) _ (z .within) (z .listed))
+
+      go : Stays (gathered s (getD (a .config e id) i 0) l) (a .config j id) m (getD (a .config e id) i 0)
+          ⊎ Took (gathered s (getD (a .config e id) i 0) l) (a .config e id) (suc i)
           → Front a hears (suc n) e id (suc i) (gathered s (getD (a .config e id) i 0) l)
-      go (inl z) = subst (Front a hears (suc n) e id (suc i)) (sym z) (all j m hm hj pos h (quiet-on j q))
+      go (inl z) = all j m hm hj pos (z .holds) (quiet-on j (here z) q)
       go (inr t) = took-front (suc i) _ (omega arith) t
 
   -- nothing was said of what comes

@@ -19,3 +19,5 @@ pub mod Examples
 pub mod Steady
 pub mod Refuting
 pub mod Unsure
+pub mod Denied
+pub mod Stubborn

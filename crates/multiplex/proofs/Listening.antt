@@ -8,7 +8,7 @@
 --
 -- Assumes nothing.
 use mathlib.Core.Path.{_≡_, refl, sym, ap, ap₂, _∙_, subst}
-use mathlib.Core.Bool.{Bool, true, false, cond, _||_}
+use mathlib.Core.Bool.{Bool, true, false, cond, not, _&&_, _||_}
 use mathlib.Core.List.{List, []}
 use Prim.Native.Nat.{ℕ, zero, suc, _+_, _-_, _<_}
 use native.Mathlib.Omega.{arith}
@@ -29,7 +29,7 @@ use Rattle.map.proofs.Places.{structure-length, structure-same, structure-other
 use Rattle.map.proofs.Changing.{blank-empty}
 use Rattle.multiplex.specs.Broadcast.{countAt, change, epoch, begun}
 use Rattle.multiplex.specs.Air.{Carries, new, old, gone, vectors, Air, timed, carriedAs, fieldOn, newIn, oldIn, goneIn, later, lastOld, lastNew, linkOf, linksNew, one, newBefore, newTo, goneBefore, goneTo, inForce, coming, InTurn, nothing, Orderly}
-use Rattle.multiplex.specs.Sound.{announces, Word, unheard, absent, there, over, presentIn, comingIn, comingBefore, comingTo, presentBefore, presentTo}
+use Rattle.multiplex.specs.Sound.{announces, lists, denies, Word, unheard, absent, there, over, presentIn, comingIn, comingBefore, comingTo, presentBefore, presentTo}
 use Rattle.multiplex.proofs.Words.{Words, words-as, words-force, words-dropped, words-told, words-ends, some-old, some-new}
 use Rattle.multiplex.proofs.Standing.{deletion-length}
 use Rattle.multiplex.proofs.Knowing.{Front, some, all, Next, delete, front-on, front-old, next-on, next-new}
@@ -85,12 +85,12 @@ or-no false = refl
 
 module _ (a : Air) (hears : ℕ → Bool) (t id : ℕ) (c : Carries) (is : a .carries t ≡ c) where
   -- it says nothing of the component's present structure, or of what comes
-  front-plain : (s : List ℕ) → oldIn id c ≡ 0 → Front a hears t (epoch (timed a) t) id (lastOld a id t) s
+  front-plain : (s : List ℕ) → oldIn id c ≡ 0 → ((xs : List ℕ) → denies a t id xs c ≡ false) → Front a hears t (epoch (timed a) t) id (lastOld a id t) s
       → Front a hears (suc t) (epoch (timed a) t) id (later (oldIn id c) (lastOld a id t)) s
   unfolding later
-  front-plain s z f =
+  front-plain s z d f =
       subst (λ (x : ℕ). Front a hears (suc t) (epoch (timed a) t) id x s) (sym (ap (λ (x : ℕ). later x (lastOld a id t)) z))
-      (front-on a hears t (epoch (timed a) t) id refl (lastOld a id t) s f)
+      (front-on a hears t (epoch (timed a) t) id refl (lastOld a id t) s (λ xs. ap (denies a t id xs) is ∙ d xs) f)
 
   next-plain : (u : Bool) (s : List ℕ) → newIn id c ≡ 0 → goneIn id c ≡ false
       → Next a hears t (epoch (timed a) t) id (lastNew a id t) (newBefore a id t) (linksNew a id t) (goneBefore a id t) u s
@@ -173,7 +173,7 @@ module _ (a : Air) (w : Orderly a) (hears : ℕ → Bool) (t : ℕ) (m : List �
 
   taken-new : (k i l : ℕ) → a .carries t ≡ new k i l → InTurn a t (new k i l)
       → Taken (new k i l) (withStructure k 1 (gather k 1 (getD (coming a t k) i 0) l) m)
-  unfolding newIn oldIn goneIn linkOf later InTurn over presentIn comingIn
+  unfolding denies newIn oldIn goneIn linkOf later InTurn over presentIn comingIn
   taken-new k i l is law =
       let hk = law .0 in
       let s = gather k 1 (getD (coming a t k) i 0) l in
@@ -182,7 +182,7 @@ module _ (a : Air) (w : Orderly a) (hears : ℕ → Bool) (t : ℕ) (m : List �
         size = put-long k 1 hk (lit< tt) s ls;
         front = λ id hid.
             subst (Front a hears (suc t) now id (lastOld a id t)) (sym (put-off k 1 hk (lit< tt) s ls id 0 (lit< tt) (λ p q. omega (arith, q))))
-            (front-plain a hears t id (new k i l) is (structureAt id 0 m) refl (h .front id hid));
+            (front-plain a hears t id (new k i l) is (structureAt id 0 m) refl (λ xs. refl) (h .front id hid));
         next = λ id hid. pick id k
             (λ e. subst (λ (j : ℕ). At (new k i l) j (withStructure k 1 s m)) (sym e) (here hk ls))
             (λ e. subst (λ (x : List ℕ). AtIs (new k i l) id x) (sym (put-off k 1 hk (lit< tt) s ls id 1 (lit< tt) (λ p q. e p)))
@@ -218,7 +218,7 @@ module _ (a : Air) (w : Orderly a) (hears : ℕ → Bool) (t : ℕ) (m : List �
 
   taken-old : (k i l : ℕ) → a .carries t ≡ old k i l → InTurn a t (old k i l)
       → Taken (old k i l) (withStructure k 0 (gather k 0 (getD (inForce a t k) i 0) l) m)
-  unfolding newIn oldIn goneIn later InTurn over presentIn comingIn
+  unfolding denies newIn oldIn goneIn later InTurn over presentIn comingIn
   taken-old k i l is law =
       let hk = law .0 in
       let s = gather k 0 (getD (inForce a t k) i 0) l in
@@ -230,7 +230,8 @@ module _ (a : Air) (w : Orderly a) (hears : ℕ → Bool) (t : ℕ) (m : List �
             (here hk ls))
             (λ e. subst (Front a hears (suc t) now id (later (oldIn id (old k i l)) (lastOld a id t)))
             (sym (put-off k 0 hk (lit< tt) s ls id 0 (lit< tt) (λ p q. e p)))
-            (front-plain a hears t id (old k i l) is (structureAt id 0 m) (ap (λ (b : Bool). cond b (suc i) 0) (ne-eqb k id (λ q. e (sym q)))) (h .front id hid)));
+            (front-plain a hears t id (old k i l) is (structureAt id 0 m) (ap (λ (b : Bool). cond b (suc i) 0) (ne-eqb k id (λ q. e (sym q))))
+            (λ xs. ap (λ (b : Bool). b && not (lists xs (getD (inForce a t id) i 0))) (ne-eqb k id (λ q. e (sym q)))) (h .front id hid)));
         next = λ id hid.
             subst (λ (x : List ℕ). AtIs (old k i l) id x) (sym (put-off k 0 hk (lit< tt) s ls id 1 (lit< tt) (λ p q. omega (arith, q))))
             (next-plain a hears t id (old k i l) is u (structureAt id 1 m) refl refl (h .next id hid));
@@ -256,12 +257,12 @@ module _ (a : Air) (w : Orderly a) (hears : ℕ → Bool) (t : ℕ) (m : List �
           let yes-k : oldIn k (old k i l) ≡ suc i = ap (λ (b : Bool). cond b (suc i) 0) (eq-eqb k k refl) in
           subst (Front a hears (suc t) now k (later (oldIn k (old k i l)) (lastOld a k t))) (sym (put-at k 0 hk (lit< tt) _ ls))
           (subst (λ (x : ℕ). Front a hears (suc t) now k x (gather k 0 (getD (inForce a t k) i 0) l)) (sym (ap (λ (x : ℕ). later x (lastOld a k t)) yes-k))
-          (front-old a hears t now k refl (w .linked now k hk) i l (lastOld a k t) (structureAt k 0 m) (law .1 .0) (omega (arith, law .1 .1 .0))
+          (front-old a hears t now k refl (w .linked now k hk) i l (lastOld a k t) (structureAt k 0 m) is (law .1 .0) (omega (arith, law .1 .1 .0))
           (law .1 .1 .1) (h .front k hk)))
 
   -- all ones: at once, or by the next change
   taken-gone : (k tdms l : ℕ) → a .carries t ≡ gone 0 k tdms l → k < ids → Taken (gone 0 k tdms l) (withStructure k 0 (blank structureSize) m)
-  unfolding newIn oldIn goneIn later over presentIn comingIn
+  unfolding denies newIn oldIn goneIn later over presentIn comingIn
   taken-gone k tdms l is hk =
       let ls = blank-length structureSize in
       record {
@@ -270,7 +271,7 @@ module _ (a : Air) (w : Orderly a) (hears : ℕ → Bool) (t : ℕ) (m : List �
             (λ e. subst (λ (j : ℕ). Front a hears (suc t) now j (lastOld a j t) (structureAt j 0 (withStructure k 0 (blank structureSize) m))) (sym e)
             (subst (Front a hears (suc t) now k (lastOld a k t)) (sym (put-at k 0 hk (lit< tt) _ ls)) (some (empty (blank-empty _ refl)))))
             (λ e. subst (Front a hears (suc t) now id (lastOld a id t)) (sym (put-off k 0 hk (lit< tt) _ ls id 0 (lit< tt) (λ p q. e p)))
-            (front-plain a hears t id (gone 0 k tdms l) is (structureAt id 0 m) refl (h .front id hid)));
+            (front-plain a hears t id (gone 0 k tdms l) is (structureAt id 0 m) refl (λ xs. ne-eqb k id (λ q. e (sym q))) (h .front id hid)));
         next = λ id hid.
             subst (λ (x : List ℕ). AtIs (gone 0 k tdms l) id x) (sym (put-off k 0 hk (lit< tt) _ ls id 1 (lit< tt) (λ p q. omega (arith, q))))
             (next-plain a hears t id (gone 0 k tdms l) is u (structureAt id 1 m) refl refl (h .next id hid));
@@ -283,13 +284,13 @@ module _ (a : Air) (w : Orderly a) (hears : ℕ → Bool) (t : ℕ) (m : List �
       }
 
   taken-ends : (k tdms l : ℕ) → a .carries t ≡ gone 1 k tdms l → k < ids → coming a t k ≡ [] → Taken (gone 1 k tdms l) (withStructure k 1 deletion m)
-  unfolding newIn oldIn goneIn later over presentIn comingIn
+  unfolding denies newIn oldIn goneIn later over presentIn comingIn
   taken-ends k tdms l is hk z =
       record {
         size = put-long k 1 hk (lit< tt) _ deletion-length;
         front = λ id hid.
             subst (Front a hears (suc t) now id (lastOld a id t)) (sym (put-off k 1 hk (lit< tt) _ deletion-length id 0 (lit< tt) (λ p q. omega (arith, q))))
-            (front-plain a hears t id (gone 1 k tdms l) is (structureAt id 0 m) refl (h .front id hid));
+            (front-plain a hears t id (gone 1 k tdms l) is (structureAt id 0 m) refl (λ xs. refl) (h .front id hid));
         next = λ id hid. pick id k
             (λ e. subst (λ (j : ℕ). At (gone 1 k tdms l) j (withStructure k 1 deletion m)) (sym e)
             (delete (put-at k 1 hk (lit< tt) _ deletion-length) z))
@@ -304,10 +305,10 @@ module _ (a : Air) (w : Orderly a) (hears : ℕ → Bool) (t : ℕ) (m : List �
       }
 
   taken-vectors : (flag tdms l : ℕ) → a .carries t ≡ vectors flag tdms l → Taken (vectors flag tdms l) m
-  unfolding newIn oldIn goneIn later over presentIn comingIn
+  unfolding denies newIn oldIn goneIn later over presentIn comingIn
   taken-vectors flag tdms l is = record {
     size = h .size;
-    front = λ id hid. front-plain a hears t id (vectors flag tdms l) is (structureAt id 0 m) refl (h .front id hid);
+    front = λ id hid. front-plain a hears t id (vectors flag tdms l) is (structureAt id 0 m) refl (λ xs. refl) (h .front id hid);
     next = λ id hid. next-plain a hears t id (vectors flag tdms l) is u (structureAt id 1 m) refl refl (h .next id hid);
     words = h .words;
   }

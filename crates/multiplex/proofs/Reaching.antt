@@ -24,7 +24,7 @@ use Rattle.multiplex.specs.Broadcast.{change, epoch, begun}
 use Rattle.multiplex.specs.Air.{Air, timed, newIn, oldIn, later, same, lastOld, lastNew, linkOf, linksNew, newBefore, newTo, goneBefore, goneTo, inForce, coming, Said, nothing, described, deleted, Orderly}
 use Rattle.multiplex.specs.Sound.{unheard, over, presentIn, comingIn, comingBefore, comingTo, presentBefore, presentTo}
 use Rattle.multiplex.proofs.Distances.{epoch-step, epoch-mono}
-use Rattle.multiplex.proofs.Knowing.{Front, some, all, Next, none, delete, piece, sure, full, Silent, Settled, stayed, told, ends, front-gap, next-gap, front-unsure, front-sure}
+use Rattle.multiplex.proofs.Knowing.{Front, some, all, Next, none, delete, piece, sure, full, Silent, Past, Settled, stayed, told, ends, front-gap, next-gap, front-unsure, front-sure}
 use Rattle.multiplex.proofs.Words.{Words, words-as, words-gap, words-change, unheard-there, Goes, goes-to}
 use Rattle.multiplex.proofs.Listening.{Known, Before, front-as, next-as}
 
@@ -33,7 +33,7 @@ unfolding same
 same-refl [] = refl
 same-refl (x ∷ xs) = ap₂ (λ (a b : Bool). a && b) (eq-eqb x x refl) (same-refl xs)
 
-same-eq : (xs ys : List ℕ) → xs ≡ ys → same xs ys ≡ true
+pub same-eq : (xs ys : List ℕ) → xs ≡ ys → same xs ys ≡ true
 same-eq xs ys e = ap (same xs) (sym e) ∙ same-refl xs
 
 -- none was heard between frame t and frame n
@@ -43,7 +43,10 @@ Gap hears t n = (v : ℕ) → v < n → hears v ≡ true → v < suc t
 module _ (a : Air) (hears : ℕ → Bool) (t n : ℕ) (gap : Gap hears t n) where
   front-later : (e id due : ℕ) (s : List ℕ) → Front a hears (suc t) e id due s → Front a hears n e id due s
   front-later e id due s (some p) = some p
-  front-later e id due s (all j l hl hj pos h q) = all j l hl hj pos h (λ v hv hh lo hi. q v (gap v hv hh) hh lo hi)
+  front-later e id due s (all j l hl hj pos h q) = all j l hl hj pos h (record {
+    quiet = λ v hv hh lo hi. q .quiet v (gap v hv hh) hh lo hi;
+    undenied = λ v hv hh lo. q .undenied v (gap v hv hh) hh lo;
+  })
 
   next-later : (e id due count links : ℕ) (g u : Bool) (s : List ℕ) → Next a hears (suc t) e id due count links g u s → Next a hears n e id due count links g u s
   next-later e id due count links g u s (none em c q) = none em c (λ v hv hh z. q v (gap v hv hh) hh z)
@@ -59,6 +62,9 @@ module _ (a : Air) (hears : ℕ → Bool) (t n : ℕ) (gap : Gap hears t n) wher
 module _ (a : Air) (w : Orderly a) (hears : ℕ → Bool) (t : ℕ) (m : List ℕ) (u : Bool) (k : Known a hears t m u) where
   abbrev e : ℕ
   e = epoch (timed a) t
+
+  past : Past a (suc t) e
+  past v hv = epoch-mono (timed a) v t (omega (arith, hv))
 
   -- what was heard last, behind frames that were missed or none
   goes : (n : ℕ) → t < n → Gap hears t n → (id : ℕ) → Goes a hears id t n
@@ -109,7 +115,7 @@ module _ (a : Air) (w : Orderly a) (hears : ℕ → Bool) (t : ℕ) (m : List �
   unfolding lastOld
   change-both c on id hid true q =
       subst (λ (x : Bool). Then x id) (sym q)
-      (front-sure a hears (suc t) e id hid m (k .size) (w .linked (suc e) id hid) (later (oldIn id (a .carries t)) (lastOld a id t)) (lastOld a id (suc t))
+      (front-sure a hears (suc t) e id past hid m (k .size) (w .linked (suc e) id hid) (later (oldIn id (a .carries t)) (lastOld a id t)) (lastOld a id (suc t))
       (later (newIn id (a .carries t)) (lastNew a id t)) (newTo a id t) (cond (eqb (newIn id (a .carries t)) 0) (linksNew a id t) (linkOf (a .carries t))) (goneTo a id t)
       (λ z. ap (λ (b : Bool). cond b (later (oldIn id (a .carries t)) (lastOld a id t)) 0) (same-eq _ _ (sym z ∙ ap (λ (x : ℕ). a .config x id) (sym on))))
       (settled-by id (w .said t id hid c (k .begun q))) (k .front id hid)
@@ -117,7 +123,7 @@ module _ (a : Air) (w : Orderly a) (hears : ℕ → Bool) (t : ℕ) (m : List �
       (cond (eqb (newIn id (a .carries t)) 0) (linksNew a id t) (linkOf (a .carries t))) (goneTo a id t) x (structureAt id 1 m)) q (k .next id hid)))
   change-both c on id hid false q =
       subst (λ (x : Bool). Then x id) (sym q)
-      (front-unsure a hears (suc t) e id hid m (k .size) (w .linked (suc e) id hid) _ (lastOld a id (suc t)) _ _ _ _ u (k .front id hid) (k .next id hid))
+      (front-unsure a hears (suc t) e id past hid m (k .size) (w .linked (suc e) id hid) _ (lastOld a id (suc t)) _ _ _ _ u (k .front id hid) (k .next id hid))
 
   pub near-change : change (timed a) (suc t) ≡ true → Before a hears (suc t) (changedFrom ids 0 u m) true
   unfolding lastOld lastNew newBefore goneBefore begun
@@ -174,7 +180,7 @@ module _ (a : Air) (w : Orderly a) (hears : ℕ → Bool) (t : ℕ) (m : List �
     far-both : (id : ℕ) → id < ids
         → Front a hears (suc t) (suc e) id (lastOld a id n) (structureAt id 0 (changedFrom ids 0 false gaps)) × Empty (structureAt id 1 (changedFrom ids 0 false gaps))
     far-both id hid =
-        front-unsure a hears (suc t) e id hid gaps (gap-length m (k .size)) (w .linked (suc e) id hid) 0 (lastOld a id n) 0 0 0 false false
+        front-unsure a hears (suc t) e id past hid gaps (gap-length m (k .size)) (w .linked (suc e) id hid) 0 (lastOld a id n) 0 0 0 false false
         (gap-front id hid 0) (gap-next id hid 0 0 0 false)
 
     pub far-change : epoch (timed a) n ≡ suc e → Before a hears n (changedFrom ids 0 false gaps) false

@@ -1,5 +1,6 @@
 -- Never sure without reason: a map started anywhere, that misses frames.
 --
+--   read-back         the field of a frame, written and read
 --   take-known        one frame that is heard, by what the map holds before it
 --   reach-known       from the last frame heard, up to 128 frames before
 --   State, state-at   what the map has heard before a frame
@@ -68,6 +69,11 @@ wide : (a : Air) (w : Orderly a) (t : ℕ) → Wide (fieldOn a t) (countAt (time
 unfolding fieldOn
 wide a w t = wide-as a w t (a .carries t) (w .turns t)
 
+pub read-back : (a : Air) (w : Orderly a) (t : ℕ) → fieldOf (fieldBytes (fieldOn a t)) ≡ fieldOn a t
+read-back a w t =
+    let s = wide a w t in
+    read-written (fieldOn a t) (omega (arith, s .count, count-lt (timed a) t)) (s .flag) (s .id) (s .tdms) (s .links)
+
 abbrev framesAt : Air → ℕ → Bool → Frames
 framesAt a t u = record { last = countAt (timed a) t; heard = 1; unbroken = cond u 1 0 }
 
@@ -81,9 +87,8 @@ module _ (a : Air) (w : Orderly a) (hears : ℕ → Bool) (t : ℕ) (m : List �
   take-known M u h up fresh then =
       let r : Field = fieldOn a t in
       let s = wide a w t in
-      let back : fieldOf (fieldBytes r) ≡ r = read-written r (omega (arith, s .count, count-lt (timed a) t)) (s .flag) (s .id) (s .tdms) (s .links) in
       let is : takeAfter m (fieldBytes r) ≡ withFrames (framesAfter (framesOf m) (countAt (timed a) t)) (takenIn r M) =
-      done-passed (takeAnswer m (fieldBytes r)) (frameTaken m (fieldOf (fieldBytes r))) m not-refused ∙ ap (frameTaken m) back
+      done-passed (takeAnswer m (fieldBytes r)) (frameTaken m (fieldOf (fieldBytes r))) m not-refused ∙ ap (frameTaken m) (read-back a w t)
       ∙ ap (λ (c : ℕ). cond (again (framesOf m) c) m (withFrames (framesAfter (framesOf m) c) (takenIn r (upTo m c)))) (s .count)
       ∙ (λ i. cond (fresh i) m (withFrames (framesAfter (framesOf m) (countAt (timed a) t)) (takenIn r (up i)))) in
       subst (λ (x : List ℕ). Known a hears t x u) (sym is) (field-known a w hears t M u h heard _ then)

@@ -26,7 +26,7 @@ use Rattle.multiplex.proofs.Keeping.{none-linked, one-linked, fitting}
 use Rattle.multiplex.proofs.Steady.{lists, steady, steady-orderly}
 
 -- every frame is heard
-every : ℕ → Bool
+unfoldable pub every : ℕ → Bool
 every t = true
 
 none-missed : (t : ℕ) → missedBefore every t ≤ 127
@@ -35,7 +35,7 @@ none-missed zero = lit≤ tt
 none-missed (suc t) = lit≤ tt
 
 -- a machine that takes every field
-takes : (M : Machine) (a : Air) → ((m f : List ℕ) → M .answer m f ≡ 0) → Listener M a every
+pub takes : (M : Machine) (a : Air) → ((m f : List ℕ) → M .answer m f ≡ 0) → Listener M a every
 takes M a any = record { taken = λ t h. any (kept M a every t) _; near = λ t h b. none-missed t }
 
 field-last : wordFor steady every 7 0 0 ≡ there
@@ -67,7 +67,7 @@ place (suc j) = two
 unfoldable pub moving : Air
 moving = record { origin = 0; config = λ j id. cond (eqb id 7) (place j ∷ []) []; carries = λ t. new 7 0 0 }
 
-place-linked : (j id : ℕ) → Linked (moving .config j id)
+pub place-linked : (j id : ℕ) → Linked (moving .config j id)
 unfolding moving place tdmsOf key badTdms badPair fln1 lln1 fln2 lln2 fcp lcp deletes
 place-linked j id = go (eqb id 7) j
   where
@@ -80,7 +80,7 @@ one-there : (j : ℕ) → 0 < length (moving .config j 7)
 unfolding moving
 one-there j = lit< tt
 
-later-on : (j : ℕ) → moving .config (suc j) 7 ≡ two ∷ []
+pub later-on : (j : ℕ) → moving .config (suc j) 7 ≡ two ∷ []
 unfolding moving place
 later-on j = refl
 
@@ -153,7 +153,7 @@ moving-orderly = record {
   said = λ t id hid c b. told-all t id;
 }
 
-rises : key one < key two
+pub rises : key one < key two
 unfolding tdmsOf key badTdms badPair fln1 lln1 fln2 lln2 fcp lcp deletes
 rises = lit< tt
 

@@ -4,21 +4,25 @@
 --   missedBefore, anyBefore     how many frames were missed since the last that was heard, and whether one was
 --   Listener M a hears     the frames that are heard are those that the machine takes in; up to 127 are missed in a row
 --   Quiet a hears t j e id      no frame that was heard up to t has announced a change of the component, from configuration j on to e
+--   lists xs t             t is one of the fields xs
+--   denies a v id xs c     what frame v carries says that the component's structure is not xs, or no longer
+--   Undenied a hears t j id xs     no frame that was heard up to t has done so, in a configuration after j
 --   Word               what was heard of a component last: nothing, that it is not there, or a field
 --   presentIn, comingIn     what a frame says of its present structure, and of the coming one
 --   presentTo, comingTo     what was heard last up to a frame; what was heard of the coming one counts from its change on
 --   wordFor            the same, for the frame that is asked for
 --   NeverWrong M
 use mathlib.Core.Path.{_≡_}
-use mathlib.Core.Bool.{Bool, true, false, cond, _&&_, _||_}
-use mathlib.Core.List.{List, []}
+use mathlib.Core.Bool.{Bool, true, false, cond, not, _&&_, _||_}
+use mathlib.Core.List.{List, [], _∷_}
 use Prim.Native.Nat.{ℕ, zero, suc, _+_, _≤_, _<_}
 use lib.Dec.{ltb, eqb}
+use lib.ListN.{getD}
 use Rattle.field.specs.Field.{fieldBytes}
 use Rattle.map.specs.Map.{ids}
 use Rattle.multiplex.specs.Broadcast.{countAt, change, epoch}
 use Rattle.multiplex.specs.Heard.{Machine}
-use Rattle.multiplex.specs.Air.{Carries, new, old, gone, vectors, Air, timed, fieldOn, newIn, goneIn, Orderly}
+use Rattle.multiplex.specs.Air.{Carries, new, old, gone, vectors, Air, timed, inForce, fieldOn, newIn, goneIn, Orderly}
 
 unfoldable pub kept : Machine → Air → (ℕ → Bool) → ℕ → List ℕ
 kept M a hears zero = M .start
@@ -46,6 +50,24 @@ announces id c = goneIn id c || (cond (eqb (newIn id c) 0) false true)
 abbrev pub Quiet : Air → (ℕ → Bool) → ℕ → ℕ → ℕ → ℕ → Type 0
 Quiet a hears t j e id =
     (v : ℕ) → v ≤ t → hears v ≡ true → j ≤ epoch (timed a) v → epoch (timed a) v < e → announces id (a .carries v) ≡ false
+
+-- ---- what denies a structure
+
+-- the structure lists the field
+unfoldable pub lists : List ℕ → ℕ → Bool
+lists [] t = false
+lists (x ∷ xs) t = eqb x t || lists xs t
+
+-- the frame says that a structure is not, or no longer, in force: a present field that it does not list, or all ones
+unfoldable pub denies : Air → ℕ → ℕ → List ℕ → Carries → Bool
+denies a v id xs (new k i l) = false
+denies a v id xs (old k i l) = eqb k id && not (lists xs (getD (inForce a v id) i 0))
+denies a v id xs (gone flag k t l) = eqb flag 0 && eqb k id
+denies a v id xs (vectors flag t l) = false
+
+-- no frame that was heard up to t, in a configuration after j, has denied it
+abbrev pub Undenied : Air → (ℕ → Bool) → ℕ → ℕ → ℕ → List ℕ → Type 0
+Undenied a hears t j id xs = (v : ℕ) → v ≤ t → hears v ≡ true → j < epoch (timed a) v → denies a v id xs (a .carries v) ≡ false
 
 -- ---- what was heard last (4.5.4: a field without the update flag speaks of the present configuration, one with it of the coming one, from the
 -- next change on; all ones delete the component)
@@ -99,12 +121,14 @@ wordFor a hears id t u =
 
 -- What is shown of a component, where anything is, is its whole structure in some configuration j; and of every change since none was announced in any
 -- frame that was heard. So it is what is in force, unless a change was announced in no frame that was heard; and no part of a structure
--- is ever shown as the whole.
+-- is ever shown as the whole. A structure whose change was announced in no frame that was heard is shown on until a field that it does not list comes, or all
+-- ones, and no longer: in no configuration after j has a frame that was heard carried a present field that is not one of those shown, or all ones.
 pub record Whole (M : Machine) (a : Air) (hears : ℕ → Bool) (t u id : ℕ) : Type 0 where
   pub from : ℕ
   pub past : from ≤ epoch (timed a) u
   pub fields : M .fields (kept M a hears (suc t)) id (countAt (timed a) u) ≡ a .config from id
   pub quiet : Quiet a hears t from (epoch (timed a) u) id
+  pub undenied : Undenied a hears t from id (a .config from id)
 
 -- t is the last frame that was heard, u the frame that is asked for
 pub record NeverWrong (M : Machine) : Type 0 where

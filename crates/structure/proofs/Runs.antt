@@ -7,6 +7,8 @@
 --   Took s xs due       one more field was taken in: a part again, or all of xs
 --   part-takes          the field that comes in turn
 --   gathered-some       a field that is taken in leaves at least one
+--   Stays s ys m t      all of ys is held on, and t is one of its fields
+--   member-place        the place of a field that a structure has
 --   whole-takes         a field of any structure, where another one is held as whole
 --
 -- Assumes nothing.
@@ -17,7 +19,7 @@ use mathlib.Core.Logic.{_⊎_, inl, inr}
 use Prim.Native.Nat.{ℕ, zero, suc, _+_, _-_, _*_, _%_, _^_, _≤_, _<_}
 use native.Mathlib.Omega.{arith}
 use native.Mathlib.Decide.{decLt, ℕ-discrete}
-use borrow.Author.Tests.{eq-eqb, ne-eqb, eqb-true, le-ltb, ltb-true}
+use borrow.Author.Tests.{eq-eqb, ne-eqb, eqb-true, le-ltb, lt-ltb, ltb-true}
 use lib.Dec.{T, leb, ltb, eqb, lit<}
 use lib.ListN.{length, getD, drop}
 use lib.Seq.{getD-drop}
@@ -30,7 +32,7 @@ use Rattle.structure.specs.Structure.{most, structureSize, allOnes, head
 use Rattle.structure.specs.declared.Structure.{Structure}
 use Rattle.structure.specs.declared.Turn.{Turn}
 use Rattle.structure.specs.declared.Turn.the-variants.{Begins, Joins, Overflows, Completes, Known}
-use Rattle.structure.proofs.Gathering.{Holds, Empty, Alike, head-stored, head-nth, with-head-length, stored-few, alike-empty, beginning-holds, begun, joined, completed, kept-alike, other-begins}
+use Rattle.structure.proofs.Gathering.{Holds, Empty, Alike, head-stored, head-nth, with-head-length, stored-few, alike-empty, alike-holds, beginning-holds, begun, joined, completed, kept-alike, other-begins}
 use Rattle.structure.proofs.Kept.{spoiled-length, spoiled-none, spoiled-head, spoiled-first}
 
 pub record Fields (xs : List ℕ) : Type 0 where
@@ -203,6 +205,42 @@ pub data Took (s xs : List ℕ) (due : ℕ) : Type 0 where
   partly : Part s xs due → Took s xs due
   wholly : (l : ℕ) → l ≤ 1 → Holds s (length xs) xs 1 l → Took s xs due
 
+pub record Stays (s ys : List ℕ) (m t : ℕ) : Type 0 where
+  pub holds : Holds s (length ys) ys 1 m
+  pub place : ℕ
+  pub within : place < length ys
+  pub listed : getD ys place 0 ≡ t
+
+stored-most : (h : Structure) → stored h ≤ h .fields
+unfolding stored
+stored-most h = go (ltb most (h .fields)) refl
+  where
+    go : (b : Bool) → ltb most (h .fields) ≡ b → cond b most (h .fields) ≤ h .fields
+    go true e = omega (arith, ltb-true most (h .fields) e)
+    go false e = omega arith
+
+stored-pos : (h : Structure) → 0 < h .fields → 0 < stored h
+unfolding stored
+stored-pos h p = go (ltb most (h .fields))
+  where
+    go : (b : Bool) → 0 < cond b most (h .fields)
+    go true = lit< tt
+    go false = p
+
+-- a field in turn is one of them
+next-stays : (s ys : List ℕ) (m t l : ℕ) → 0 < length ys → Holds s (length ys) ys 1 m → isNext s t ≡ true → Stays (gathered s t l) ys m t
+next-stays s ys m t l pos h e = go (next-listed s t (stored-pos (headOf s) (omega (arith, pos, h .fields))) e)
+  where
+    go : Listed s t → Stays (gathered s t l) ys m t
+    go (placed j hj is) =
+        let at : j < length ys = omega (arith, hj, stored-most (headOf s), h .fields) in
+        record {
+          holds = alike-holds s (gathered s t l) (length ys) ys 1 m (kept-alike s t l (h .whole) (h .size) e) h;
+          place = j;
+          within = at;
+          listed = sym (h .each j at) ∙ is;
+        }
+
 module _ (xs : List ℕ) (f : Fields xs) (i : ℕ) (hi : i < length xs) (l : ℕ) (hl : l ≤ 1) where
   abbrev t : ℕ
   t = getD xs i 0
@@ -336,11 +374,10 @@ module _ (xs : List ℕ) (f : Fields xs) (i : ℕ) (hi : i < length xs) (l : ℕ
       go (yes q) at = comes-round s j k m hm pos fits h (at ∙ ap (λ (b : Bool). cond b 0 (j + k)) (eq-eqb (j + k) (length xs) q)) q
       go (no q) at = goes-on s j k m hm pos fits h (at ∙ ap (λ (b : Bool). cond b 0 (j + k)) (ne-eqb (j + k) (length xs) q))
 
-  -- where a structure is held as whole: it lists the field, which comes in turn, or this is begun anew
-  pub whole-takes : (s : List ℕ) → length s ≡ structureSize → headOf s .whole ≡ 1 → 0 < stored (headOf s)
-      → (Alike s (gathered s t l) × Listed s t) ⊎ Took (gathered s t l) xs (suc i)
-  whole-takes s ls w pos = go (isNext s t) refl
+  -- where a structure is held as whole: it lists the field, which comes in turn, and is held on; or this is begun anew
+  pub whole-takes : (s ys : List ℕ) (m : ℕ) → 0 < length ys → Holds s (length ys) ys 1 m → Stays (gathered s t l) ys m t ⊎ Took (gathered s t l) xs (suc i)
+  whole-takes s ys m pos h = go (isNext s t) refl
     where
-      go : (b : Bool) → isNext s t ≡ b → (Alike s (gathered s t l) × Listed s t) ⊎ Took (gathered s t l) xs (suc i)
-      go true e = inl (kept-alike s t l w ls e, next-listed s t pos e)
-      go false e = inr (begins-run s (other-begins s t l w e))
+      go : (b : Bool) → isNext s t ≡ b → Stays (gathered s t l) ys m t ⊎ Took (gathered s t l) xs (suc i)
+      go true e = inl (next-stays s ys m t l pos h e)
+      go false e = inr (begins-run s (other-begins s t l (h .whole) e))
