@@ -16,7 +16,7 @@ use borrow.Author.Tests.{eq-eqb, ne-eqb, le-ltb, lt-ltb, ltb-true, ltb-false}
 use lib.Dec.{leb, ltb, eqb}
 use lib.ListN.{length}
 use Rattle.bits.proofs.Rows.{refusal-passed}
-use Rattle.structure.specs.Structure.{most, headOf, said, settledHead}
+use Rattle.structure.specs.Structure.{headOf, said, complete, settledHead}
 use Rattle.structure.specs.declared.Structure.{Structure}
 use Rattle.frames.specs.Counts.{ahead, changes, changing, allHeard}
 use Rattle.frames.specs.declared.Frames.{Frames}
@@ -27,7 +27,6 @@ use Rattle.multiplex.specs.Broadcast.{countAt, epoch}
 use Rattle.multiplex.specs.Heard.{fieldsFrom, shownFields}
 use Rattle.multiplex.specs.Air.{Air, timed}
 use Rattle.multiplex.specs.Sound.{Word, unheard, absent, there, over, comingTo, presentTo, wordFor}
-use Rattle.multiplex.proofs.Standing.{deletion-head}
 use Rattle.multiplex.proofs.Seeing.{head-force, head-coming}
 use Rattle.multiplex.proofs.Distances.{since-same, changes-epoch, epoch-either, epoch-mono}
 use Rattle.multiplex.proofs.Knowing.{Front, some, all, Next, none, delete, piece, sure, full, part-head}
@@ -147,14 +146,14 @@ bit-front a hears n e id due s (all j l hl hj pos h q) = inr (h .whole)
 bit-next : (a : Air) (hears : ℕ → Bool) (n e id due count links : ℕ) (g u : Bool) (s : List ℕ) → Next a hears n e id due count links g u s
     → (headOf s .whole ≡ 0) ⊎ (headOf s .whole ≡ 1)
 bit-next a hears n e id due count links g u s (none em c q) = inl (em .whole)
-bit-next a hears n e id due count links g u s (delete d z) = inl (ap (λ (x : List ℕ). headOf x .whole) d ∙ ap (λ (h : Structure). h .whole) deletion-head)
+bit-next a hears n e id due count links g u s (delete d c) = inl (d .whole)
 bit-next a hears n e id due count links g u s (piece w h p) = inl (part-head s _ due p .0)
-bit-next a hears n e id due count links g u s (sure k pos le c d hl h) = inl (h .whole)
-bit-next a hears n e id due count links g u s (full l hl pos h) = inr (h .whole)
+bit-next a hears n e id due count links g u s (sure k pos le c d hl la h) = inl (h .whole)
+bit-next a hears n e id due count links g u s (full l hl pos la h) = inr (h .whole)
 
 bit-settled : (su : Bool) (h : Structure) → (h .whole ≡ 0) ⊎ (h .whole ≡ 1) → (settledHead su h .whole ≡ 0) ⊎ (settledHead su h .whole ≡ 1)
 unfolding settledHead
-bit-settled true h b = go (ltb 0 (h .fields) && leb (h .fields) most)
+bit-settled true h b = go (complete h)
   where
     go : (x : Bool) → (cond x 1 (h .whole) ≡ 0) ⊎ (cond x 1 (h .whole) ≡ 1)
     go true = inr refl

@@ -7,13 +7,14 @@
 use mathlib.Core.Path.{_≡_, refl, sym, ap, _∙_, subst}
 use mathlib.Core.Bool.{Bool, true, false, cond, _&&_, _||_}
 use mathlib.Core.List.{List, []}
+use mathlib.Core.Logic.{_⊎_, inl, inr}
 use Prim.Native.Nat.{ℕ, suc, _+_, _-_, _%_, _≤_, _<_}
 use native.Mathlib.Omega.{arith}
-use borrow.Author.Tests.{eq-eqb, eqb-true, lt-ltb}
+use borrow.Author.Tests.{eq-eqb, eqb-true, lt-ltb, le-ltb}
 use lib.Dec.{T, leb, ltb, eqb}
 use lib.ListN.{length}
 use Rattle.bits.proofs.Search.{and-left, and-right}
-use Rattle.structure.specs.Structure.{most, headOf, said, settledHead}
+use Rattle.structure.specs.Structure.{most, headOf, said, complete, settledHead}
 use Rattle.structure.specs.declared.Structure.{Structure}
 use Rattle.structure.proofs.Gathering.{Holds}
 use Rattle.frames.specs.Counts.{ahead, until, changing, allHeard}
@@ -23,10 +24,9 @@ use Rattle.multiplex.specs.Broadcast.{countAt, change, epoch, begun}
 use Rattle.multiplex.specs.Heard.{ours, shownFields}
 use Rattle.multiplex.specs.Air.{Air, timed, oldIn, later, lastOld, newTo, goneTo, Said, nothing, described, deleted, Orderly}
 use Rattle.multiplex.specs.Sound.{kept, Listener, Quiet, Undenied, there, wordFor, Whole, NeverWrong}
-use Rattle.multiplex.proofs.Standing.{present, deletion-head}
-use Rattle.multiplex.proofs.Seeing.{head-force, seen-force, head-coming, seen-coming}
+use Rattle.multiplex.proofs.Seeing.{present, head-force, seen-force, head-coming, seen-coming}
 use Rattle.multiplex.proofs.Distances.{epoch-mono}
-use Rattle.multiplex.proofs.Knowing.{Front, some, all, Next, none, delete, piece, sure, full, QuietTo, Silent, Settled, stayed, told, ends, part-head, quiet-over}
+use Rattle.multiplex.proofs.Knowing.{Front, some, all, Next, none, delete, piece, sure, full, QuietTo, Silent, Settled, stays-so, told, ends, part-head, quiet-over}
 use Rattle.multiplex.proofs.Listening.{Known}
 use Rattle.multiplex.proofs.Asked.{shown-good, shown-whole, changing-now, next-now, same-now, not-blank}
 use Rattle.multiplex.proofs.Soundness.{State, silent, since-one, state-at}
@@ -46,13 +46,12 @@ unsaid-silent : (a : Air) (hears : ℕ → Bool) (n e id due count links : ℕ) 
     → said (headOf s) ≡ false → Silent a hears n e id
 unfolding said
 unsaid-silent a hears n e id due count links g u s (none em x y) z = y
-unsaid-silent a hears n e id due count links g u s (delete d q) z =
-    absurd (subst T (sym (ap (λ (x : List ℕ). eqb (headOf x .deleted) 1) d ∙ ap (λ (h : Structure). eqb (h .deleted) 1) deletion-head)
-    ∙ or-right (ltb 0 (headOf s .fields)) (eqb (headOf s .deleted) 1) z) tt)
+unsaid-silent a hears n e id due count links g u s (delete d c) z =
+    absurd (subst T (sym (eq-eqb (headOf s .deleted) 1 (d .deleted)) ∙ or-right (ltb 0 (headOf s .fields)) (eqb (headOf s .deleted) 1) z) tt)
 unsaid-silent a hears n e id due count links g u s (piece b p q) z = absurd (subst T (sym (lt-ltb 0 (headOf s .fields) p) ∙ or-left _ _ z) tt)
-unsaid-silent a hears n e id due count links g u s (sure k pos le c d hl h) z =
+unsaid-silent a hears n e id due count links g u s (sure k pos le c d hl la h) z =
     absurd (subst T (sym (lt-ltb 0 (headOf s .fields) (omega (arith, h .fields, pos))) ∙ or-left (ltb 0 (headOf s .fields)) _ z) tt)
-unsaid-silent a hears n e id due count links g u s (full l hl pos h) z =
+unsaid-silent a hears n e id due count links g u s (full l hl pos la h) z =
     absurd (subst T (sym (lt-ltb 0 (headOf s .fields) (omega (arith, h .fields, pos))) ∙ or-left (ltb 0 (headOf s .fields)) _ z) tt)
 
 -- an announced structure that is shown is all there: it was known to be whole, or nothing more can come of it
@@ -61,42 +60,39 @@ record Complete (s zs : List ℕ) (su : Bool) : Type 0 where
   links : ℕ
   some : 0 < length zs
   holds : Holds s (length zs) zs mark links
-  known : (su || eqb mark 1) ≡ true
+  known : (su ≡ true × headOf s .late ≡ 0) ⊎ (mark ≡ 1)
 
-complete : (a : Air) (hears : ℕ → Bool) (n e id due count links : ℕ) (g u : Bool) (s : List ℕ) (su : Bool) → Next a hears n e id due count links g u s
+-- a head without fields is not made whole
+never-whole : (su : Bool) (h : Structure) → h .fields ≡ 0 → h .whole ≡ 0 → settledHead su h .whole ≡ 1 → ⊥
+unfolding settledHead complete
+never-whole su h f w e = omega (arith, e, go su (eqb (h .late) 0))
+  where
+    never : (x y : Bool) → cond (x && (y && (false && leb (h .fields) most))) 1 (h .whole) ≡ h .whole
+    never true true = refl
+    never true false = refl
+    never false y = refl
+
+    go : (x y : Bool) → cond (x && (y && (ltb 0 (h .fields) && leb (h .fields) most))) 1 (h .whole) ≡ 0
+    go x y = ap (λ (b : Bool). cond (x && (y && (b && leb (h .fields) most))) 1 (h .whole)) (le-ltb 0 (h .fields) (omega (arith, f))) ∙ never x y ∙ w
+
+all-there : (a : Air) (hears : ℕ → Bool) (n e id due count links : ℕ) (g u : Bool) (s : List ℕ) (su : Bool) → Next a hears n e id due count links g u s
     → (su ≡ true → (u ≡ true) × Settled (a .config e id) (a .config (suc e) id) count g) → settledHead su (headOf s) .whole ≡ 1
     → Complete s (a .config (suc e) id) su
 unfolding settledHead
-complete a hears n e id due count links g u s true (none em x y) heard w =
-    let none-there : cond (ltb 0 (headOf s .fields) && leb (headOf s .fields) most) 1 (headOf s .whole) ≡ headOf s .whole =
-    ap (λ (n : ℕ). cond (ltb 0 n && leb n most) 1 (headOf s .whole)) (em .fields) in
-    absurd (omega (arith, w, em .whole, none-there))
-complete a hears n e id due count links g u s false (none em x y) heard w = absurd (omega (arith, w, em .whole))
-complete a hears n e id due count links g u s true (delete d q) heard w =
-    absurd (omega (
-      arith,
-      w,
-      ap (λ (x : List ℕ). cond (ltb 0 (headOf x .fields) && leb (headOf x .fields) most) 1 (headOf x .whole)) d
-          ∙ ap (λ (h : Structure). cond (ltb 0 (h .fields) && leb (h .fields) most) 1 (h .whole)) deletion-head,
-    ))
-complete a hears n e id due count links g u s false (delete d q) heard w =
-    absurd (omega (arith, w, ap (λ (x : List ℕ). headOf x .whole) d ∙ ap (λ (h : Structure). h .whole) deletion-head))
-complete a hears n e id due count links g u s true (piece b p q) heard w = absurd (subst T (sym (heard refl .0) ∙ b) tt)
-complete a hears n e id due count links g u s false (piece b p q) heard w = absurd (omega (arith, w, part-head s _ due q .0))
-complete a hears n e id due count links g u s true (sure i pos le c d hl h) heard w = go (heard refl .1)
+all-there a hears n e id due count links g u s su (none em x y) heard w = absurd (never-whole su (headOf s) (em .fields) (em .whole) w)
+all-there a hears n e id due count links g u s su (delete d c) heard w = absurd (never-whole su (headOf s) (d .fields) (d .whole) w)
+all-there a hears n e id due count links g u s true (piece b p q) heard w = absurd (subst T (sym (heard refl .0) ∙ b) tt)
+all-there a hears n e id due count links g u s false (piece b p q) heard w = absurd (omega (arith, w, part-head s _ due q .0))
+all-there a hears n e id due count links g u s true (sure i pos le c d hl la h) heard w = go (heard refl .1)
   where
     go : Settled (a .config e id) (a .config (suc e) id) count g → Complete s (a .config (suc e) id) true
-    go (stayed z x y) = absurd (omega (arith, pos, c, z))
+    go (stays-so z x y) = absurd (omega (arith, pos, c, z))
     go (told p q) =
         let z : i ≡ length (a .config (suc e) id) = omega (arith, le, q, c) in
-        record { mark = 0; links = links; some = p; holds = subst (λ (x : ℕ). Holds s x (a .config (suc e) id) 0 links) z h; known = refl }
+        record { mark = 0; links = links; some = p; holds = subst (λ (x : ℕ). Holds s x (a .config (suc e) id) 0 links) z h; known = inl (refl, la) }
     go (ends z x) = absurd (omega (arith, pos, le, ap length z))
-complete a hears n e id due count links g u s false (sure i pos le c d hl h) heard w = absurd (omega (arith, w, h .whole))
-complete a hears n e id due count links g u s su (full l hl pos h) heard w = record { mark = 1; links = l; some = pos; holds = h; known = or-yes su }
-  where
-    or-yes : (x : Bool) → (x || true) ≡ true
-    or-yes true = refl
-    or-yes false = refl
+all-there a hears n e id due count links g u s false (sure i pos le c d hl la h) heard w = absurd (omega (arith, w, h .whole))
+all-there a hears n e id due count links g u s su (full l hl pos la h) heard w = record { mark = 1; links = l; some = pos; holds = h; known = inr refl }
 
 module _ (a : Air) (w : Orderly a) (hears : ℕ → Bool) (t : ℕ) (m : List ℕ) (u : Bool) (k : Known a hears t m u) (v id : ℕ) (hid : id < ids)
     (lo : t ≤ v) (hi : v ≤ t + 128) (zero-number : shown m id (countAt (timed a) v) .number ≡ 0)
@@ -184,7 +180,7 @@ module _ (a : Air) (w : Orderly a) (hears : ℕ → Bool) (t : ℕ) (m : List �
       begins-next z = eq-eqb (countAt (timed a) (suc t) % 128) 2 (omega (arith, z))
 
       settled-by : Said a t id → Settled (a .config e id) (a .config (suc e) id) (newTo a id t) (goneTo a id t)
-      settled-by (nothing z g s) = stayed z g s
+      settled-by (nothing z g s) = stays-so z g s
       settled-by (described p x) = told p x
       settled-by (deleted z g) = ends z g
 
@@ -193,7 +189,7 @@ module _ (a : Air) (w : Orderly a) (hears : ℕ → Bool) (t : ℕ) (m : List �
       let on : epoch (timed a) v ≡ suc e = next-now a t v lo hi (sym changing-is ∙ and-left (changing (framesOf m) c) _ q) in
       let su = allHeard (framesOf m) in
       let head = ap (λ (h : Structure). h .whole) (sym (head-coming m id c (k .size) gm q su refl)) ∙ whole-head in
-      let f = complete a hears (suc t) e id _ _ _ _ u (structureAt id 1 m) su (k .next id hid) all-told head in
+      let f = all-there a hears (suc t) e id _ _ _ _ u (structureAt id 1 m) su (k .next id hid) all-told head in
       record {
         from = suc e;
         past = omega (arith, on);

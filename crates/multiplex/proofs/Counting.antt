@@ -79,87 +79,16 @@ pub same-changes : (x : ℕ) → changes x x ≡ false
 unfolding changes
 same-changes x = ap (ltb (ahead 2 x)) (same-since x) ∙ le-ltb (ahead 2 x) 0 (omega arith)
 
--- ---- the frames of a map that missed none
-
-and-true : (x : Bool) → (x && true) ≡ x
-and-true true = refl
-and-true false = refl
-
-pub or-yes : (x : Bool) → (x || true) ≡ true
-or-yes true = refl
-or-yes false = refl
-
-pub known : (x : Bool) → (x ≡ false → ⊥) → x ≡ true
-known true ne = refl
-known false ne = absurd (ne refl)
-
-unfoldable pub frames : Broadcast → ℕ → Frames
-frames b t = record { last = countAt b t; heard = 1; unbroken = cond (begun b t) 1 0 }
+-- ---- the counts of a broadcast
 
 module _ (b : Broadcast) (t : ℕ) where
   pub count-lt : countAt b t < 256
   unfolding countAt
   count-lt = omega arith
 
-  count-next : countAt b (suc t) ≡ (countAt b t + 1) % 256
-  unfolding countAt
-  count-next = omega arith
-
-  pub next-changing : changing (frames b t) (countAt b (suc t)) ≡ change b (suc t)
-  unfolding frames changing change
-  next-changing = changes-next (countAt b t) (countAt b (suc t)) count-lt count-next ∙ begins-two (countAt b (suc t))
-
   pub begins-change : begins (countAt b t) ≡ change b t
   unfolding change
   begins-change = begins-two (countAt b t)
-
-  pub next-again : again (frames b t) (countAt b (suc t)) ≡ false
-  unfolding frames again
-  next-again = other-count (countAt b t) (countAt b (suc t)) count-lt count-next
-
-  pub next-skips : skips (frames b t) (countAt b (suc t)) ≡ false
-  unfolding frames skips
-  next-skips = ap (ltb 1) (one-since (countAt b t) (countAt b (suc t)) count-lt count-next)
-
-  mark-is : (x : Bool) → eqb (cond x 1 0) 1 ≡ x
-  mark-is true = refl
-  mark-is false = refl
-
-  pub next-sure : sureAt (frames b t) (countAt b (suc t)) ≡ begun b t
-  unfolding sureAt frames
-  next-sure = ap (λ (x : Bool). eqb (cond (begun b t) 1 0) 1 && not x) next-skips ∙ and-true (eqb (cond (begun b t) 1 0) 1) ∙ mark-is (begun b t)
-
-  pub frames-good : goodFrames (frames b t) ≡ true
-  unfolding goodFrames frames
-  frames-good = go (begun b t)
-    where
-      go : (x : Bool) → leb (cond x 1 0) 1 ≡ true
-      go true = refl
-      go false = refl
-
--- a change makes it so, and otherwise nothing moves
-marked : (c x : Bool) → _≡_ {A = ℕ} (cond c 1 (cond x 1 0)) (cond (c || x) 1 0)
-marked true x = refl
-marked false x = refl
-
-module _ (b : Broadcast) (t : ℕ) where
-  pub next-frames : framesAfter (frames b t) (countAt b (suc t)) ≡ frames b (suc t)
-  unfolding framesAfter frames begun
-  next-frames =
-      (λ i. record { last = countAt b (suc t); heard = 1; unbroken = cond (next-skips b t i) 0 (cond (begins-change b (suc t) i) 1 (cond (begun b t) 1 0)) })
-      ∙ ap (λ (n : ℕ). record { last = countAt b (suc t); heard = 1; unbroken = n }) (marked (change b (suc t)) (begun b t))
-
-  pub same-changing : changing (frames b t) (countAt b t) ≡ false
-  unfolding frames changing
-  same-changing = same-changes (countAt b t)
-
-  pub heard-all : change b (suc t) ≡ true → allHeard (frames b t) ≡ begun b t
-  unfolding frames allHeard change
-  heard-all q =
-      ap (λ (x : Bool). eqb (cond (begun b t) 1 0) 1 && x)
-      (eq-eqb (until (countAt b t)) 1
-      (until-change (countAt b t) (countAt b (suc t)) (count-lt b t) (count-next b t) (eqb-true (countAt b (suc t) % 128) 2 q)))
-      ∙ and-true (eqb (cond (begun b t) 1 0) 1) ∙ mark-is b t (begun b t)
 
 -- ---- counts of components
 

@@ -21,19 +21,19 @@ use native.Mathlib.Omega.{arith}
 use native.Mathlib.Decide.{ℕ-discrete, decLt}
 use borrow.Author.Tests.{eq-eqb, ne-eqb}
 use lib.Dec.{T, ltb, eqb, lit<}
-use lib.ListN.{length, getD}
+use lib.ListN.{length, getD, drop}
 use Rattle.field.specs.Field.{key}
-use Rattle.structure.specs.Structure.{structureSize, headOf, withHead, gathered, spoiled, deletion, settledHead}
+use Rattle.structure.specs.Structure.{most, structureSize, headOf, gatheringHead, completedHead, gathered, spoiled, noneHead, deletion}
 use Rattle.structure.specs.declared.Structure.{Structure}
-use Rattle.structure.proofs.Gathering.{Holds, Empty, head-stored, begun, joined, completed, kept}
-use Rattle.structure.proofs.Kept.{spoiled-none}
-use Rattle.structure.proofs.Runs.{Fields, Part, empty, stuck, run, spoiled-part, spoiled-whole, spoils, Took, partly, wholly, gathered-some, part-takes, Stays, whole-takes, rises-to}
-use Rattle.map.specs.Map.{ids, mapSize, structureAt, changedFrom}
-use Rattle.map.proofs.Changing.{leftBy, stays, stays-unsaid, goes, settled, emptied, in-force, cleared, blank-empty}
+use Rattle.structure.proofs.Gathering.{Holds, Empty, alike-holds, alike-empty, begun, begun-head, joined, joined-head, completed, completed-head}
+use Rattle.structure.proofs.Kept.{spoiled-none, spoiled-last, none-head, deletion-length}
+use Rattle.structure.proofs.Runs.{Fields, Lasts, Part, empty, stuck, run, spoiled-empty, spoiled-part, spoiled-whole, spoils, Took, partly, wholly, gathered-some, part-takes, open-takes, whole-next, Stays, whole-takes, rises-to}
+use Rattle.map.specs.Map.{ids, mapSize, structureAt, stayed, changedFrom}
+use Rattle.map.proofs.Places.{structure-length}
+use Rattle.map.proofs.Changing.{stayed-sure, stayed-alike, stayed-spoils, settled-empty, settled-spoils, settled-holds, stays, comes-in, goes-out, emptied}
 use Rattle.multiplex.specs.Broadcast.{epoch, Linked}
 use Rattle.multiplex.specs.Air.{old, Air, timed, inForce, turn}
 use Rattle.multiplex.specs.Sound.{announces, lists, denies}
-use Rattle.multiplex.proofs.Standing.{deletion-head, deletion-length}
 use Rattle.multiplex.proofs.Distances.{epoch-mono}
 
 pub linked-fields : (xs : List ℕ) → Linked xs → Fields xs
@@ -56,13 +56,21 @@ pub data Front (a : Air) (hears : ℕ → Bool) (n e id due : ℕ) (s : List ℕ
   all : (j l : ℕ) → l ≤ 1 → j ≤ e → 0 < length (a .config j id) → Holds s (length (a .config j id)) (a .config j id) 1 l
       → QuietTo a hears n j e id → Front a hears n e id due s
 
+-- the component is to be deleted
+pub record Deleting (s : List ℕ) : Type 0 where
+  pub size : length s ≡ structureSize
+  pub fields : headOf s .fields ≡ 0
+  pub whole : headOf s .whole ≡ 0
+  pub deleted : headOf s .deleted ≡ 1
+  pub links : headOf s .links ≤ 1
+
 pub data Next (a : Air) (hears : ℕ → Bool) (n e id due count links : ℕ) (gone u : Bool) (s : List ℕ) : Type 0 where
   none : Empty s → (u ≡ true → (count ≡ 0) × ((gone ≡ false) × (due ≡ 0))) → Silent a hears n e id → Next a hears n e id due count links gone u s
-  delete : s ≡ deletion → a .config (suc e) id ≡ [] → Next a hears n e id due count links gone u s
+  delete : Deleting s → (u ≡ true → (count ≡ 0) × ((gone ≡ true) × (due ≡ 0))) → Next a hears n e id due count links gone u s
   piece : u ≡ false → 0 < headOf s .fields → Part s (a .config (suc e) id) due → Next a hears n e id due count links gone u s
-  sure : (k : ℕ) → 0 < k → k ≤ length (a .config (suc e) id) → count ≡ k → due ≡ k → links ≤ 1 → Holds s k (a .config (suc e) id) 0 links
+  sure : (k : ℕ) → 0 < k → k ≤ length (a .config (suc e) id) → count ≡ k → due ≡ k → links ≤ 1 → headOf s .late ≡ 0 → Holds s k (a .config (suc e) id) 0 links
       → Next a hears n e id due count links gone u s
-  full : (l : ℕ) → l ≤ 1 → 0 < length (a .config (suc e) id) → Holds s (length (a .config (suc e) id)) (a .config (suc e) id) 1 l
+  full : (l : ℕ) → l ≤ 1 → 0 < length (a .config (suc e) id) → Lasts s due → Holds s (length (a .config (suc e) id)) (a .config (suc e) id) 1 l
       → Next a hears n e id due count links gone u s
 
 clash : {A : Type 0} → true ≡ false → A
@@ -75,17 +83,31 @@ part-head s xs due (empty e) = (e .whole, (e .deleted, e .size))
 part-head s xs due (stuck k) = (k .whole, (k .deleted, k .size))
 part-head s xs due (run i k l hl p q d h) = (h .whole, (h .deleted, h .size))
 
-empty-kept : (s : List ℕ) → Empty s → spoiled s ≡ s
-empty-kept s e = spoiled-none s (e .size) (λ i. eqb (e .whole i) 0 && ltb 0 (e .fields i))
+-- a frame was missed, or a change came that nothing was announced of
+deleting-kept : (s : List ℕ) → Deleting s → Deleting (spoiled s)
+deleting-kept s d =
+    let k = spoiled-none s (d .size) (λ i. eqb (d .whole i) 0 && ltb 0 (d .fields i)) in
+    record {
+      size = k .size (d .size);
+      fields = k .fields ∙ d .fields;
+      whole = k .whole ∙ d .whole;
+      deleted = k .deleted ∙ d .deleted;
+      links = omega (arith, k .links, d .links);
+    }
 
-deletion-kept : spoiled deletion ≡ deletion
-deletion-kept =
-    spoiled-none deletion deletion-length
-    (ap (λ (h : Structure). eqb (h .whole) 0 && ltb 0 (h .fields)) deletion-head)
+pub deletion-deleting : Deleting deletion
+unfolding deletion noneHead
+deletion-deleting = record {
+  size = deletion-length;
+  fields = ap (λ (h : Structure). h .fields) (none-head 1);
+  whole = ap (λ (h : Structure). h .whole) (none-head 1);
+  deleted = ap (λ (h : Structure). h .deleted) (none-head 1);
+  links = omega (arith, ap (λ (h : Structure). h .links) (none-head 1));
+}
 
 -- what is whole stays
 whole-kept : (s xs : List ℕ) (k l : ℕ) → Holds s k xs 1 l → Holds (spoiled s) k xs 1 l
-whole-kept s xs k l h = subst (λ (x : List ℕ). Holds x k xs 1 l) (sym (spoiled-whole s (h .whole))) h
+whole-kept s xs k l h = alike-holds s (spoiled s) k xs 1 l (spoiled-whole s (h .size) (h .whole)) h
 
 -- a run from the first field on
 from-first : (s xs : List ℕ) (k l due : ℕ) → l ≤ 1 → 0 < k → k ≤ length xs → due ≡ k → Holds s k xs 0 l → Part s xs due
@@ -102,20 +124,20 @@ module _ (a : Air) (hears : ℕ → Bool) (n e id : ℕ) where
   front-gap due next s (all j l hl hj pos h q) = all j l hl hj pos (whole-kept s _ _ l h) q
 
   stuck-fields : (s xs : List ℕ) (due : ℕ) → Part s xs due → 0 < headOf s .fields → 0 < headOf (spoiled s) .fields
-  stuck-fields s xs due p h = omega (arith, spoils s (part-head s xs due p .0) h .fields)
+  stuck-fields s xs due p h = let k = part-head s xs due p in omega (arith, spoils s (k .1 .1) (k .0) h .fields)
 
   pub next-gap : (due count links : ℕ) (gone u : Bool) (s : List ℕ) → Next a hears n e id due count links gone u s
       → (due' count' links' : ℕ) (gone' : Bool) → Next a hears n e id due' count' links' gone' false (spoiled s)
   next-gap due count links gone u s (none em c q) due' count' links' gone' =
-      none (subst Empty (sym (empty-kept s em)) em) (λ z. clash (sym z)) q
-  next-gap due count links gone u s (delete d z) due' count' links' gone' = delete (ap spoiled d ∙ deletion-kept) z
+      none (spoiled-empty s em) (λ z. clash (sym z)) q
+  next-gap due count links gone u s (delete d c) due' count' links' gone' = delete (deleting-kept s d) (λ z. clash (sym z))
   next-gap due count links gone u s (piece w h p) due' count' links' gone' =
       piece refl (stuck-fields s _ due p h) (spoiled-part s _ _ due due' p)
-  next-gap due count links gone u s (sure k pos le c d hl h) due' count' links' gone' =
+  next-gap due count links gone u s (sure k pos le c d hl la h) due' count' links' gone' =
       let p = from-first s _ k links due hl pos le d h in
       piece refl (stuck-fields s _ due p (omega (arith, h .fields, pos))) (spoiled-part s _ _ due due' p)
-  next-gap due count links gone u s (full l hl pos h) due' count' links' gone' =
-      full l hl pos (whole-kept s _ _ l h)
+  next-gap due count links gone u s (full l hl pos la h) due' count' links' gone' =
+      full l hl pos (inl (spoiled-last s (h .size))) (whole-kept s _ _ l h)
 
 -- ---- a change
 
@@ -140,7 +162,7 @@ quiet-yet a hears n e id past = record {
 
 -- what the coming structure is by then, where the whole configuration was heard
 pub data Settled (xs zs : List ℕ) (count : ℕ) (gone : Bool) : Type 0 where
-  stayed : count ≡ 0 → gone ≡ false → zs ≡ xs → Settled xs zs count gone
+  stays-so : count ≡ 0 → gone ≡ false → zs ≡ xs → Settled xs zs count gone
   told : 0 < length zs → length zs ≤ count → Settled xs zs count gone
   ends : zs ≡ [] → gone ≡ true → Settled xs zs count gone
 
@@ -157,66 +179,101 @@ module _ (a : Air) (hears : ℕ → Bool) (n e id : ℕ) (past : Past a n e) (hi
   abbrev pub After : ℕ → Bool → Type 0
   After due b = Front a hears n (suc e) id due (structureAt id 0 (after b)) × Empty (structureAt id 1 (after b))
 
+  la-size : length A ≡ structureSize
+  la-size = structure-length m lm id 1 hid (lit< tt)
+
+  -- nothing is announced behind a change
+  none-left : (b : Bool) → Empty (structureAt id 1 (after b))
+  none-left b = emptied b m lm id hid
+
   -- a structure that is whole comes in force so
-  applied : (b : Bool) (next v r l : ℕ) → l ≤ 1 → 0 < length (a .config (suc e) id) → Holds A (length (a .config (suc e) id)) (a .config (suc e) id) v l
-      → (b || eqb v 1) ≡ true → After next b
-  applied b next v r l hl pos h w = (
-    all (suc e) l hl (omega arith) pos (settled b m lm id hid _ _ v l h pos w (k .few)) (quiet-yet a hears n (suc e) id (λ x hx. omega (arith, past x hx))),
-    emptied b m lm id hid _ _ v l h pos,
+  applied : (b : Bool) (next v l : ℕ) → l ≤ 1 → 0 < length (a .config (suc e) id) → Holds A (length (a .config (suc e) id)) (a .config (suc e) id) v l
+      → (b ≡ true × headOf A .late ≡ 0) ⊎ (v ≡ 1) → After next b
+  applied b next v l hl pos h w = (
+    subst (Front a hears n (suc e) id next) (sym (comes-in b m lm id hid (omega (arith, h .fields, pos))))
+        (all (suc e) l hl (omega arith) pos (settled-holds b A la-size _ _ v l h pos (k .few) w)
+        (quiet-yet a hears n (suc e) id (λ x hx. omega (arith, past x hx)))),
+    none-left b,
   )
 
-  dropped : (b : Bool) (next : ℕ) → A ≡ deletion → After next b
-  dropped b next d =
-      let one : headOf A .deleted ≡ 1 = ap (λ (x : List ℕ). headOf x .deleted) d ∙ ap (λ (h : Structure). h .deleted) deletion-head in
-      (some (empty (goes b m lm id hid one 0 (lit< tt))), goes b m lm id hid one 1 (lit< tt))
+  dropped : (b : Bool) (next : ℕ) → Deleting A → After next b
+  dropped b next d = (
+    subst (Front a hears n (suc e) id next) (sym (goes-out b m lm id hid (d .deleted)))
+        (some (empty (settled-empty b A la-size (d .fields) (d .whole) (d .links)))),
+    none-left b,
+  )
 
   -- nothing is announced
-  unsaid : (b : Bool) (next : ℕ) → Empty A → Front a hears n (suc e) id next (leftBy b F) → After next b
+  unsaid : (b : Bool) (next : ℕ) → Empty A → Front a hears n (suc e) id next (stayed b F) → After next b
   unsaid b next em f = (
     subst (Front a hears n (suc e) id next) (sym (stays b m lm id hid (em .fields) (em .deleted))) f,
-    subst Empty (sym (stays-unsaid b m lm id hid (em .fields) (em .deleted))) em,
+    none-left b,
   )
+
+  lf-size : length F ≡ structureSize
+  lf-size = structure-length m lm id 0 hid (lit< tt)
 
   -- a part that comes in force by a change that is not sure
   spoilt : (next due : ℕ) → 0 < headOf A .fields → Part A (a .config (suc e) id) due → After next false
-  unfolding settledHead
-  spoilt next due pos p =
-      let h = part-head A _ due p in
-      let head : headOf (withHead (settledHead false (headOf A)) A) ≡ settledHead false (headOf A) = head-stored A (h .1 .1) (settledHead false (headOf A)) in
-      let w : headOf (withHead (settledHead false (headOf A)) A) .whole ≡ 0 = ap (λ (x : Structure). x .whole) head ∙ h .0 in
-      let f : 0 < headOf (withHead (settledHead false (headOf A)) A) .fields = omega (arith, ap (λ (x : Structure). x .fields) head, pos) in (
-        subst (Front a hears n (suc e) id next) (sym (in-force false m lm id hid pos (h .1 .0))) (some (stuck (spoils _ w f))),
-        blank-empty _ (cleared false m lm id hid pos (h .1 .0)),
-      )
+  spoilt next due pos p = (
+    subst (Front a hears n (suc e) id next) (sym (comes-in false m lm id hid pos))
+        (some (stuck (settled-spoils false A la-size refl (part-head A _ due p .0) pos))),
+    none-left false,
+  )
+
+  -- what is being gathered, behind such a change
+  part-stays : (xs ys : List ℕ) (due next : ℕ) → Part F xs due → Part (stayed false F) ys next
+  part-stays xs ys due next (empty em) = empty (alike-empty F (stayed false F) (stayed-alike F lf-size false (λ i. eqb (em .whole i) 0 && ltb 0 (em .fields i))) em)
+  part-stays xs ys due next (stuck s) = stuck (stayed-spoils F lf-size (s .whole) (omega (arith, s .fields)))
+  part-stays xs ys due next (run i k l hl p q d h) = stuck (stayed-spoils F lf-size (h .whole) (omega (arith, h .fields, p)))
+
+  -- and behind one that is sure
+  part-kept : (xs : List ℕ) (due : ℕ) → Part F xs due → Part (stayed true F) xs due
+  part-kept xs due (empty em) = empty (alike-empty F (stayed true F) (stayed-sure F lf-size) em)
+  part-kept xs due (stuck s) =
+      let y = stayed-sure F lf-size in
+      stuck (record {
+        size = y .size (s .size);
+        fields = y .fields ∙ s .fields;
+        whole = y .whole ∙ s .whole;
+        deleted = y .deleted ∙ s .deleted;
+        links = omega (arith, y .links, s .links);
+        first = y .each 0 ∙ s .first;
+      })
+  part-kept xs due (run i k l hl p q d h) = run i k l hl p q d (alike-holds F (stayed true F) k (drop i xs) 0 l (stayed-sure F lf-size) h)
+
+  whole-stays : (b : Bool) (k : ℕ) (xs : List ℕ) (l : ℕ) → Holds F k xs 1 l → Holds (stayed b F) k xs 1 l
+  whole-stays b k xs l h =
+      alike-holds F (stayed b F) k xs 1 l (stayed-alike F lf-size b (λ i. eqb (h .whole i) 0 && ltb 0 (headOf F .fields))) h
 
   pub front-unsure : (due next dn count links : ℕ) (gone u : Bool) → Front a hears n e id due F → Next a hears n e id dn count links gone u A → After next false
-  front-unsure due next dn count links gone u (some p) (none em c q) = unsaid false next em (some (spoiled-part F _ _ due next p))
+  front-unsure due next dn count links gone u (some p) (none em c q) = unsaid false next em (some (part-stays _ _ due next p))
   front-unsure due next dn count links gone u (all j l hl hj pos h z) (none em c q) =
       unsaid false next em
-      (all j l hl (omega arith) pos (whole-kept F _ _ l h) (quiet-over a hears n j e id z q))
-  front-unsure due next dn count links gone u f (delete d z) = dropped false next d
+      (all j l hl (omega arith) pos (whole-stays false _ _ l h) (quiet-over a hears n j e id z q))
+  front-unsure due next dn count links gone u f (delete d c) = dropped false next d
   front-unsure due next dn count links gone u f (piece w h p) = spoilt next dn h p
-  front-unsure due next dn count links gone u f (sure i pos le c d hl h) =
+  front-unsure due next dn count links gone u f (sure i pos le c d hl la h) =
       spoilt next dn (omega (arith, h .fields, pos)) (from-first A _ i links dn hl pos le d h)
-  front-unsure due next dn count links gone u f (full l hl pos h) = applied false next 1 l l hl pos h refl
+  front-unsure due next dn count links gone u f (full l hl pos la h) = applied false next 1 l hl pos h (inr refl)
 
   pub front-sure : (due next dn count links : ℕ) (gone : Bool) → (a .config (suc e) id ≡ a .config e id → next ≡ due)
       → Settled (a .config e id) (a .config (suc e) id) count gone
       → Front a hears n e id due F → Next a hears n e id dn count links gone true A → After next true
-  front-sure due next dn count links gone on (stayed c0 g0 z) (some p) (none em c q) =
-      unsaid true next em (some (subst (λ (x : List ℕ). Part F x next) (sym z) (subst (Part F (a .config e id)) (sym (on z)) p)))
-  front-sure due next dn count links gone on (stayed c0 g0 z) (all j l hl hj pos h y) (none em c q) =
-      unsaid true next em (all j l hl (omega arith) pos h (quiet-over a hears n j e id y q))
+  front-sure due next dn count links gone on (stays-so c0 g0 z) (some p) (none em c q) =
+      unsaid true next em (some (subst (λ (x : List ℕ). Part (stayed true F) x next) (sym z) (subst (Part (stayed true F) (a .config e id)) (sym (on z)) (part-kept _ due p))))
+  front-sure due next dn count links gone on (stays-so c0 g0 z) (all j l hl hj pos h y) (none em c q) =
+      unsaid true next em (all j l hl (omega arith) pos (whole-stays true _ _ l h) (quiet-over a hears n j e id y q))
   front-sure due next dn count links gone on (told p le) f (none em c q) = absurd (omega (arith, p, le, c refl .0))
   front-sure due next dn count links gone on (ends z g1) f (none em c q) = clash (sym g1 ∙ c refl .1 .0)
-  front-sure due next dn count links gone on st f (delete d z) = dropped true next d
+  front-sure due next dn count links gone on st f (delete d c) = dropped true next d
   front-sure due next dn count links gone on st f (piece w h p) = clash w
-  front-sure due next dn count links gone on (stayed c0 g0 z) f (sure i pos le c d hl h) = absurd (omega (arith, pos, c, c0))
-  front-sure due next dn count links gone on (told p le2) f (sure i pos le c d hl h) =
+  front-sure due next dn count links gone on (stays-so c0 g0 z) f (sure i pos le c d hl la h) = absurd (omega (arith, pos, c, c0))
+  front-sure due next dn count links gone on (told p le2) f (sure i pos le c d hl la h) =
       let z : i ≡ length (a .config (suc e) id) = omega (arith, le, le2, c) in
-      applied true next 0 links links hl p (subst (λ (x : ℕ). Holds A x (a .config (suc e) id) 0 links) z h) refl
-  front-sure due next dn count links gone on (ends z g1) f (sure i pos le c d hl h) = absurd (omega (arith, pos, le, ap length z))
-  front-sure due next dn count links gone on st f (full l hl pos h) = applied true next 1 l l hl pos h refl
+      applied true next 0 links hl p (subst (λ (x : ℕ). Holds A x (a .config (suc e) id) 0 links) z h) (inl (refl, la))
+  front-sure due next dn count links gone on (ends z g1) f (sure i pos le c d hl la h) = absurd (omega (arith, pos, le, ap length z))
+  front-sure due next dn count links gone on st f (full l hl pos la h) = applied true next 1 l hl pos h (inr refl)
 
 -- ---- a field
 
@@ -276,7 +333,7 @@ module _ (a : Air) (hears : ℕ → Bool) (n e id : ℕ) (now : epoch (timed a) 
 
   took-front : (due : ℕ) (s : List ℕ) → 0 < length (a .config e id) → Took s (a .config e id) due → Front a hears (suc n) e id due s
   took-front due s pos (partly p) = some p
-  took-front due s pos (wholly l hl h) = all e l hl (omega arith) pos h (quiet-yet a hears (suc n) e id past-now)
+  took-front due s pos (wholly l hl h la) = all e l hl (omega arith) pos h (quiet-yet a hears (suc n) e id past-now)
 
   -- a present field: a list that is whole is held on only where it lists the field
   pub front-old : Linked (a .config e id) → (i l due : ℕ) (s : List ℕ) → a .carries n ≡ old id i l → i < length (a .config e id) → l ≤ 1
@@ -286,7 +343,7 @@ module _ (a : Air) (hears : ℕ → Bool) (n e id : ℕ) (now : epoch (timed a) 
   front-old k i l due s is hi hl order (some p) =
       took-front (suc i) _ (omega arith) (part-takes _ (linked-fields _ k) i hi l hl s due order p)
   front-old k i l due s is hi hl order (all j m hm hj pos h q) =
-      go (whole-takes _ (linked-fields _ k) i hi l hl s (a .config j id) m h)
+      go (whole-takes _ (linked-fields _ k) i hi l hl s (a .config j id) m pos h)
     where
       here : Stays (gathered s (getD (a .config e id) i 0) l) (a .config j id) m (getD (a .config e id) i 0)
           → denies a n id (a .config j id) (a .carries n) ≡ false
@@ -305,15 +362,15 @@ module _ (a : Air) (hears : ℕ → Bool) (n e id : ℕ) (now : epoch (timed a) 
   pub next-on : (due count links : ℕ) (gone u : Bool) (s : List ℕ) → announces id (a .carries n) ≡ false
       → Next a hears n e id due count links gone u s → Next a hears (suc n) e id due count links gone u s
   next-on due count links gone u s here (none em c q) = none em c (silent-on here q)
-  next-on due count links gone u s here (delete d z) = delete d z
+  next-on due count links gone u s here (delete d c) = delete d c
   next-on due count links gone u s here (piece w h p) = piece w h p
-  next-on due count links gone u s here (sure k pos le c d hl h) = sure k pos le c d hl h
-  next-on due count links gone u s here (full l hl pos h) = full l hl pos h
+  next-on due count links gone u s here (sure k pos le c d hl la h) = sure k pos le c d hl la h
+  next-on due count links gone u s here (full l hl pos la h) = full l hl pos la h
 
   took-next : (due count links : ℕ) (gone u : Bool) (s : List ℕ) → u ≡ false → 0 < length (a .config (suc e) id) → 0 < headOf s .fields
       → Took s (a .config (suc e) id) due → Next a hears (suc n) e id due count links gone u s
   took-next due count links gone u s w pos f (partly p) = piece w f p
-  took-next due count links gone u s w pos f (wholly l hl h) = full l hl pos h
+  took-next due count links gone u s w pos f (wholly l hl h la) = full l hl pos la h
 
   module _ (k : Linked (a .config (suc e) id)) (i l : ℕ) (hi : i < length (a .config (suc e) id)) (hl : l ≤ 1) where
     abbrev zs : List ℕ
@@ -327,8 +384,10 @@ module _ (a : Air) (hears : ℕ → Bool) (n e id : ℕ) (now : epoch (timed a) 
 
     -- the next of a run of which nothing was missed
     sure-takes : (c links : ℕ) (s : List ℕ) → 0 < c → c ≤ length zs → i ≡ cond (eqb c (length zs)) 0 c → (i ≡ c → l ≡ links)
-        → Holds s c zs 0 links → (count : ℕ) (gone u : Bool) → count ≡ c → Next a hears (suc n) e id (suc i) (count + 1) l gone u (gathered s t l)
-    sure-takes c links s pos le at linked h count gone u ec = go (ℕ-discrete c (length zs))
+        → headOf s .late ≡ 0 → Holds s c zs 0 links → (count : ℕ) (gone u : Bool) → count ≡ c
+        → Next a hears (suc n) e id (suc i) (count + 1) l gone u (gathered s t l)
+    unfolding completedHead gatheringHead
+    sure-takes c links s pos le at linked la h count gone u ec = go (ℕ-discrete c (length zs))
       where
         f : Fields zs
         f = linked-fields zs k
@@ -336,9 +395,11 @@ module _ (a : Air) (hears : ℕ → Bool) (n e id : ℕ) (now : epoch (timed a) 
         go : Dec (c ≡ length zs) → Next a hears (suc n) e id (suc i) (count + 1) l gone u (gathered s t l)
         go (yes q) =
             let z : i ≡ 0 = at ∙ ap (λ (b : Bool). cond b 0 c) (eq-eqb c (length zs) q) in
-            full l hl (omega arith)
-            (subst (λ (x : ℕ). Holds (gathered s t l) x zs 1 l) q
-            (completed s zs c t l links h pos (omega (arith, k .few, q)) (ap (λ (j : ℕ). getD zs j 0) z) (falls z (ℕ-discrete (c - 1) 0))))
+            let is : t ≡ getD zs 0 0 = ap (λ (j : ℕ). getD zs j 0) z in
+            let down = falls z (ℕ-discrete (c - 1) 0) in
+            let room : c ≤ most = omega (arith, k .few, q) in
+            full l hl (omega arith) (inr (ap (λ (x : Structure). x .last) (completed-head s zs c t l links h pos room is down) ∙ ap suc (sym z)))
+            (subst (λ (x : ℕ). Holds (gathered s t l) x zs 1 l) q (completed s zs c t l links h pos room is down))
           where
             falls : i ≡ 0 → Dec (c - 1 ≡ 0) → key t ≤ key (getD zs (c - 1) 0)
             falls z (yes r) = omega (arith, ap (λ (j : ℕ). key (getD zs j 0)) (z ∙ sym r))
@@ -346,31 +407,49 @@ module _ (a : Air) (hears : ℕ → Bool) (n e id : ℕ) (now : epoch (timed a) 
         go (no q) =
             let z : i ≡ c = at ∙ ap (λ (b : Bool). cond b 0 c) (ne-eqb c (length zs) q) in
             let up = rises-to zs f (c - 1) i (omega (arith, z, pos)) hi in
+            let h' = subst (λ (x : ℕ). Holds s c zs 0 x) (sym (linked z)) h in
+            let room : c < most = omega (arith, k .few, le, q) in
+            let is : t ≡ getD zs c 0 = ap (λ (j : ℕ). getD zs j 0) z in
             sure (c + 1) (omega arith) (omega (arith, le, q)) (ap (λ (x : ℕ). x + 1) ec) (next-one z) hl
-            (joined s zs c t l (subst (λ (x : ℕ). Holds s c zs 0 x) (sym (linked z)) h) pos (omega (arith, k .few, le, q)) small (ap (λ (j : ℕ). getD zs j 0) z) up)
+            (ap (λ (x : Structure). x .late) (joined-head s zs c t l h' pos room small is up) ∙ la)
+            (joined s zs c t l h' pos room small is up)
           where
             next-one : i ≡ c → suc i ≡ c + 1
             next-one z = omega (arith, z)
+
+    -- the first of which nothing was missed
+    sure-first : (count due : ℕ) (s : List ℕ) (gone : Bool) → headOf s .fields ≡ 0 → headOf s .whole ≡ 0 → count ≡ 0 → due ≡ 0 → (due ≡ 0 → i ≡ 0)
+        → Next a hears (suc n) e id (suc i) (count + 1) l gone true (gathered s t l)
+    sure-first count due s gone f w c d first =
+        let z : i ≡ 0 = first d in
+        let is : t ≡ getD zs 0 0 = ap (λ (j : ℕ). getD zs j 0) z in
+        sure 1 (lit< tt) (omega arith) (ap (λ (x : ℕ). x + 1) c) (ap suc z) hl
+        (ap (λ (x : Structure). x .late) (begun-head s f w t l zs small is)) (begun s f w t l zs small is)
 
     pub next-new : (due count links : ℕ) (gone u : Bool) (s : List ℕ)
         → ((j : ℕ) → due ≡ suc j → (i ≡ turn (length zs) j) × (i ≡ suc j → l ≡ links)) → (u ≡ true → due ≡ 0 → i ≡ 0)
         → Next a hears n e id due count links gone u s → Next a hears (suc n) e id (suc i) (count + 1) l gone u (gathered s t l)
     unfolding turn
     next-new due count links gone true s order first (none em c q) =
-        let z : i ≡ 0 = first refl (c refl .1 .1) in
-        sure 1 (lit< tt) (omega arith) (ap (λ (x : ℕ). x + 1) (c refl .0)) (ap suc z) hl
-        (begun s em t l zs small (ap (λ (j : ℕ). getD zs j 0) z))
+        let y = c refl in
+        sure-first count due s gone (em .fields) (em .whole) (y .0) (y .1 .1) (first refl)
     next-new due count links gone false s order first (none em c q) =
         took-next (suc i) (count + 1) l gone false _ refl (omega arith) (gathered-some s t l (em .size) (em .whole) small)
-        (part-takes zs (linked-fields zs k) i hi l hl s due (λ j e. order j e .0) (empty em))
-    next-new due count links gone u s order first (delete d z) = absurd (omega (arith, hi, ap length z))
+        (open-takes zs (linked-fields zs k) i hi l hl s (em .fields) (em .whole))
+    next-new due count links gone true s order first (delete d c) =
+        let y = c refl in
+        sure-first count due s gone (d .fields) (d .whole) (y .0) (y .1 .1) (first refl)
+    next-new due count links gone false s order first (delete d c) =
+        took-next (suc i) (count + 1) l gone false _ refl (omega arith) (gathered-some s t l (d .size) (d .whole) small)
+        (open-takes zs (linked-fields zs k) i hi l hl s (d .fields) (d .whole))
     next-new due count links gone u s order first (piece w h p) =
         let x = part-head s zs due p in
         took-next (suc i) (count + 1) l gone u _ w (omega arith) (gathered-some s t l (x .1 .1) (x .0) small)
         (part-takes zs (linked-fields zs k) i hi l hl s due (λ j e. order j e .0) p)
-    next-new due count links gone u s order first (sure c pos le ec d hk h) =
+    next-new due count links gone u s order first (sure c pos le ec d hk la h) =
         let z : suc (c - 1) ≡ c = omega (arith, pos) in
         let o = order (c - 1) (d ∙ sym z) in
-        sure-takes c links s pos le (o .0 ∙ ap (λ (x : ℕ). cond (eqb x (length zs)) 0 x) z) (λ q. o .1 (q ∙ sym z)) h count gone u ec
-    next-new due count links gone u s order first (full m hm pos h) =
-        full m hm pos (subst (λ (x : List ℕ). Holds x (length zs) zs 1 m) (sym (kept s zs (length zs) t l m i h (k .few) hi refl)) h)
+        sure-takes c links s pos le (o .0 ∙ ap (λ (x : ℕ). cond (eqb x (length zs)) 0 x) z) (λ q. o .1 (q ∙ sym z)) la h count gone u ec
+    next-new due count links gone u s order first (full m hm pos la h) =
+        let x = whole-next zs (linked-fields zs k) i hi l hl s due m h la (λ j e. order j e .0) in
+        full m hm pos (inr (x .1)) (x .0)

@@ -14,25 +14,21 @@ use Prim.Native.Nat.{ℕ, zero, suc, _+_, _-_, _<_}
 use native.Mathlib.Omega.{arith}
 use native.Mathlib.Decide.{ℕ-discrete}
 use borrow.Author.Tests.{eq-eqb, ne-eqb}
-use lib.Dec.{eqb, lit<}
+use lib.Dec.{T, ltb, eqb, lit<}
 use lib.ListN.{length, getD}
-use Rattle.bits.specs.Bits.{blank}
-use Rattle.bits.proofs.Storing.{blank-length}
 use Rattle.field.specs.Field.{panning}
-use Rattle.structure.specs.Structure.{structureSize, gathered, deletion}
-use Rattle.structure.proofs.Kept.{gathered-length}
+use Rattle.structure.specs.Structure.{structureSize, headOf, gathered, absence, deletion, certainly}
+use Rattle.structure.proofs.Kept.{gathered-length, absence-length, absence-empty, deletion-length}
 use Rattle.structure.proofs.Runs.{empty}
 use Rattle.frames.specs.declared.Frames.{Frames}
 use Rattle.map.specs.Map.{ids, mapSize, structureAt, withStructure, framesOf, withFrames}
 use Rattle.map.specs.Calls.{putIn, takenIn}
 use Rattle.map.proofs.Places.{structure-length, structure-same, structure-other, with-structure-length, with-frames-length, structures-kept, frames-stored}
-use Rattle.map.proofs.Changing.{blank-empty}
 use Rattle.multiplex.specs.Broadcast.{countAt, change, epoch, begun}
 use Rattle.multiplex.specs.Air.{Carries, new, old, gone, vectors, Air, timed, carriedAs, fieldOn, newIn, oldIn, goneIn, later, lastOld, lastNew, linkOf, linksNew, one, newBefore, newTo, goneBefore, goneTo, inForce, coming, InTurn, nothing, Orderly}
-use Rattle.multiplex.specs.Sound.{announces, lists, denies, Word, unheard, absent, there, over, presentIn, comingIn, comingBefore, comingTo, presentBefore, presentTo}
-use Rattle.multiplex.proofs.Words.{Words, words-as, words-force, words-dropped, words-told, words-ends, some-old, some-new}
-use Rattle.multiplex.proofs.Standing.{deletion-length}
-use Rattle.multiplex.proofs.Knowing.{Front, some, all, Next, delete, front-on, front-old, next-on, next-new}
+use Rattle.multiplex.specs.Sound.{inRow, announces, lists, denies, Word, unheard, absent, there, over, presentIn, comingIn, comingBefore, comingTo, presentBefore, presentTo}
+use Rattle.multiplex.proofs.Words.{Words, Sure, sure-as, words-as, words-force, words-dropped, words-told, words-ends, some-old, some-new}
+use Rattle.multiplex.proofs.Knowing.{Front, some, all, Next, delete, deletion-deleting, front-on, front-old, next-on, next-new}
 
 -- ---- what is held
 
@@ -45,15 +41,20 @@ newLast a id t = later (newIn id (a .carries t)) (lastNew a id t)
 abbrev linkLast : Air → ℕ → ℕ → ℕ
 linkLast a id t = cond (eqb (newIn id (a .carries t)) 0) (linksNew a id t) (linkOf (a .carries t))
 
+-- as far as the byte goes
+unfoldable pub capped : ℕ → ℕ
+capped n = cond (ltb n 255) n 255
+
 pub record Known (a : Air) (hears : ℕ → Bool) (t : ℕ) (m : List ℕ) (u : Bool) : Type 0 where
   pub size : length m ≡ mapSize
-  pub frames : framesOf m ≡ record { last = countAt (timed a) t; heard = 1; unbroken = cond u 1 0 }
+  pub frames : framesOf m ≡ record { last = countAt (timed a) t; heard = 1; unbroken = cond u 1 0; row = capped (inRow hears t) }
   pub begun : u ≡ true → begun (timed a) t ≡ true
   pub front : (id : ℕ) → id < ids → Front a hears (suc t) (epoch (timed a) t) id (oldLast a id t) (structureAt id 0 m)
   pub next : (id : ℕ) → id < ids
       → Next a hears (suc t) (epoch (timed a) t) id (newLast a id t) (newTo a id t) (linkLast a id t) (goneTo a id t) u (structureAt id 1 m)
   pub heard : hears t ≡ true
   pub words : (id : ℕ) → id < ids → Words (presentTo a hears id t) (comingTo a hears id t) (structureAt id 0 m) (structureAt id 1 m)
+  pub sure : (id : ℕ) → id < ids → Sure (inForce a t id) (coming a t id) (structureAt id 0 m) (structureAt id 1 m)
 
 pub record Before (a : Air) (hears : ℕ → Bool) (t : ℕ) (m : List ℕ) (u : Bool) : Type 0 where
   pub size : length m ≡ mapSize
@@ -62,6 +63,7 @@ pub record Before (a : Air) (hears : ℕ → Bool) (t : ℕ) (m : List ℕ) (u :
   pub next : (id : ℕ) → id < ids
       → Next a hears t (epoch (timed a) t) id (lastNew a id t) (newBefore a id t) (linksNew a id t) (goneBefore a id t) u (structureAt id 1 m)
   pub words : (id : ℕ) → id < ids → Words (presentBefore a hears id t) (comingBefore a hears id t) (structureAt id 0 m) (structureAt id 1 m)
+  pub sure : (id : ℕ) → id < ids → Sure (inForce a t id) (coming a t id) (structureAt id 0 m) (structureAt id 1 m)
 
 pub front-as : (a : Air) (hears : ℕ → Bool) (n e id due : ℕ) (s : List ℕ) (e' due' : ℕ) → e ≡ e' → due ≡ due'
     → Front a hears n e id due s → Front a hears n e' id due' s
@@ -76,6 +78,28 @@ next-as a hears n e id due count links g u s e' due' count' links' g' p q r v w 
     (subst (λ (x : ℕ). Next a hears n e id due x links' g' u s) r
     (subst (λ (x : ℕ). Next a hears n e id due count x g' u s) v
     (subst (λ (x : Bool). Next a hears n e id due count links x u s) w f))))
+
+-- where no field of the coming structure was carried, none was last
+none-last : (a : Air) (id t : ℕ) → newBefore a id t ≡ 0 → lastNew a id t ≡ 0
+unfolding newBefore lastNew later
+none-last a id zero z = refl
+none-last a id (suc t) z = go (change (timed a) (suc t)) (newIn id (a .carries t)) z (none-last a id t)
+  where
+    go : (b : Bool) (n : ℕ) → cond b 0 (newBefore a id t + one n) ≡ 0 → (newBefore a id t ≡ 0 → lastNew a id t ≡ 0) → cond b 0 (later n (lastNew a id t)) ≡ 0
+    go true n z r = refl
+    go false zero z r = r (omega (arith, z))
+    go false (suc n) z r = absurd (omega (arith, z, ap (λ (b : Bool). newBefore a id t + cond b 0 1) (ne-eqb (suc n) 0 (λ q. omega (arith, q)))))
+
+clash : {A : Type 0} → true ≡ false → A
+clash e = absurd (subst T e tt)
+
+absence-certainly : certainly (headOf absence) ≡ false
+unfolding certainly
+absence-certainly = ap (λ (n : ℕ). eqb (headOf absence .certain) 1 && ltb 0 n) (absence-empty .fields) ∙ no (eqb (headOf absence .certain) 1)
+  where
+    no : (b : Bool) → (b && false) ≡ false
+    no true = refl
+    no false = refl
 
 -- ---- the field of a frame
 
@@ -126,6 +150,7 @@ module _ (a : Air) (w : Orderly a) (hears : ℕ → Bool) (t : ℕ) (m : List �
         → Next a hears (suc t) now id (later (newIn id c) (lastNew a id t)) (newBefore a id t + one (newIn id c))
         (cond (eqb (newIn id c) 0) (linksNew a id t) (linkOf c)) (goneBefore a id t || goneIn id c) u (structureAt id 1 x)
     pub words : (id : ℕ) → id < ids → WordsAt c id (structureAt id 0 x) (structureAt id 1 x)
+    pub sure : (id : ℕ) → id < ids → Sure (inForce a t id) (coming a t id) (structureAt id 0 x) (structureAt id 1 x)
 
   -- the announced structure of one component, by its bytes
   abbrev AtIs : Carries → ℕ → List ℕ → Type 0
@@ -165,6 +190,24 @@ module _ (a : Air) (w : Orderly a) (hears : ℕ → Bool) (t : ℕ) (m : List �
       go (yes e) = f e
       go (no e) = g e
 
+  -- of one structure of one component
+  module _ (k : ℕ) (hk : k < ids) (s : List ℕ) (ls : length s ≡ structureSize) where
+    sure-force : (certainly (headOf s) ≡ true → 0 < length (inForce a t k)) → (id : ℕ) → id < ids
+        → Sure (inForce a t id) (coming a t id) (structureAt id 0 (withStructure k 0 s m)) (structureAt id 1 (withStructure k 0 s m))
+    sure-force c id hid = pick id k
+        (λ e. subst (λ (j : ℕ). Sure (inForce a t j) (coming a t j) (structureAt j 0 (withStructure k 0 s m)) (structureAt j 1 (withStructure k 0 s m))) (sym e)
+        (sure-as (sym (put-at k 0 hk (lit< tt) s ls)) (sym (put-off k 0 hk (lit< tt) s ls k 1 (lit< tt) (λ p q. omega (arith, q))))
+        (record { front = c; next = h .sure k hk .next })))
+        (λ e. sure-as (sym (put-off k 0 hk (lit< tt) s ls id 0 (lit< tt) (λ p q. e p))) (sym (put-off k 0 hk (lit< tt) s ls id 1 (lit< tt) (λ p q. e p))) (h .sure id hid))
+
+    sure-coming : (0 < headOf s .fields → 0 < length (coming a t k)) → (id : ℕ) → id < ids
+        → Sure (inForce a t id) (coming a t id) (structureAt id 0 (withStructure k 1 s m)) (structureAt id 1 (withStructure k 1 s m))
+    sure-coming c id hid = pick id k
+        (λ e. subst (λ (j : ℕ). Sure (inForce a t j) (coming a t j) (structureAt j 0 (withStructure k 1 s m)) (structureAt j 1 (withStructure k 1 s m))) (sym e)
+        (sure-as (sym (put-off k 1 hk (lit< tt) s ls k 0 (lit< tt) (λ p q. omega (arith, q)))) (sym (put-at k 1 hk (lit< tt) s ls))
+        (record { front = h .sure k hk .front; next = c })))
+        (λ e. sure-as (sym (put-off k 1 hk (lit< tt) s ls id 0 (lit< tt) (λ p q. e p))) (sym (put-off k 1 hk (lit< tt) s ls id 1 (lit< tt) (λ p q. e p))) (h .sure id hid))
+
   abbrev gather : ℕ → ℕ → ℕ → ℕ → List ℕ
   gather k v t l = gathered (structureAt k v m) t l
 
@@ -190,6 +233,7 @@ module _ (a : Air) (w : Orderly a) (hears : ℕ → Bool) (t : ℕ) (m : List �
         words = λ id hid. pick id k
             (λ e. subst (λ (j : ℕ). WordsAt (new k i l) j (structureAt j 0 (withStructure k 1 s m)) (structureAt j 1 (withStructure k 1 s m))) (sym e) (heard-new hk ls))
             (λ e. words-off k 1 hk (lit< tt) s ls (new k i l) id hid e refl (ap (λ (b : Bool). cond b there unheard) (ne-eqb k id (λ q. e (sym q)))));
+        sure = sure-coming k hk s ls (λ _. omega (arith, law .1 .0));
       }
     where
       heard-new : (hk : k < ids) → length (gather k 1 (getD (coming a t k) i 0) l) ≡ structureSize
@@ -238,6 +282,7 @@ module _ (a : Air) (w : Orderly a) (hears : ℕ → Bool) (t : ℕ) (m : List �
         words = λ id hid. pick id k
             (λ e. subst (λ (j : ℕ). WordsAt (old k i l) j (structureAt j 0 (withStructure k 0 s m)) (structureAt j 1 (withStructure k 0 s m))) (sym e) (heard-old hk ls))
             (λ e. words-off k 0 hk (lit< tt) s ls (old k i l) id hid e (ap (λ (b : Bool). cond b there unheard) (ne-eqb k id (λ q. e (sym q)))) refl);
+        sure = sure-force k hk s ls (λ _. omega (arith, law .1 .0));
       }
     where
       heard-old : (hk : k < ids) → length (gather k 0 (getD (inForce a t k) i 0) l) ≡ structureSize
@@ -258,32 +303,33 @@ module _ (a : Air) (w : Orderly a) (hears : ℕ → Bool) (t : ℕ) (m : List �
           subst (Front a hears (suc t) now k (later (oldIn k (old k i l)) (lastOld a k t))) (sym (put-at k 0 hk (lit< tt) _ ls))
           (subst (λ (x : ℕ). Front a hears (suc t) now k x (gather k 0 (getD (inForce a t k) i 0) l)) (sym (ap (λ (x : ℕ). later x (lastOld a k t)) yes-k))
           (front-old a hears t now k refl (w .linked now k hk) i l (lastOld a k t) (structureAt k 0 m) is (law .1 .0) (omega (arith, law .1 .1 .0))
-          (law .1 .1 .1) (h .front k hk)))
+          (λ j e. law .1 .1 .1 j e .0) (h .front k hk)))
 
   -- all ones: at once, or by the next change
-  taken-gone : (k tdms l : ℕ) → a .carries t ≡ gone 0 k tdms l → k < ids → Taken (gone 0 k tdms l) (withStructure k 0 (blank structureSize) m)
+  taken-gone : (k tdms l : ℕ) → a .carries t ≡ gone 0 k tdms l → k < ids → Taken (gone 0 k tdms l) (withStructure k 0 absence m)
   unfolding denies newIn oldIn goneIn later over presentIn comingIn
   taken-gone k tdms l is hk =
-      let ls = blank-length structureSize in
+      let ls = absence-length in
       record {
         size = put-long k 0 hk (lit< tt) _ ls;
         front = λ id hid. pick id k
-            (λ e. subst (λ (j : ℕ). Front a hears (suc t) now j (lastOld a j t) (structureAt j 0 (withStructure k 0 (blank structureSize) m))) (sym e)
-            (subst (Front a hears (suc t) now k (lastOld a k t)) (sym (put-at k 0 hk (lit< tt) _ ls)) (some (empty (blank-empty _ refl)))))
+            (λ e. subst (λ (j : ℕ). Front a hears (suc t) now j (lastOld a j t) (structureAt j 0 (withStructure k 0 absence m))) (sym e)
+            (subst (Front a hears (suc t) now k (lastOld a k t)) (sym (put-at k 0 hk (lit< tt) _ ls)) (some (empty absence-empty))))
             (λ e. subst (Front a hears (suc t) now id (lastOld a id t)) (sym (put-off k 0 hk (lit< tt) _ ls id 0 (lit< tt) (λ p q. e p)))
             (front-plain a hears t id (gone 0 k tdms l) is (structureAt id 0 m) refl (λ xs. ne-eqb k id (λ q. e (sym q))) (h .front id hid)));
         next = λ id hid.
             subst (λ (x : List ℕ). AtIs (gone 0 k tdms l) id x) (sym (put-off k 0 hk (lit< tt) _ ls id 1 (lit< tt) (λ p q. omega (arith, q))))
             (next-plain a hears t id (gone 0 k tdms l) is u (structureAt id 1 m) refl refl (h .next id hid));
         words = λ id hid. pick id k
-            (λ e. subst (λ (j : ℕ). WordsAt (gone 0 k tdms l) j (structureAt j 0 (withStructure k 0 (blank structureSize) m)) (structureAt j 1 (withStructure k 0 (blank structureSize) m))) (sym e)
-            (words-as (words-dropped _ _ _ _ (blank structureSize) (h .words k hk))
+            (λ e. subst (λ (j : ℕ). WordsAt (gone 0 k tdms l) j (structureAt j 0 (withStructure k 0 absence m)) (structureAt j 1 (withStructure k 0 absence m))) (sym e)
+            (words-as (words-dropped _ _ _ _ absence (h .words k hk))
             (sym (ap (λ (b : Bool). over (cond b absent unheard) (presentBefore a hears k t)) (eq-eqb k k refl))) refl
             (sym (put-at k 0 hk (lit< tt) _ ls)) (sym (put-off k 0 hk (lit< tt) _ ls k 1 (lit< tt) (λ p q. omega (arith, q))))))
             (λ e. words-off k 0 hk (lit< tt) _ ls (gone 0 k tdms l) id hid e (ap (λ (b : Bool). cond b absent unheard) (ne-eqb k id (λ q. e (sym q)))) refl);
+        sure = sure-force k hk absence ls (λ c. clash (sym c ∙ absence-certainly));
       }
 
-  taken-ends : (k tdms l : ℕ) → a .carries t ≡ gone 1 k tdms l → k < ids → coming a t k ≡ [] → Taken (gone 1 k tdms l) (withStructure k 1 deletion m)
+  taken-ends : (k tdms l : ℕ) → a .carries t ≡ gone 1 k tdms l → k < ids → newBefore a k t ≡ 0 → Taken (gone 1 k tdms l) (withStructure k 1 deletion m)
   unfolding denies newIn oldIn goneIn later over presentIn comingIn
   taken-ends k tdms l is hk z =
       record {
@@ -293,16 +339,28 @@ module _ (a : Air) (w : Orderly a) (hears : ℕ → Bool) (t : ℕ) (m : List �
             (front-plain a hears t id (gone 1 k tdms l) is (structureAt id 0 m) refl (λ xs. refl) (h .front id hid));
         next = λ id hid. pick id k
             (λ e. subst (λ (j : ℕ). At (gone 1 k tdms l) j (withStructure k 1 deletion m)) (sym e)
-            (delete (put-at k 1 hk (lit< tt) _ deletion-length) z))
+            (subst (AtIs (gone 1 k tdms l) k) (sym (put-at k 1 hk (lit< tt) _ deletion-length))
+            (delete deletion-deleting (λ _. (plain (newBefore a k t) z, (all-gone, none-last a k t z))))))
             (λ e. subst (λ (x : List ℕ). AtIs (gone 1 k tdms l) id x) (sym (put-off k 1 hk (lit< tt) _ deletion-length id 1 (lit< tt) (λ p q. e p)))
             (next-plain a hears t id (gone 1 k tdms l) is u (structureAt id 1 m) refl (ne-eqb k id (λ q. e (sym q))) (h .next id hid)));
         words = λ id hid. pick id k
             (λ e. subst (λ (j : ℕ). WordsAt (gone 1 k tdms l) j (structureAt j 0 (withStructure k 1 deletion m)) (structureAt j 1 (withStructure k 1 deletion m))) (sym e)
-            (words-as (words-ends _ _ _ _ deletion (h .words k hk)) refl
+            (words-as (words-ends _ _ _ _ deletion (h .words k hk) (deletion-deleting .fields) (deletion-deleting .deleted)) refl
             (sym (ap (λ (b : Bool). over (cond b absent unheard) (comingBefore a hears k t)) (eq-eqb k k refl)))
             (sym (put-off k 1 hk (lit< tt) _ deletion-length k 0 (lit< tt) (λ p q. omega (arith, q)))) (sym (put-at k 1 hk (lit< tt) _ deletion-length))))
             (λ e. words-off k 1 hk (lit< tt) _ deletion-length (gone 1 k tdms l) id hid e refl (ap (λ (b : Bool). cond b absent unheard) (ne-eqb k id (λ q. e (sym q)))));
+        sure = sure-coming k hk deletion deletion-length (λ p. absurd (omega (arith, p, deletion-deleting .fields)));
       }
+    where
+      plain : (x : ℕ) → x ≡ 0 → x + 0 ≡ 0
+      plain x e = omega (arith, e)
+
+      all-gone : (goneBefore a k t || eqb k k) ≡ true
+      all-gone = ap (λ (b : Bool). goneBefore a k t || b) (eq-eqb k k refl) ∙ or-yes (goneBefore a k t)
+        where
+          or-yes : (b : Bool) → (b || true) ≡ true
+          or-yes true = refl
+          or-yes false = refl
 
   taken-vectors : (flag tdms l : ℕ) → a .carries t ≡ vectors flag tdms l → Taken (vectors flag tdms l) m
   unfolding denies newIn oldIn goneIn later over presentIn comingIn
@@ -311,6 +369,7 @@ module _ (a : Air) (w : Orderly a) (hears : ℕ → Bool) (t : ℕ) (m : List �
     front = λ id hid. front-plain a hears t id (vectors flag tdms l) is (structureAt id 0 m) refl (λ xs. refl) (h .front id hid);
     next = λ id hid. next-plain a hears t id (vectors flag tdms l) is u (structureAt id 1 m) refl refl (h .next id hid);
     words = h .words;
+    sure = h .sure;
   }
 
   -- whatever the frame carries
@@ -326,20 +385,20 @@ module _ (a : Air) (w : Orderly a) (hears : ℕ → Bool) (t : ℕ) (m : List �
       let x = getD (inForce a t k) i 0 in
       let go : takenIn (carriedAs a t (old k i l)) m ≡ withStructure k 0 (gather k 0 x l) m =
       (λ j. cond (ne-eqb k panning (no-vectors now k (omega (arith, law .1 .0))) j) m
-      (withStructure k 0 (cond (w .linked now k (law .0) .fit i (law .1 .0) .stays j) (blank structureSize) (gather k 0 x l)) m)) in
+      (withStructure k 0 (cond (w .linked now k (law .0) .fit i (law .1 .0) .stays j) absence (gather k 0 x l)) m)) in
       subst (Taken (old k i l)) (sym go) (taken-old k i l is law)
   taken-as (gone zero k tdms l) is law =
-      let go : takenIn (carriedAs a t (gone 0 k tdms l)) m ≡ withStructure k 0 (blank structureSize) m =
-      (λ j. cond (ne-eqb k panning (law .1 .0) j) m (withStructure k 0 (cond (law .1 .1 .1 .0 j) (blank structureSize) (gather k 0 tdms l)) m)) in
+      let go : takenIn (carriedAs a t (gone 0 k tdms l)) m ≡ withStructure k 0 absence m =
+      (λ j. cond (ne-eqb k panning (law .1 .0) j) m (withStructure k 0 (cond (law .1 .1 .1 .1 .0 j) absence (gather k 0 tdms l)) m)) in
       subst (Taken (gone 0 k tdms l)) (sym go) (taken-gone k tdms l is (law .0))
   taken-as (gone (suc zero) k tdms l) is law =
       let go : takenIn (carriedAs a t (gone 1 k tdms l)) m ≡ withStructure k 1 deletion m =
-      (λ j. cond (ne-eqb k panning (law .1 .0) j) m (withStructure k 1 (cond (law .1 .1 .1 .0 j) deletion (gather k 1 tdms l)) m)) in
-      subst (Taken (gone 1 k tdms l)) (sym go) (taken-ends k tdms l is (law .0) (law .1 .1 .0))
-  taken-as (gone (suc (suc f)) k tdms l) is law = absurd (omega (arith, law .1 .1 .1 .1 .1 .flags))
+      (λ j. cond (ne-eqb k panning (law .1 .0) j) m (withStructure k 1 (cond (law .1 .1 .1 .1 .0 j) deletion (gather k 1 tdms l)) m)) in
+      subst (Taken (gone 1 k tdms l)) (sym go) (taken-ends k tdms l is (law .0) (law .1 .1 .1 .0 refl))
+  taken-as (gone (suc (suc f)) k tdms l) is law = absurd (omega (arith, law .1 .1 .1 .1 .1 .1 .flags))
   taken-as (vectors flag tdms l) is law = taken-vectors flag tdms l is
 
-  pub field-known : hears t ≡ true → (f : Frames) → f ≡ record { last = countAt (timed a) t; heard = 1; unbroken = cond u 1 0 }
+  pub field-known : hears t ≡ true → (f : Frames) → f ≡ record { last = countAt (timed a) t; heard = 1; unbroken = cond u 1 0; row = capped (inRow hears t) }
       → Known a hears t (withFrames f (takenIn (fieldOn a t) m)) u
   unfolding fieldOn
   field-known heard f e =
@@ -356,4 +415,5 @@ module _ (a : Air) (w : Orderly a) (hears : ℕ → Bool) (t : ℕ) (m : List �
             (sym (ap (λ (b : Bool). over (cond b (presentIn id (a .carries t)) unheard) (presentBefore a hears id t)) heard))
             (sym (ap (λ (b : Bool). over (cond b (comingIn id (a .carries t)) unheard) (comingBefore a hears id t)) heard))
             (sym (structures-kept x (k .size) f id 0 hid (lit< tt))) (sym (structures-kept x (k .size) f id 1 hid (lit< tt)));
+        sure = λ id hid. sure-as (sym (structures-kept x (k .size) f id 0 hid (lit< tt))) (sym (structures-kept x (k .size) f id 1 hid (lit< tt))) (k .sure id hid);
       }

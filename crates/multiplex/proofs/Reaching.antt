@@ -10,11 +10,15 @@ use mathlib.Core.Bool.{Bool, true, false, cond, _&&_, _||_}
 use mathlib.Core.List.{List, [], _∷_}
 use Prim.Native.Nat.{ℕ, zero, suc, _+_, _-_, _*_, _≤_, _<_}
 use native.Mathlib.Omega.{arith}
-use borrow.Author.Tests.{eq-eqb}
+use borrow.Author.Tests.{eq-eqb, eqb-true}
+use lib.ListN.{getD}
+use Rattle.bits.proofs.Search.{and-left}
 use lib.Dec.{T, eqb, lit<, lit≤}
 use Rattle.bits.specs.Bits.{blank}
 use Rattle.bits.proofs.Storing.{blank-length}
-use Rattle.structure.specs.Structure.{structureSize}
+use Rattle.slot.proofs.Laws.{blank-at}
+use Rattle.structure.specs.Structure.{structureSize, headOf, certainly}
+use Rattle.structure.specs.declared.Structure.{Structure}
 use Rattle.structure.proofs.Gathering.{Empty}
 use Rattle.structure.proofs.Runs.{empty}
 use Rattle.map.specs.Map.{ids, mapSize, blockSize, structureAt, eachFrom, changedFrom, spoiledBoth}
@@ -24,8 +28,8 @@ use Rattle.multiplex.specs.Broadcast.{change, epoch, begun}
 use Rattle.multiplex.specs.Air.{Air, timed, newIn, oldIn, later, same, lastOld, lastNew, linkOf, linksNew, newBefore, newTo, goneBefore, goneTo, inForce, coming, Said, nothing, described, deleted, Orderly}
 use Rattle.multiplex.specs.Sound.{unheard, over, presentIn, comingIn, comingBefore, comingTo, presentBefore, presentTo}
 use Rattle.multiplex.proofs.Distances.{epoch-step, epoch-mono}
-use Rattle.multiplex.proofs.Knowing.{Front, some, all, Next, none, delete, piece, sure, full, Silent, Past, Settled, stayed, told, ends, front-gap, next-gap, front-unsure, front-sure}
-use Rattle.multiplex.proofs.Words.{Words, words-as, words-gap, words-change, unheard-there, Goes, goes-to}
+use Rattle.multiplex.proofs.Knowing.{Front, some, all, Next, none, delete, piece, sure, full, Silent, Past, Settled, stays-so, told, ends, front-gap, next-gap, front-unsure, front-sure}
+use Rattle.multiplex.proofs.Words.{Words, Sure, sure-as, sure-gap, sure-change, words-as, words-gap, words-change, unheard-there, absent-unheard, Goes, goes-to}
 use Rattle.multiplex.proofs.Listening.{Known, Before, front-as, next-as}
 
 same-refl : (xs : List ℕ) → same xs xs ≡ true
@@ -50,10 +54,10 @@ module _ (a : Air) (hears : ℕ → Bool) (t n : ℕ) (gap : Gap hears t n) wher
 
   next-later : (e id due count links : ℕ) (g u : Bool) (s : List ℕ) → Next a hears (suc t) e id due count links g u s → Next a hears n e id due count links g u s
   next-later e id due count links g u s (none em c q) = none em c (λ v hv hh z. q v (gap v hv hh) hh z)
-  next-later e id due count links g u s (delete d z) = delete d z
+  next-later e id due count links g u s (delete d c) = delete d c
   next-later e id due count links g u s (piece w h p) = piece w h p
-  next-later e id due count links g u s (sure k pos le c d hl h) = sure k pos le c d hl h
-  next-later e id due count links g u s (full l hl pos h) = full l hl pos h
+  next-later e id due count links g u s (sure k pos le c d hl la h) = sure k pos le c d hl la h
+  next-later e id due count links g u s (full l hl pos la h) = full l hl pos la h
 
   -- in the next configuration nothing was said before its first frame
   silent-new : (e id : ℕ) → epoch (timed a) t < e → Silent a hears n e id
@@ -89,6 +93,7 @@ module _ (a : Air) (w : Orderly a) (hears : ℕ → Bool) (t : ℕ) (m : List �
         words = λ id hid.
             let g = goes (suc t) (omega arith) (λ v hv hh. hv) id .before on in
             words-as (k .words id hid) (sym (g .1)) (sym (g .0)) refl refl;
+        sure = λ id hid. subst (λ (x : ℕ). Sure (a .config x id) (a .config (suc x) id) (structureAt id 0 m) (structureAt id 1 m)) (sym on) (k .sure id hid);
       }
     where
       or-yes : (x : Bool) → (x || true) ≡ true
@@ -103,7 +108,7 @@ module _ (a : Air) (w : Orderly a) (hears : ℕ → Bool) (t : ℕ) (m : List �
   fresh n gap on v zeros id s em = none em (zeros id) (silent-new a hears t n gap (epoch (timed a) n) id (omega (arith, on)))
 
   settled-by : (id : ℕ) → Said a t id → Settled (inForce a t id) (coming a t id) (newTo a id t) (goneTo a id t)
-  settled-by id (nothing z g s) = stayed z g s
+  settled-by id (nothing z g s) = stays-so z g s
   settled-by id (described p q) = told p q
   settled-by id (deleted z g) = ends z g
 
@@ -138,8 +143,10 @@ module _ (a : Air) (w : Orderly a) (hears : ℕ → Bool) (t : ℕ) (m : List �
             id _ (change-both c on id hid u refl .1);
         words = λ id hid.
             let g = goes (suc t) (omega arith) (λ v hv hh. hv) id .behind on in
-            words-as (words-change a hears (suc t) e id _ _ _ _ u u m (k .size) hid (k .next id hid) _ _ (k .words id hid) (change-both c on id hid u refl .1))
-            (sym (g .1)) (sym (g .0)) refl refl;
+            words-as (words-change u m (k .size) id hid _ _ (k .words id hid)) (sym (g .1)) (sym (g .0)) refl refl;
+        sure = λ id hid.
+            subst (λ (x : ℕ). Sure (a .config x id) (a .config (suc x) id) (structureAt id 0 (changedFrom ids 0 u m)) (structureAt id 1 (changedFrom ids 0 u m))) (sym on)
+            (sure-change u m (k .size) id hid _ _ _ (k .sure id hid));
       }
 
   -- ---- frames are missed
@@ -161,6 +168,11 @@ module _ (a : Air) (w : Orderly a) (hears : ℕ → Bool) (t : ℕ) (m : List �
         words-as (words-gap _ _ _ _ (structure-length m (k .size) id 0 hid (lit< tt)) (structure-length m (k .size) id 1 hid (lit< tt)) (k .words id hid)) refl refl
         (sym (gap-structure m (k .size) id 0 hid (lit< tt))) (sym (gap-structure m (k .size) id 1 hid (lit< tt)))
 
+    gap-sure : (id : ℕ) → id < ids → Sure (inForce a t id) (coming a t id) (structureAt id 0 gaps) (structureAt id 1 gaps)
+    gap-sure id hid =
+        sure-as (sym (gap-structure m (k .size) id 0 hid (lit< tt))) (sym (gap-structure m (k .size) id 1 hid (lit< tt)))
+        (sure-gap _ _ _ _ (structure-length m (k .size) id 0 hid (lit< tt)) (structure-length m (k .size) id 1 hid (lit< tt)) (k .sure id hid))
+
     no : {A : Type 0} → false ≡ true → A
     no z = absurd (subst T (sym z) tt)
 
@@ -175,6 +187,7 @@ module _ (a : Air) (w : Orderly a) (hears : ℕ → Bool) (t : ℕ) (m : List �
       words = λ id hid.
           let g = goes n later-on gap id .before on in
           words-as (gap-words id hid) (sym (g .1)) (sym (g .0)) refl refl;
+      sure = λ id hid. subst (λ (x : ℕ). Sure (a .config x id) (a .config (suc x) id) (structureAt id 0 gaps) (structureAt id 1 gaps)) (sym on) (gap-sure id hid);
     }
 
     far-both : (id : ℕ) → id < ids
@@ -194,8 +207,10 @@ module _ (a : Air) (w : Orderly a) (hears : ℕ → Bool) (t : ℕ) (m : List �
           next = λ id hid. fresh n gap on false (λ j z. no z) id _ (far-both id hid .1);
           words = λ id hid.
               let g = goes n later-on gap id .behind on in
-              words-as (words-change a hears (suc t) e id 0 0 0 false false false gaps lg hid (gap-next id hid 0 0 0 false) _ _ (gap-words id hid) (far-both id hid .1))
-              (sym (g .1)) (sym (g .0)) refl refl;
+              words-as (words-change false gaps lg id hid _ _ (gap-words id hid)) (sym (g .1)) (sym (g .0)) refl refl;
+          sure = λ id hid.
+              subst (λ (x : ℕ). Sure (a .config x id) (a .config (suc x) id) (structureAt id 0 (changedFrom ids 0 false gaps)) (structureAt id 1 (changedFrom ids 0 false gaps)))
+              (sym on) (sure-change false gaps lg id hid _ _ _ (gap-sure id hid));
         }
 
 -- ---- nothing was heard before
@@ -203,6 +218,15 @@ module _ (a : Air) (w : Orderly a) (hears : ℕ → Bool) (t : ℕ) (m : List �
 blank-structure : (id v : ℕ) → id < ids → v < 2 → Empty (structureAt id v (blank mapSize))
 unfolding structureAt
 blank-structure id v hid hv = blank-empty _ (part-blank (id * blockSize + v * structureSize) structureSize mapSize (omega arith))
+
+blank-certain : (id : ℕ) → id < ids → headOf (structureAt id 0 (blank mapSize)) .certain ≡ 0
+unfolding structureAt headOf
+blank-certain id hid =
+    ap (λ (s : List ℕ). getD s 6 0) (part-blank (id * blockSize + 0 * structureSize) structureSize mapSize (omega arith)) ∙ blank-at structureSize 6
+
+certainly-mark : (h : Structure) → certainly h ≡ true → eqb (h .certain) 1 ≡ true
+unfolding certainly
+certainly-mark h c = and-left (eqb (h .certain) 1) _ c
 
 starts : (a : Air) (n : ℕ) → change (timed a) n ≡ true → begun (timed a) n ≡ true
 unfolding begun
@@ -257,5 +281,12 @@ first-before a hears t quiet = record {
         present = λ q. unheard-there (sym (r .0) ∙ q);
         coming = λ q. unheard-there (sym (r .1) ∙ q);
         nothing = λ q. (em .fields, em .deleted);
+        gone = λ z c. absurd (omega (arith, c, blank-certain id hid));
+        ends = λ z c. absurd (omega (arith, c, em .deleted));
+        ended = λ q. absent-unheard (sym q ∙ r .1);
       };
+  sure = λ id hid. record {
+    front = λ c. absurd (omega (arith, eqb-true (headOf (structureAt id 0 (blank mapSize)) .certain) 1 (certainly-mark _ c), blank-certain id hid));
+    next = λ h. absurd (omega (arith, h, blank-structure id 1 hid (lit< tt) .fields));
+  };
 }

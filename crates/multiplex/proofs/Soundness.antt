@@ -12,7 +12,7 @@ use mathlib.Core.List.{List}
 use mathlib.Core.Logic.{_⊎_, inl, inr}
 use Prim.Native.Nat.{ℕ, zero, suc, _+_, _-_, _^_, _≤_, _<_}
 use native.Mathlib.Omega.{arith}
-use native.Mathlib.Decide.{ℕ-discrete}
+use native.Mathlib.Decide.{ℕ-discrete, decLt}
 use borrow.Author.Tests.{ne-eqb, le-ltb, lt-ltb}
 use lib.Dec.{T, ltb, eqb}
 use Rattle.bits.specs.Bits.{blank}
@@ -21,17 +21,17 @@ use Rattle.slot.proofs.Laws.{blank-at}
 use Rattle.field.specs.Field.{fieldOf, fieldBytes}
 use Rattle.field.specs.declared.Field.{Field}
 use Rattle.field.proofs.RoundTrip.{read-written}
-use Rattle.frames.specs.Counts.{since, changes, changing, again, skips, begins, sureAt, framesAfter}
+use Rattle.frames.specs.Counts.{since, changes, changing, again, skips, begins, sureAt, rowAfter, framesAfter}
 use Rattle.frames.specs.declared.Frames.{Frames}
 use Rattle.map.specs.Map.{ids, mapSize, framesOf, withFrames, eachFrom, changedFrom, spoiledBoth}
 use Rattle.map.specs.Calls.{takenIn, overGap, upTo, frameTaken, takeAnswer, takeAfter}
 use Rattle.multiplex.specs.Broadcast.{countAt, change, epoch}
 use Rattle.multiplex.specs.Heard.{ours}
 use Rattle.multiplex.specs.Air.{Carries, new, old, gone, vectors, Air, timed, carriedAs, fieldOn, InTurn, Orderly}
-use Rattle.multiplex.specs.Sound.{kept, missedBefore, anyBefore, Listener}
+use Rattle.multiplex.specs.Sound.{kept, missedBefore, anyBefore, inRow, Listener}
 use Rattle.multiplex.proofs.Counting.{begins-change, count-lt}
 use Rattle.multiplex.proofs.Distances.{since-is, count-apart, changes-epoch, epoch-either, epoch-step}
-use Rattle.multiplex.proofs.Listening.{Known, Before, field-known}
+use Rattle.multiplex.proofs.Listening.{capped, Known, Before, field-known}
 use Rattle.multiplex.proofs.Reaching.{Gap, near-same, near-change, far-same, far-change, first-before}
 
 -- ---- the field's numbers
@@ -60,7 +60,7 @@ wide-as a w t (old k i l) law = record {
   links = law .1 .1 .0;
 }
 wide-as a w t (gone flag k tdms l) law =
-    let b = law .1 .1 .1 .1 .1 in
+    let b = law .1 .1 .1 .1 .1 .1 in
     record { count = refl; flag = b .flags; id = law .0; tdms = b .width; links = b .links }
 wide-as a w t (vectors flag tdms l) law =
     record { count = refl; flag = law .flags; id = omega arith; tdms = law .width; links = law .links }
@@ -74,15 +74,64 @@ read-back a w t =
     let s = wide a w t in
     read-written (fieldOn a t) (omega (arith, s .count, count-lt (timed a) t)) (s .flag) (s .id) (s .tdms) (s .links)
 
-abbrev framesAt : Air → ℕ → Bool → Frames
-framesAt a t u = record { last = countAt (timed a) t; heard = 1; unbroken = cond u 1 0 }
+abbrev framesAt : Air → (ℕ → Bool) → ℕ → Bool → Frames
+framesAt a hears t u = record { last = countAt (timed a) t; heard = 1; unbroken = cond u 1 0; row = capped (inRow hears t) }
+
+-- ---- frames in a row
+
+capped-next : (n : ℕ) → rowAfter false (capped n) ≡ capped (suc n)
+unfolding rowAfter capped
+capped-next n = go (decLt n 255) (decLt (suc n) 255)
+  where
+    go : Dec (n < 255) → Dec (suc n < 255) → cond (ltb (cond (ltb n 255) n 255) 255) (cond (ltb n 255) n 255 + 1) 255 ≡ cond (ltb (suc n) 255) (suc n) 255
+    go (yes p) (yes q) =
+        let x = lt-ltb n 255 p in
+        (λ i. cond (ltb (cond (x i) n 255) 255) (cond (x i) n 255 + 1) 255) ∙ ap (λ (b : Bool). cond b (n + 1) 255) x ∙ one-on n
+        ∙ sym (ap (λ (b : Bool). cond b (suc n) 255) (lt-ltb (suc n) 255 q))
+      where
+        one-on : (k : ℕ) → k + 1 ≡ suc k
+        one-on k = omega arith
+    go (yes p) (no q) =
+        let x = lt-ltb n 255 p in
+        let full : n + 1 ≡ 255 = omega (arith, p, q) in
+        (λ i. cond (ltb (cond (x i) n 255) 255) (cond (x i) n 255 + 1) 255) ∙ ap (λ (b : Bool). cond b (n + 1) 255) x ∙ full
+        ∙ sym (ap (λ (b : Bool). cond b (suc n) 255) (le-ltb (suc n) 255 (omega (arith, q))))
+    go (no p) q =
+        let x = le-ltb n 255 (omega (arith, p)) in
+        (λ i. cond (ltb (cond (x i) n 255) 255) (cond (x i) n 255 + 1) 255)
+        ∙ sym (ap (λ (b : Bool). cond b (suc n) 255) (le-ltb (suc n) 255 (omega (arith, p))))
+
+row-on : (hears : ℕ → Bool) (T t : ℕ) → t ≡ suc T → hears t ≡ true → inRow hears t ≡ suc (inRow hears T)
+unfolding inRow
+row-on hears T t e h = ap (inRow hears) e ∙ ap (λ (b : Bool). cond b (suc (inRow hears T)) 0) (ap hears (sym e) ∙ h)
+
+-- the frame before it was not heard
+row-first : (hears : ℕ → Bool) (t : ℕ) → 0 < t → (hears (t - 1) ≡ true → ⊥) → hears t ≡ true → inRow hears t ≡ 1
+unfolding inRow
+row-first hears zero p ne h = absurd (omega arith)
+row-first hears (suc t) p ne h = ap (λ (b : Bool). cond b (suc (inRow hears t)) 0) h ∙ ap suc (none t (λ q. ne (ap hears (minus t) ∙ q)))
+  where
+    minus : (k : ℕ) → suc k - 1 ≡ k
+    minus k = omega arith
+
+    none : (k : ℕ) → (hears k ≡ true → ⊥) → inRow hears k ≡ 0
+    none zero q = go (hears zero) refl
+      where
+        go : (b : Bool) → hears zero ≡ b → _≡_ {A = ℕ} (cond b 1 0) 0
+        go true e = absurd (q e)
+        go false e = refl
+    none (suc k) q = go (hears (suc k)) refl
+      where
+        go : (b : Bool) → hears (suc k) ≡ b → cond b (suc (inRow hears k)) 0 ≡ 0
+        go true e = absurd (q e)
+        go false e = refl
 
 -- ---- one frame
 
 module _ (a : Air) (w : Orderly a) (hears : ℕ → Bool) (t : ℕ) (m : List ℕ) (not-refused : takeAnswer m (fieldBytes (fieldOn a t)) ≡ 0)
     (heard : hears t ≡ true) where
   take-known : (M : List ℕ) (u : Bool) → Before a hears t M u → upTo m (countAt (timed a) t) ≡ M → again (framesOf m) (countAt (timed a) t) ≡ false
-      → framesAfter (framesOf m) (countAt (timed a) t) ≡ framesAt a t u → Known a hears t (takeAfter m (fieldBytes (fieldOn a t))) u
+      → framesAfter (framesOf m) (countAt (timed a) t) ≡ framesAt a hears t u → Known a hears t (takeAfter m (fieldBytes (fieldOn a t))) u
   unfolding takeAfter frameTaken
   take-known M u h up fresh then =
       let r : Field = fieldOn a t in
@@ -104,7 +153,7 @@ module _ (a : Air) (w : Orderly a) (hears : ℕ → Bool) (T g : ℕ) (pos : 0 <
   c = countAt (timed a) t
 
   abbrev f : Frames
-  f = framesAt a T u
+  f = framesAt a hears T u
 
   fresh : again (framesOf m) c ≡ false
   unfolding again
@@ -140,18 +189,36 @@ module _ (a : Air) (w : Orderly a) (hears : ℕ → Bool) (T g : ℕ) (pos : 0 <
   unfolding sureAt
   sure-far s = ap (λ (b : Bool). eqb (framesOf m .unbroken) 1 && not b) s ∙ and-false (eqb (framesOf m .unbroken) 1)
 
-  frames-near : skips (framesOf m) c ≡ false → (x : Bool) → change (timed a) t ≡ x → framesAfter (framesOf m) c ≡ framesAt a t (cond x true u)
+  frames-near : g ≡ 1 → skips (framesOf m) c ≡ false → (x : Bool) → change (timed a) t ≡ x → framesAfter (framesOf m) c ≡ framesAt a hears t (cond x true u)
   unfolding framesAfter
-  frames-near s x e =
-      (λ i. record { last = c; heard = 1; unbroken = cond (s i) 0 (cond ((begins-change (timed a) t ∙ e) i) 1 (k .frames i .unbroken)) }) ∙ go x
+  frames-near one s x e =
+      (λ i. record {
+        last = c;
+        heard = 1;
+        unbroken = cond (s i) 0 (cond ((begins-change (timed a) t ∙ e) i) 1 (k .frames i .unbroken));
+        row = rowAfter (s i) (k .frames i .row);
+      })
+      ∙ (λ i. record { last = c; heard = 1; unbroken = mark x i; row = row-next i })
     where
-      go : (y : Bool) → _≡_ {A = Frames} (record { last = c; heard = 1; unbroken = cond y 1 (cond u 1 0) }) (framesAt a t (cond y true u))
-      go true = refl
-      go false = refl
+      mark : (y : Bool) → _≡_ {A = ℕ} (cond y 1 (cond u 1 0)) (cond (cond y true u) 1 0)
+      mark true = refl
+      mark false = refl
 
-  frames-far : skips (framesOf m) c ≡ true → framesAfter (framesOf m) c ≡ framesAt a t false
-  unfolding framesAfter
-  frames-far s = λ i. record { last = c; heard = 1; unbroken = cond (s i) 0 (cond (begins c) 1 (framesOf m .unbroken)) }
+      row-next : rowAfter false (capped (inRow hears T)) ≡ capped (inRow hears t)
+      row-next = capped-next (inRow hears T) ∙ ap capped (sym (row-on hears T t (omega (arith, one)) heard))
+
+  frames-far : 1 < g → skips (framesOf m) c ≡ true → framesAfter (framesOf m) c ≡ framesAt a hears t false
+  unfolding framesAfter rowAfter capped
+  frames-far h s =
+      λ i. record {
+        last = c;
+        heard = 1;
+        unbroken = cond (s i) 0 (cond (begins c) 1 (framesOf m .unbroken));
+        row = (ap (λ (b : Bool). rowAfter b (framesOf m .row)) s ∙ row-anew) i;
+      }
+    where
+      row-anew : 1 ≡ capped (inRow hears t)
+      row-anew = ap capped (sym (row-first hears t (omega arith) (λ q. omega (arith, h, gap (t - 1) (omega arith) q)) heard))
 
   up-to : (x s y : Bool) → changing (framesOf m) c ≡ x → skips (framesOf m) c ≡ s → sureAt (framesOf m) c ≡ y
       → upTo m c ≡ cond x (changedFrom ids 0 y (cond s (eachFrom ids 0 spoiledBoth m) m)) (cond s (eachFrom ids 0 spoiledBoth m) m)
@@ -167,10 +234,10 @@ module _ (a : Air) (w : Orderly a) (hears : ℕ → Bool) (T g : ℕ) (pos : 0 <
           → Known a hears t (takeAfter m (fieldBytes (fieldOn a t))) false
       go s (inl e) =
           take-known a w hears t m not-refused heard _ false (far-same a w hears T m u k t (omega arith) gap e)
-          (up-to false true false (changing-is ∙ le-ltb (epoch (timed a) T) (epoch (timed a) t) (omega (arith, e))) s (sure-far s)) fresh (frames-far s)
+          (up-to false true false (changing-is ∙ le-ltb (epoch (timed a) T) (epoch (timed a) t) (omega (arith, e))) s (sure-far s)) fresh (frames-far h s)
       go s (inr e) =
           take-known a w hears t m not-refused heard _ false (far-change a w hears T m u k t (omega arith) gap e)
-          (up-to true true false (changing-is ∙ lt-ltb (epoch (timed a) T) (epoch (timed a) t) (omega (arith, e))) s (sure-far s)) fresh (frames-far s)
+          (up-to true true false (changing-is ∙ lt-ltb (epoch (timed a) T) (epoch (timed a) t) (omega (arith, e))) s (sure-far s)) fresh (frames-far h s)
 
   near : g ≡ 1 → t ≡ suc T → Known a hears t (takeAfter m (fieldBytes (fieldOn a t))) (cond (change (timed a) t) true u)
   near one e =
@@ -185,21 +252,26 @@ module _ (a : Air) (w : Orderly a) (hears : ℕ → Bool) (T g : ℕ) (pos : 0 <
           let up : epoch (timed a) t ≡ suc (epoch (timed a) T) = ap (epoch (timed a)) e ∙ epoch-step (timed a) T true (back true q) in
           take-known a w hears t m not-refused heard _ true
           (subst (λ (n : ℕ). Before a hears n (changedFrom ids 0 u m) true) (sym e) (near-change a w hears T m u k (back true q)))
-          (up-to true false u (changing-is ∙ lt-ltb (epoch (timed a) T) (epoch (timed a) t) (omega (arith, up))) s (sure-near s)) fresh (frames-near s true q)
+          (up-to true false u (changing-is ∙ lt-ltb (epoch (timed a) T) (epoch (timed a) t) (omega (arith, up))) s (sure-near s)) fresh (frames-near one s true q)
       go s false q =
           let up : epoch (timed a) t ≡ epoch (timed a) T = ap (epoch (timed a)) e ∙ epoch-step (timed a) T false (back false q) in
           take-known a w hears t m not-refused heard m u
           (subst (λ (n : ℕ). Before a hears n m u) (sym e) (near-same a w hears T m u k (back false q)))
-          (up-to false false u (changing-is ∙ le-ltb (epoch (timed a) T) (epoch (timed a) t) (omega (arith, up))) s (sure-near s)) fresh (frames-near s false q)
+          (up-to false false u (changing-is ∙ le-ltb (epoch (timed a) T) (epoch (timed a) t) (omega (arith, up))) s (sure-near s)) fresh (frames-near one s false q)
 
 -- ---- the first frame
 
 module _ (a : Air) (w : Orderly a) (hears : ℕ → Bool) (t : ℕ) (quiet : (v : ℕ) → v < t → hears v ≡ true → ⊥)
     (not-refused : takeAnswer (blank mapSize) (fieldBytes (fieldOn a t)) ≡ 0) (heard : hears t ≡ true) where
-  blank-frames : framesOf (blank mapSize) ≡ record { last = 0; heard = 0; unbroken = 0 }
+  blank-frames : framesOf (blank mapSize) ≡ record { last = 0; heard = 0; unbroken = 0; row = 0 }
   unfolding framesOf
   blank-frames =
-      λ i. record { last = blank-at mapSize 34816 i; heard = blank-at mapSize 34817 i; unbroken = blank-at mapSize 34818 i }
+      λ i. record {
+        last = blank-at mapSize 36352 i;
+        heard = blank-at mapSize 36353 i;
+        unbroken = blank-at mapSize 36354 i;
+        row = blank-at mapSize 36355 i;
+      }
 
   first-up : upTo (blank mapSize) (countAt (timed a) t) ≡ blank mapSize
   unfolding upTo overGap changing skips
@@ -214,11 +286,20 @@ module _ (a : Air) (w : Orderly a) (hears : ℕ → Bool) (t : ℕ) (quiet : (v 
   unfolding again
   first-fresh = ap (λ (x : Frames). again x (countAt (timed a) t)) blank-frames
 
-  first-frames : framesAfter (framesOf (blank mapSize)) (countAt (timed a) t) ≡ framesAt a t (change (timed a) t)
-  unfolding framesAfter skips
+  first-frames : framesAfter (framesOf (blank mapSize)) (countAt (timed a) t) ≡ framesAt a hears t (change (timed a) t)
+  unfolding framesAfter skips rowAfter capped inRow
   first-frames =
       ap (λ (x : Frames). framesAfter x (countAt (timed a) t)) blank-frames
-      ∙ ap (λ (b : Bool). record { last = countAt (timed a) t; heard = 1; unbroken = cond b 1 0 }) (begins-change (timed a) t)
+      ∙ (λ i. record { last = countAt (timed a) t; heard = 1; unbroken = cond (begins-change (timed a) t i) 1 0; row = row-one i })
+    where
+      one-alone : (n : ℕ) → ((v : ℕ) → v < n → hears v ≡ true → ⊥) → hears n ≡ true → inRow hears n ≡ 1
+      one-alone zero quiet heard = ap (λ (b : Bool). cond b 1 0) heard
+      one-alone (suc n) quiet heard =
+          let e : suc n - 1 ≡ n = omega arith in
+          row-first hears (suc n) (omega arith) (λ q. quiet n (omega arith) (ap hears (sym e) ∙ q)) heard
+
+      row-one : 1 ≡ capped (inRow hears t)
+      row-one = ap capped (sym (one-alone t quiet heard))
 
   first-known : Known a hears t (takeAfter (blank mapSize) (fieldBytes (fieldOn a t))) (change (timed a) t)
   first-known = take-known a w hears t (blank mapSize) not-refused heard (blank mapSize) (change (timed a) t) (first-before a hears t quiet) first-up first-fresh first-frames

@@ -1,6 +1,8 @@
 -- What was heard of a component last, and whether the map has fields of it.
 --
---   Words k p F A      where a field was heard last the structure has fields; and where nothing was heard of what comes, nothing is announced
+--   Words k p F A      where a field was heard last the structure has fields; where nothing was heard of what comes, nothing is announced; and what
+--                      is held to be absent was so said last
+--   Sure xs zs F A     what is certain is there; sure-gap, sure-change
 --   words-gap, words-change, words-same     frames are missed, a change, neither
 --   words-on           from one frame that is heard to the next
 --   some-old, some-new      a field that is taken in leaves some
@@ -11,21 +13,20 @@ use mathlib.Core.Bool.{Bool, true, false, cond, _&&_}
 use mathlib.Core.List.{List}
 use Prim.Native.Nat.{ℕ, zero, suc, _+_, _-_, _^_, _≤_, _<_}
 use native.Mathlib.Omega.{arith}
-use borrow.Author.Tests.{lt-ltb, ltb-true}
+use native.Mathlib.Decide.{ℕ-discrete}
+use borrow.Author.Tests.{lt-ltb, ltb-true, eqb-true}
 use lib.Dec.{ltb, eqb, lit<}
 use lib.ListN.{length}
-use Rattle.structure.specs.Structure.{structureSize, headOf, gathered, spoiled}
-use Rattle.structure.specs.declared.Structure.{Structure}
-use Rattle.structure.proofs.Gathering.{Empty}
-use Rattle.structure.proofs.Kept.{spoiled-none, spoiled-some}
+use Rattle.bits.proofs.Search.{and-left, and-right}
+use Rattle.structure.specs.Structure.{structureSize, headOf, gathered, spoiled, said, certainly}
+use Rattle.structure.proofs.Kept.{spoiled-none, spoiled-some, spoiled-certain}
 use Rattle.structure.proofs.Runs.{gathered-some, gathered-whole}
-use Rattle.map.specs.Map.{ids, mapSize, structureAt, changedFrom}
+use Rattle.map.specs.Map.{ids, mapSize, structureAt, stayed, settled, forced, changedFrom}
 use Rattle.map.proofs.Places.{structure-length}
-use Rattle.map.proofs.Changing.{left-some, stays, in-force-some}
+use Rattle.map.proofs.Changing.{stayed-some, stayed-certain, settled-some, stays, comes-in, force-behind, emptied}
 use Rattle.multiplex.specs.Broadcast.{change, epoch}
 use Rattle.multiplex.specs.Air.{Air, timed}
 use Rattle.multiplex.specs.Sound.{Word, unheard, absent, there, over, presentIn, comingIn, comingBefore, comingTo, presentBefore, presentTo}
-use Rattle.multiplex.proofs.Standing.{deletion-head}
 use Rattle.multiplex.proofs.Distances.{epoch-step, epoch-mono}
 use Rattle.multiplex.proofs.Knowing.{Front, some, all, Next, none, delete, piece, sure, full, part-head}
 
@@ -33,6 +34,18 @@ pub record Words (k p : Word) (F A : List ℕ) : Type 0 where
   pub present : k ≡ there → 0 < headOf F .fields
   pub coming : p ≡ there → 0 < headOf A .fields
   pub nothing : p ≡ unheard → (headOf A .fields ≡ 0) × (headOf A .deleted ≡ 0)
+  -- what is held to be absent, or to be deleted, was so said last
+  pub gone : headOf F .fields ≡ 0 → headOf F .certain ≡ 1 → k ≡ absent
+  pub ends : headOf A .fields ≡ 0 → headOf A .deleted ≡ 1 → p ≡ absent
+  pub ended : p ≡ absent → (headOf A .fields ≡ 0) × (headOf A .deleted ≡ 1)
+
+-- what is certain is there: xs is the structure in force, zs the coming one
+pub record Sure (xs zs F A : List ℕ) : Type 0 where
+  pub front : certainly (headOf F) ≡ true → 0 < length xs
+  pub next : 0 < headOf A .fields → 0 < length zs
+
+pub sure-as : {xs zs F A F' A' : List ℕ} → F ≡ F' → A ≡ A' → Sure xs zs F A → Sure xs zs F' A'
+sure-as {xs} {zs} {F} {A} {F'} {A'} ef ea w = subst (λ (x : List ℕ). Sure xs zs x A') ef (subst (Sure xs zs F) ea w)
 
 -- which word it is
 pub rank : Word → ℕ
@@ -67,71 +80,130 @@ words-as {k} {p} {k'} {p'} {F} {A} {F'} {A'} w ek ep ef ea =
     (subst (λ (x : Word). Words k x F' A') ep (subst (λ (x : List ℕ). Words k p x A') ef (subst (Words k p F) ea w)))
 
 pub words-force : (k p : Word) (F A s : List ℕ) → Words k p F A → 0 < headOf s .fields → Words there p s A
-words-force k p F A s w h = record { present = λ q. h; coming = w .coming; nothing = w .nothing }
+words-force k p F A s w h = record { present = λ q. h; coming = w .coming; nothing = w .nothing; gone = λ z c. absurd (omega (arith, h, z)); ends = w .ends; ended = w .ended }
 
 pub words-dropped : (k p : Word) (F A s : List ℕ) → Words k p F A → Words absent p s A
-words-dropped k p F A s w = record { present = λ q. absent-there q; coming = w .coming; nothing = w .nothing }
+words-dropped k p F A s w = record { present = λ q. absent-there q; coming = w .coming; nothing = w .nothing; gone = λ z c. refl; ends = w .ends; ended = w .ended }
 
 pub words-told : (k p : Word) (F A s : List ℕ) → Words k p F A → 0 < headOf s .fields → Words k there F s
-words-told k p F A s w h = record { present = w .present; coming = λ q. h; nothing = λ q. there-unheard q }
+words-told k p F A s w h = record { present = w .present; coming = λ q. h; nothing = λ q. there-unheard q; gone = w .gone; ends = λ z c. absurd (omega (arith, h, z)); ended = λ q. absent-there (sym q) }
 
-pub words-ends : (k p : Word) (F A s : List ℕ) → Words k p F A → Words k absent F s
-words-ends k p F A s w = record { present = w .present; coming = λ q. absent-there q; nothing = λ q. absent-unheard q }
+pub words-ends : (k p : Word) (F A s : List ℕ) → Words k p F A → headOf s .fields ≡ 0 → headOf s .deleted ≡ 1 → Words k absent F s
+words-ends k p F A s w f d = record { present = w .present; coming = λ q. absent-there q; nothing = λ q. absent-unheard q; gone = w .gone; ends = λ z c. refl; ended = λ q. (f, d) }
 
 -- ---- frames are missed
 
 spoiled-fields : (s : List ℕ) → length s ≡ structureSize → 0 < headOf s .fields → 0 < headOf (spoiled s) .fields
 spoiled-fields s l h = ltb-true 0 (headOf (spoiled s) .fields) (spoiled-some s l ∙ lt-ltb 0 (headOf s .fields) h)
 
-spoiled-nothing : (s : List ℕ) → length s ≡ structureSize → headOf s .fields ≡ 0 → spoiled s ≡ s
-spoiled-nothing s l z = spoiled-none s l (ap (λ (n : ℕ). eqb (headOf s .whole) 0 && ltb 0 n) z ∙ no (eqb (headOf s .whole) 0))
+unfinished-none : (s : List ℕ) → headOf s .fields ≡ 0 → (eqb (headOf s .whole) 0 && ltb 0 (headOf s .fields)) ≡ false
+unfinished-none s z = ap (λ (n : ℕ). eqb (headOf s .whole) 0 && ltb 0 n) z ∙ no (eqb (headOf s .whole) 0)
   where
     no : (b : Bool) → (b && false) ≡ false
     no true = refl
     no false = refl
+
+-- it has no field where it had none
+spoiled-back : (s : List ℕ) → length s ≡ structureSize → headOf (spoiled s) .fields ≡ 0 → headOf s .fields ≡ 0
+spoiled-back s l z = go (ℕ-discrete (headOf s .fields) 0)
+  where
+    go : Dec (headOf s .fields ≡ 0) → headOf s .fields ≡ 0
+    go (yes q) = q
+    go (no q) = absurd (omega (arith, z, spoiled-fields s l (omega (arith, q))))
 
 pub words-gap : (k p : Word) (F A : List ℕ) → length F ≡ structureSize → length A ≡ structureSize → Words k p F A → Words k p (spoiled F) (spoiled A)
 words-gap k p F A lf la w = record {
   present = λ e. spoiled-fields F lf (w .present e);
   coming = λ e. spoiled-fields A la (w .coming e);
   nothing = λ e.
-      let z = spoiled-nothing A la (w .nothing e .0) in
-      (ap (λ (s : List ℕ). headOf s .fields) z ∙ w .nothing e .0, ap (λ (s : List ℕ). headOf s .deleted) z ∙ w .nothing e .1);
+      let z = spoiled-none A la (unfinished-none A (w .nothing e .0)) in
+      (z .fields ∙ w .nothing e .0, z .deleted ∙ w .nothing e .1);
+  gone = λ z c. w .gone (spoiled-back F lf z) (sym (spoiled-certain F lf) ∙ c);
+  ends = λ z c. w .ends (spoiled-back A la z) (sym (spoiled-none A la (unfinished-none A (spoiled-back A la z)) .deleted) ∙ c);
+  ended = λ e.
+      let z = spoiled-none A la (unfinished-none A (w .ended e .0)) in
+      (z .fields ∙ w .ended e .0, z .deleted ∙ w .ended e .1);
 }
 
 -- ---- a change
 
--- an announced structure with fields is not to be deleted
-next-deleted : (a : Air) (hears : ℕ → Bool) (n e id due count links : ℕ) (g u : Bool) (s : List ℕ) → Next a hears n e id due count links g u s
-    → 0 < headOf s .fields → headOf s .deleted ≡ 0
-next-deleted a hears n e id due count links g u s (none em c q) h = em .deleted
-next-deleted a hears n e id due count links g u s (delete d z) h =
-    absurd (omega (arith, h, ap (λ (x : List ℕ). headOf x .fields) d, ap (λ (x : Structure). x .fields) deletion-head))
-next-deleted a hears n e id due count links g u s (piece w p q) h = part-head s _ due q .1 .0
-next-deleted a hears n e id due count links g u s (sure k pos le c d hl x) h = x .deleted
-next-deleted a hears n e id due count links g u s (full l hl pos x) h = x .deleted
+module _ (sure? : Bool) (m : List ℕ) (lm : length m ≡ mapSize) (id : ℕ) (hid : id < ids) where
+  lf : length (structureAt id 0 m) ≡ structureSize
+  lf = structure-length m lm id 0 hid (lit< tt)
 
-module _ (a : Air) (hears : ℕ → Bool) (n e id due count links : ℕ) (g u sure? : Bool) (m : List ℕ) (lm : length m ≡ mapSize) (hid : id < ids)
-    (x : Next a hears n e id due count links g u (structureAt id 1 m)) where
-  pub words-change : (k p : Word) → Words k p (structureAt id 0 m) (structureAt id 1 m) → Empty (structureAt id 1 (changedFrom ids 0 sure? m))
-      → Words (over p k) unheard (structureAt id 0 (changedFrom ids 0 sure? m)) (structureAt id 1 (changedFrom ids 0 sure? m))
+  la : length (structureAt id 1 m) ≡ structureSize
+  la = structure-length m lm id 1 hid (lit< tt)
+
+  abbrev then : ℕ → List ℕ
+  then v = structureAt id v (changedFrom ids 0 sure? m)
+
+  none-then : {A : Type 0} → 0 < headOf (then 1) .fields → A
+  none-then h = absurd (omega (arith, h, emptied sure? m lm id hid .fields))
+
+  pub words-change : (k p : Word) → Words k p (structureAt id 0 m) (structureAt id 1 m) → Words (over p k) unheard (then 0) (then 1)
   unfolding over
-  words-change k unheard w em = record {
-    present = λ q.
-        let f = w .nothing refl in
-        subst (λ (s : List ℕ). 0 < headOf s .fields) (sym (stays sure? m lm id hid (f .0) (f .1)))
-        (ltb-true 0 _ (left-some sure? (structureAt id 0 m) (structure-length m lm id 0 hid (lit< tt)) ∙ lt-ltb 0 _ (w .present q)));
-    coming = λ q. unheard-there q;
-    nothing = λ q. (em .fields, em .deleted);
-  }
-  words-change k absent w em = record { present = λ q. absent-there q; coming = λ q. unheard-there q; nothing = λ q. (em .fields, em .deleted) }
-  words-change k there w em = record {
-    present = λ q.
-        let f = w .coming refl in
-        ltb-true 0 _ (in-force-some sure? m lm id hid f (next-deleted a hears n e id due count links g u _ x f));
-    coming = λ q. unheard-there q;
-    nothing = λ q. (em .fields, em .deleted);
-  }
+  words-change k unheard w =
+      let f = w .nothing refl in
+      let is = stays sure? m lm id hid (f .0) (f .1) in
+      let em = emptied sure? m lm id hid in
+      record {
+        present = λ q. subst (λ (s : List ℕ). 0 < headOf s .fields) (sym is)
+            (ltb-true 0 _ (stayed-some (structureAt id 0 m) lf sure? ∙ lt-ltb 0 _ (w .present q)));
+        coming = λ q. unheard-there q;
+        nothing = λ q. (em .fields, em .deleted);
+        gone = λ z c. absurd (omega (arith, c, ap (λ (s : List ℕ). headOf s .certain) is ∙ stayed-certain (structureAt id 0 m) lf sure?));
+        ends = λ z c. absurd (omega (arith, c, em .deleted));
+        ended = λ q. absent-unheard (sym q);
+      }
+  words-change k absent w =
+      let em = emptied sure? m lm id hid in
+      record {
+        present = λ q. absent-there q;
+        coming = λ q. unheard-there q;
+        nothing = λ q. (em .fields, em .deleted);
+        gone = λ z c. refl;
+        ends = λ z c. absurd (omega (arith, c, em .deleted));
+        ended = λ q. absent-unheard (sym q);
+      }
+  words-change k there w =
+      let f = w .coming refl in
+      let em = emptied sure? m lm id hid in
+      let some-there = subst (λ (s : List ℕ). 0 < headOf s .fields) (sym (comes-in sure? m lm id hid f))
+      (ltb-true 0 _ (settled-some sure? (structureAt id 1 m) la ∙ lt-ltb 0 _ f)) in
+      record {
+        present = λ q. some-there;
+        coming = λ q. unheard-there q;
+        nothing = λ q. (em .fields, em .deleted);
+        gone = λ z c. absurd (omega (arith, z, some-there));
+        ends = λ z c. absurd (omega (arith, c, em .deleted));
+        ended = λ q. absent-unheard (sym q);
+      }
+
+  -- what is certain behind a change a sure one has put there
+  pub sure-change : (xs zs ws : List ℕ) → Sure xs zs (structureAt id 0 m) (structureAt id 1 m) → Sure zs ws (then 0) (then 1)
+  unfolding forced certainly
+  sure-change xs zs ws w = record { front = λ c. go (said (headOf (structureAt id 1 m))) refl c; next = none-then }
+    where
+      is : (b : Bool) → said (headOf (structureAt id 1 m)) ≡ b → then 0 ≡ cond b (settled sure? (structureAt id 1 m)) (stayed sure? (structureAt id 0 m))
+      is b e = force-behind sure? m lm id hid ∙ ap (λ (x : Bool). cond x (settled sure? (structureAt id 1 m)) (stayed sure? (structureAt id 0 m))) e
+
+      go : (b : Bool) → said (headOf (structureAt id 1 m)) ≡ b → (eqb (headOf (then 0) .certain) 1 && ltb 0 (headOf (then 0) .fields)) ≡ true → 0 < length zs
+      go true e c =
+          w .next (ltb-true 0 _ (sym (settled-some sure? (structureAt id 1 m) la) ∙ ap (λ (s : List ℕ). ltb 0 (headOf s .fields)) (sym (is true e))
+          ∙ and-right (eqb (headOf (then 0) .certain) 1) _ c))
+      go false e c =
+          absurd (omega (
+            arith,
+            eqb-true (headOf (then 0) .certain) 1 (and-left (eqb (headOf (then 0) .certain) 1) _ c),
+            ap (λ (s : List ℕ). headOf s .certain) (is false e) ∙ stayed-certain (structureAt id 0 m) lf sure?,
+          ))
+
+pub sure-gap : (xs zs F A : List ℕ) → length F ≡ structureSize → length A ≡ structureSize → Sure xs zs F A → Sure xs zs (spoiled F) (spoiled A)
+unfolding certainly
+sure-gap xs zs F A lf la w = record {
+  front = λ c. w .front (sym (λ i. eqb (spoiled-certain F lf i) 1 && spoiled-some F lf i) ∙ c);
+  next = λ h. w .next (ltb-true 0 _ (sym (spoiled-some A la) ∙ lt-ltb 0 _ h));
+}
 
 -- ---- between two frames that are heard
 
@@ -232,12 +304,12 @@ module _ (a : Air) (hears : ℕ → Bool) (id t : ℕ) where
 
 pub some-old : (a : Air) (hears : ℕ → Bool) (n e id due : ℕ) (s : List ℕ) (t l : ℕ) → Front a hears n e id due s → t < 2 ^ 64 → 0 < headOf (gathered s t l) .fields
 some-old a hears n e id due s t l (some p) small = let h = part-head s _ due p in gathered-some s t l (h .1 .1) (h .0) small
-some-old a hears n e id due s t l (all j k hl hj pos h q) small = gathered-whole s t l (h .whole) (omega (arith, h .fields, pos)) small
+some-old a hears n e id due s t l (all j k hl hj pos h q) small = gathered-whole s t l (h .size) (h .whole) (omega (arith, h .fields, pos)) small
 
 pub some-new : (a : Air) (hears : ℕ → Bool) (n e id due count links : ℕ) (g u : Bool) (s : List ℕ) (t l : ℕ) → Next a hears n e id due count links g u s
     → 0 < length (a .config (suc e) id) → t < 2 ^ 64 → 0 < headOf (gathered s t l) .fields
 some-new a hears n e id due count links g u s t l (none em c q) pos small = gathered-some s t l (em .size) (em .whole) small
-some-new a hears n e id due count links g u s t l (delete d z) pos small = absurd (omega (arith, pos, ap length z))
+some-new a hears n e id due count links g u s t l (delete d c) pos small = gathered-some s t l (d .size) (d .whole) small
 some-new a hears n e id due count links g u s t l (piece w p q) pos small = let h = part-head s _ due q in gathered-some s t l (h .1 .1) (h .0) small
-some-new a hears n e id due count links g u s t l (sure k p le c d hl h) pos small = gathered-some s t l (h .size) (h .whole) small
-some-new a hears n e id due count links g u s t l (full k hl p h) pos small = gathered-whole s t l (h .whole) (omega (arith, h .fields, p)) small
+some-new a hears n e id due count links g u s t l (sure k p le c d hl la h) pos small = gathered-some s t l (h .size) (h .whole) small
+some-new a hears n e id due count links g u s t l (full k hl p la h) pos small = gathered-whole s t l (h .size) (h .whole) (omega (arith, h .fields, p)) small

@@ -8,7 +8,7 @@
 --   turn n i              which field of a structure of n comes behind field i, again and again
 --   lastOld, lastNew      which field of a component's present structure, or of its coming one, was carried last before a frame; 0 for none,
 --                         otherwise one more than its place
---   linksNew              LINKS of the last field of a component's coming structure before a frame
+--   linksOld, linksNew    LINKS of the last field of a component's present structure, or of its coming one, before a frame
 --   newTo, goneTo         how many fields of its coming structure the running configuration has carried up to a frame, and whether it said
 --                         that the component is to be deleted
 --   Orderly a             what 4.5.4 asks
@@ -20,9 +20,8 @@ use lib.Dec.{eqb}
 use lib.ListN.{length, getD}
 use Rattle.field.specs.Field.{badTdms, deletes, panning}
 use Rattle.field.specs.declared.Field.{Field}
-use Rattle.map.specs.Map.{ids}
-use Rattle.multiplex.specs.Broadcast.{Broadcast, countAt, change, epoch, begun, Linked, Bits}
-use Rattle.multiplex.specs.Broadcast as broadcast
+use Rattle.map.specs.Map.{ids, counted}
+use Rattle.multiplex.specs.Broadcast.{Broadcast, countAt, change, epoch, begun, some, Linked, Bits}
 
 pub data Carries : Type 0 where
   -- component, which field, LINKS
@@ -39,7 +38,7 @@ pub record Air : Type 0 where
 
 -- its frames, counts and configurations
 abbrev pub timed : Air → Broadcast
-timed a = record { origin = a .origin; config = a .config; sends = λ t. broadcast.vectors 0 0 0; links = λ j id r. 0 }
+timed a = record { origin = a .origin }
 
 abbrev pub inForce : Air → ℕ → ℕ → List ℕ
 inForce a t id = a .config (epoch (timed a) t) id
@@ -107,6 +106,10 @@ linkOf (old k i l) = l
 linkOf (gone flag k t l) = l
 linkOf (vectors flag t l) = l
 
+unfoldable pub linksOld : Air → ℕ → ℕ → ℕ
+linksOld a id zero = 0
+linksOld a id (suc t) = cond (eqb (oldIn id (a .carries t)) 0) (linksOld a id t) (linkOf (a .carries t))
+
 unfoldable pub linksNew : Air → ℕ → ℕ → ℕ
 linksNew a id zero = 0
 linksNew a id (suc t) = cond (eqb (newIn id (a .carries t)) 0) (linksNew a id t) (linkOf (a .carries t))
@@ -130,19 +133,22 @@ goneTo a id t = goneBefore a id t || goneIn id (a .carries t)
 
 -- ---- the law
 
--- Fields of one component come round in order. A repetition of a coming structure begins with its first field (where the running
--- configuration began before frame 0, nobody knows which was carried before), and LINKS is the same in all of it. "this bit shall change on each repetition of the linked TDMS
--- field(s)" is read so that a repetition of a structure that does not change is sent whole, over a change too: a reading of the house.
+-- Fields of one component come round in order, and LINKS is the same in all of a repetition. A repetition of a coming structure begins with its
+-- first field (where the running configuration began before frame 0, nobody knows which was carried before). "this bit shall change on
+-- each repetition of the linked TDMS field(s)" is read so that a repetition of a structure that does not change is sent whole, over a change
+-- too: a reading of the house. Flagged all ones come before the first field of the coming structure, never behind one: a component may be
+-- deleted and created in one configuration.
 unfoldable pub InTurn : Air → ℕ → Carries → Type 0
 InTurn a t (new id i l) =
     (id < ids) × ((i < length (coming a t id)) × ((l < 2)
     × (((k : ℕ) → lastNew a id t ≡ suc k → (i ≡ turn (length (coming a t id)) k) × (i ≡ suc k → l ≡ linksNew a id t))
     × (lastNew a id t ≡ 0 → begun (timed a) t ≡ true → i ≡ 0))))
 InTurn a t (old id i l) =
-    (id < ids) × ((i < length (inForce a t id)) × ((l < 2) × ((k : ℕ) → lastOld a id t ≡ suc k → i ≡ turn (length (inForce a t id)) k)))
+    (id < ids) × ((i < length (inForce a t id)) × ((l < 2)
+    × ((k : ℕ) → lastOld a id t ≡ suc k → (i ≡ turn (length (inForce a t id)) k) × (i ≡ suc k → l ≡ linksOld a id t))))
 InTurn a t (gone flag id tdms l) =
-    (id < ids) × ((id ≡ panning → ⊥) × ((a .config (cond (eqb flag 1) (suc (epoch (timed a) t)) (epoch (timed a) t)) id ≡ [])
-    × ((deletes tdms ≡ true) × ((badTdms tdms ≡ false) × Bits flag tdms l))))
+    (id < ids) × ((id ≡ panning → ⊥) × ((flag ≡ 0 → inForce a t id ≡ []) × ((flag ≡ 1 → newBefore a id t ≡ 0)
+    × ((deletes tdms ≡ true) × ((badTdms tdms ≡ false) × Bits flag tdms l)))))
 InTurn a t (vectors flag tdms l) = Bits flag tdms l
 
 -- of the change behind frame t, at the end of a configuration that began in frame 0 or later: nothing was said of the component, and it stays as
@@ -154,6 +160,8 @@ pub data Said (a : Air) (t id : ℕ) : Type 0 where
 
 pub record Orderly (a : Air) : Type 0 where
   pub linked : (j id : ℕ) → id < ids → Linked (a .config j id)
+  -- "The number of different TDM components ... shall never exceed 128."
+  pub few : (j : ℕ) → counted (λ (id : ℕ). some (a .config j id)) ids 0 ≤ 128
   pub vectors : (j : ℕ) → a .config j panning ≡ []
   pub turns : (t : ℕ) → InTurn a t (a .carries t)
   pub said : (t id : ℕ) → id < ids → change (timed a) (suc t) ≡ true → begun (timed a) t ≡ true → Said a t id

@@ -33,6 +33,7 @@ deaf = record {
   fields = λ m id count. [];
   announced = λ m id count. 0;
   frames = λ m id count. 0;
+  unknown = λ m id count. 0;
 }
 
 unfoldable pub refusing : Machine
@@ -44,6 +45,7 @@ refusing = record {
   fields = shownFields;
   announced = λ m id count. shown m id count .announced;
   frames = λ m id count. shown m id count .frames;
+  unknown = λ m id count. shown m id count .unknown;
 }
 
 unfoldable pub firstOnly : Machine
@@ -55,6 +57,7 @@ firstOnly = record {
   fields = shownFields;
   announced = λ m id count. shown m id count .announced;
   frames = λ m id count. shown m id count .frames;
+  unknown = λ m id count. shown m id count .unknown;
 }
 
 unfoldable pub late : Machine
@@ -66,6 +69,7 @@ late = record {
   fields = λ m id count. shownFields m id (framesOf m .last);
   announced = λ m id count. shown m id count .announced;
   frames = λ m id count. shown m id count .frames;
+  unknown = λ m id count. shown m id count .unknown;
 }
 
 unfoldable pub hasty : Machine
@@ -77,6 +81,7 @@ hasty = record {
   fields = λ m id count. fieldOf m .tdms ∷ [];
   announced = λ m id count. 0;
   frames = λ m id count. 0;
+  unknown = λ m id count. 0;
 }
 
 unfoldable pub clinging : Machine
@@ -88,6 +93,7 @@ clinging = record {
   fields = λ m id count. one ∷ [];
   announced = λ m id count. 0;
   frames = λ m id count. 0;
+  unknown = λ m id count. 0;
 }
 
 -- a present field of component 7
@@ -118,4 +124,5 @@ stubborn = record {
   fields = λ m id count. cond (surely m id) (getD m 1 0 ∷ []) [];
   announced = λ m id count. 0;
   frames = λ m id count. 0;
+  unknown = λ m id count. 0;
 }

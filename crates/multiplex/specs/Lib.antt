@@ -1,6 +1,7 @@
-pub mod Air
 pub mod Broadcast
+pub mod Air
 pub mod Heard
+pub mod Sound
+pub mod Finding
 pub mod Example
 pub mod Empty
-pub mod Sound

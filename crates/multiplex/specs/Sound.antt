@@ -38,6 +38,11 @@ unfoldable pub anyBefore : (ℕ → Bool) → ℕ → Bool
 anyBefore hears zero = false
 anyBefore hears (suc t) = hears t || anyBefore hears t
 
+-- frames heard in a row, up to a frame and with it
+unfoldable pub inRow : (ℕ → Bool) → ℕ → ℕ
+inRow hears zero = cond (hears zero) 1 0
+inRow hears (suc t) = cond (hears (suc t)) (suc (inRow hears t)) 0
+
 pub record Listener (M : Machine) (a : Air) (hears : ℕ → Bool) : Type 0 where
   -- a field that is refused counts as missed
   pub taken : (t : ℕ) → hears t ≡ true → M .answer (kept M a hears t) (fieldBytes (fieldOn a t)) ≡ 0

@@ -3,7 +3,11 @@
 --   head-stored, nth-head, head-nth, nth-same, nth-other    the head and the fields of a structure, after a change of one of them
 --   Holds s n xs w l        a structure holds the first n fields of a list, with its marks
 --   Empty s                 nothing is said
---   begun, joined, completed, kept      what one more field does: the first, the next, the first again, and any of a whole structure
+--   Alike s x               the same fields, with other marks
+--   beginning-*             one field alone
+--   begun, joined, completed      what one more field does: the first, the next, the first again; *-head: the head by then
+--   kept-*, other-begins    of a whole structure: a field in turn leaves it, any other begins it anew
+--   place-is, next-first, next-turn    the place of a field of a whole structure, and when it comes in turn
 --
 -- Assumes nothing.
 use mathlib.Core.Path.{_≡_, refl, sym, ap, ap₂, _∙_, subst}
@@ -218,14 +222,14 @@ module _ (late certain t l : ℕ) where
 
 -- ---- the first field
 
-module _ (s : List ℕ) (e : Empty s) (t l : ℕ) (xs : List ℕ) (small : t < 2 ^ 64) (is : t ≡ getD xs 0 0) where
+module _ (s : List ℕ) (nothing : headOf s .fields ≡ 0) (unfinished : headOf s .whole ≡ 0) (t l : ℕ) (xs : List ℕ) (small : t < 2 ^ 64) (is : t ≡ getD xs 0 0) where
   begins : turnOf s t l ≡ Begins
   unfolding turnOf goesOn
   begins =
-      λ i. cond (eqb (e .whole i) 1) (cond (isNext s t) Known Begins)
-      (cond (ltb 0 (e .fields i) && (eqb (headOf s .links) l && ltb (key (nth (stored (headOf s) - 1) s)) (key t)))
+      λ i. cond (eqb (unfinished i) 1) (cond (isNext s t) Known Begins)
+      (cond (ltb 0 (nothing i) && (eqb (headOf s .links) l && ltb (key (nth (stored (headOf s) - 1) s)) (key t)))
       (cond (ltb (headOf s .fields) most) Joins Overflows)
-      (cond (ltb 0 (e .fields i) && (leb (headOf s .fields) most && eqb (nth 0 s) t)) Completes Begins))
+      (cond (ltb 0 (nothing i) && (leb (headOf s .fields) most && eqb (nth 0 s) t)) Completes Begins))
 
   abbrev one : Structure
   one = record { fields = 1; whole = 0; links = l; deleted = 0; late = lateOf (headOf s); last = 0; certain = 1 }
@@ -242,7 +246,7 @@ module _ (s : List ℕ) (e : Empty s) (t l : ℕ) (xs : List ℕ) (small : t < 2
   unfolding lateOf
   begun-head =
       ap headOf begun-is ∙ beginning-head (lateOf (headOf s)) 1 t l
-      ∙ (λ i. record { fields = 1; whole = 0; links = l; deleted = 0; late = cond (ltb 0 (e .fields i)) 1 0; last = 0; certain = 1 })
+      ∙ (λ i. record { fields = 1; whole = 0; links = l; deleted = 0; late = cond (ltb 0 (nothing i)) 1 0; last = 0; certain = 1 })
 
 -- ---- further fields
 

@@ -28,11 +28,11 @@ use Rattle.bits.specs.Search.{first}
 use Rattle.bits.proofs.Search.{and-left, first-holds}
 use Rattle.bits.proofs.Storing.{blank-length}
 use Rattle.field.specs.Field.{key, fln1, fcp, deletes}
-use Rattle.structure.specs.Structure.{most, structureSize, allOnes, headOf, withHead, nth, stored, placeOf, member, nextPlace, isNext, goesOn, turnOf, gatheringHead, completedHead, lateOf, turned, gathered, spoiled}
+use Rattle.structure.specs.Structure.{most, structureSize, allOnes, headOf, withHead, nth, stored, placeOf, member, nextPlace, isNext, goesOn, turnOf, gatheringHead, completedHead, markedHead, lateOf, turned, gathered, spoiled}
 use Rattle.structure.specs.declared.Structure.{Structure}
 use Rattle.structure.specs.declared.Turn.{Turn}
 use Rattle.structure.specs.declared.Turn.the-variants.{Begins, Joins, Overflows, Completes, Known}
-use Rattle.structure.proofs.Gathering.{Holds, Empty, Alike, head-stored, head-nth, with-head-length, stored-few, alike-empty, alike-holds, beginning-holds, begun, joined, completed, kept-alike, other-begins}
+use Rattle.structure.proofs.Gathering.{Holds, Empty, Alike, head-stored, head-nth, with-head-length, stored-few, alike-empty, alike-holds, beginning-holds, begun, joined, completed, completed-head, kept-alike, kept-head, other-begins, place-is, next-first, next-turn}
 use Rattle.structure.proofs.Kept.{spoiled-length, spoiled-none, spoiled-head, spoiled-first}
 
 pub record Fields (xs : List ℕ) : Type 0 where
@@ -53,6 +53,10 @@ pub data Part (s xs : List ℕ) (due : ℕ) : Type 0 where
   empty : Empty s → Part s xs due
   stuck : Stuck s → Part s xs due
   run : (i k l : ℕ) → l ≤ 1 → 0 < k → i + k ≤ length xs → due ≡ i + k → Holds s k (drop i xs) 0 l → Part s xs due
+
+-- which field came last, or of none is it known
+abbrev pub Lasts : List ℕ → ℕ → Type 0
+Lasts s due = (headOf s .last ≡ 0) ⊎ (headOf s .last ≡ due)
 
 -- a field that a structure has
 pub data Listed (s : List ℕ) (t : ℕ) : Type 0 where
@@ -203,7 +207,7 @@ spoiled-whole s ls w = spoiled-none s ls (λ i. eqb (w i) 0 && ltb 0 (headOf s .
 
 pub data Took (s xs : List ℕ) (due : ℕ) : Type 0 where
   partly : Part s xs due → Took s xs due
-  wholly : (l : ℕ) → l ≤ 1 → Holds s (length xs) xs 1 l → Took s xs due
+  wholly : (l : ℕ) → l ≤ 1 → Holds s (length xs) xs 1 l → Lasts s due → Took s xs due
 
 pub record Stays (s ys : List ℕ) (m t : ℕ) : Type 0 where
   pub holds : Holds s (length ys) ys 1 m
@@ -263,13 +267,16 @@ module _ (xs : List ℕ) (f : Fields xs) (i : ℕ) (hi : i < length xs) (l : ℕ
       one-on : (n : ℕ) → suc n ≡ n + 1
       one-on n = omega arith
 
-  empty-takes : (s : List ℕ) → Empty s → Took (gathered s t l) xs (suc i)
-  unfolding goesOn
-  empty-takes s e =
-      partly (run i 1 l hl (lit< tt) (omega arith) (one-on i) (begun s e t l (drop i xs) small (sym (first-of i))))
+  -- where nothing was there
+  pub open-takes : (s : List ℕ) → headOf s .fields ≡ 0 → headOf s .whole ≡ 0 → Took (gathered s t l) xs (suc i)
+  open-takes s f w =
+      partly (run i 1 l hl (lit< tt) (omega arith) (one-on i) (begun s f w t l (drop i xs) small (sym (first-of i))))
     where
       one-on : (n : ℕ) → suc n ≡ n + 1
       one-on n = omega arith
+
+  empty-takes : (s : List ℕ) → Empty s → Took (gathered s t l) xs (suc i)
+  empty-takes s e = open-takes s (e .fields) (e .whole)
 
   and-no : (a b c : Bool) → c ≡ false → (a && (b && c)) ≡ false
   and-no true true c h = h
@@ -334,7 +341,7 @@ module _ (xs : List ℕ) (f : Fields xs) (i : ℕ) (hi : i < length xs) (l : ℕ
 
     -- a repetition ends, and the next begins
     comes-round : i ≡ 0 → j + k ≡ length xs → Took (gathered s t l) xs (suc i)
-    unfolding goesOn
+    unfolding goesOn completedHead
     comes-round z e = go (ℕ-discrete j 0)
       where
         falls : key t ≤ key (getD xs (j + k - 1) 0)
@@ -353,7 +360,11 @@ module _ (xs : List ℕ) (f : Fields xs) (i : ℕ) (hi : i < length xs) (l : ℕ
             wholly l hl
             (subst (λ (n : ℕ). Holds (gathered s t l) n xs 1 l) all
             (subst (λ (n : ℕ). Holds (gathered s t l) k (drop n xs) 1 l) q c))
+            (inr (first-last (completed-head s (drop j xs) k t l m h pos few is (omega (arith, falls, ap key last)))))
           where
+            first-last : headOf (gathered s t l) ≡ completedHead l (headOf s) → headOf (gathered s t l) .last ≡ suc i
+            first-last e = ap (λ (x : Structure). x .last) e ∙ ap suc (sym z)
+
             minus : (a b : ℕ) → 0 < b → a + (b - 1) ≡ a + b - 1
             minus a b p = omega arith
         go (no q) =
@@ -381,3 +392,33 @@ module _ (xs : List ℕ) (f : Fields xs) (i : ℕ) (hi : i < length xs) (l : ℕ
       go : (b : Bool) → isNext s t ≡ b → Stays (gathered s t l) ys m t ⊎ Took (gathered s t l) xs (suc i)
       go true e = inl (next-stays s ys m t l pos h e)
       go false e = inr (begins-run s (other-begins s t l (h .whole) e))
+
+  -- where the structure itself is held as whole, and it is known which of its fields came last, or of none
+  pub whole-next : (s : List ℕ) (due m : ℕ) → Holds s (length xs) xs 1 m → Lasts s due
+      → ((k : ℕ) → due ≡ suc k → i ≡ cond (eqb (suc k) (length xs)) 0 (suc k))
+      → Holds (gathered s t l) (length xs) xs 1 m × (headOf (gathered s t l) .last ≡ suc i)
+  unfolding markedHead
+  whole-next s due m h last turn =
+      let next = in-turn last in (
+        alike-holds s (gathered s t l) (length xs) xs 1 m (kept-alike s t l (h .whole) (h .size) next) h,
+        ap (λ (x : Structure). x .last) (kept-head s t l (h .whole) (h .size) next) ∙ ap (λ (n : ℕ). n + 1) place ∙ one-on i,
+      )
+    where
+      one-on : (n : ℕ) → n + 1 ≡ suc n
+      one-on n = omega arith
+
+      place : placeOf s t ≡ i
+      place = place-is s xs (length xs) m i t h (f .few) hi refl (λ j hj. apart xs f j i hj hi)
+
+      behind : (d : ℕ) → headOf s .last ≡ d → ((k : ℕ) → d ≡ suc k → i ≡ cond (eqb (suc k) (length xs)) 0 (suc k)) → isNext s t ≡ true
+      behind zero e turn = next-first s xs (length xs) m i t h (f .few) hi refl (λ j hj. apart xs f j i hj hi) e
+      behind (suc k) e turn =
+          next-turn s xs (length xs) m i t h (f .few) hi refl (λ j hj. apart xs f j i hj hi) k e (turn k refl) (within k (turn k refl) (ℕ-discrete (suc k) (length xs)))
+        where
+          within : (k : ℕ) → i ≡ cond (eqb (suc k) (length xs)) 0 (suc k) → Dec (suc k ≡ length xs) → suc k ≤ length xs
+          within k e (yes q) = omega (arith, q)
+          within k e (no q) = omega (arith, hi, e ∙ ap (λ (b : Bool). cond b 0 (suc k)) (ne-eqb (suc k) (length xs) q))
+
+      in-turn : Lasts s due → isNext s t ≡ true
+      in-turn (inl z) = next-first s xs (length xs) m i t h (f .few) hi refl (λ j hj. apart xs f j i hj hi) z
+      in-turn (inr e) = behind due e turn

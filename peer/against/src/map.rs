@@ -15,6 +15,24 @@ extern "C" {
         len: *mut usize,
         announced: *mut u8,
         frames: *mut u8,
+        unknown: *mut u8,
+    ) -> u8;
+    fn feed_map_heard(
+        map: *const u8,
+        map_len: usize,
+        id: u8,
+        count: u8,
+        at: *mut usize,
+        len: *mut usize,
+        whole: *mut u8,
+    ) -> u8;
+    fn feed_map_known(
+        map: *const u8,
+        map_len: usize,
+        count: u8,
+        row: *mut u8,
+        unbroken: *mut u8,
+        components: *mut usize,
     ) -> u8;
     fn feed_map_list(map: *const u8, map_len: usize, count: u8, out: *mut u8, out_len: usize)
         -> u8;
@@ -68,11 +86,11 @@ pub fn take(map: &mut [u8], field: &[u8]) -> u8 {
     unsafe { feed_map_take(start, length, field.as_ptr(), field.len()) }
 }
 
-/// (number, place, length, announced, frames)
-pub fn show(map: &[u8], id: u8, count: u8) -> (u8, usize, usize, u8, u8) {
+/// (number, place, length, announced, frames, unknown)
+pub fn show(map: &[u8], id: u8, count: u8) -> (u8, usize, usize, u8, u8, u8) {
     let (mut at, mut length) = (MARK_SIZE, MARK_SIZE);
-    let (mut announced, mut frames) = (MARK, MARK);
-    // SAFETY: the call reads the map within its length and writes only these four values.
+    let (mut announced, mut frames, mut unknown) = (MARK, MARK, MARK);
+    // SAFETY: the call reads the map within its length and writes only these five values.
     let number = unsafe {
         feed_map_show(
             map.as_ptr(),
@@ -83,9 +101,45 @@ pub fn show(map: &[u8], id: u8, count: u8) -> (u8, usize, usize, u8, u8) {
             &mut length,
             &mut announced,
             &mut frames,
+            &mut unknown,
         )
     };
-    (number, at, length, announced, frames)
+    (number, at, length, announced, frames, unknown)
+}
+
+/// (number, place, length, whole)
+pub fn heard(map: &[u8], id: u8, count: u8) -> (u8, usize, usize, u8) {
+    let (mut at, mut length, mut whole) = (MARK_SIZE, MARK_SIZE, MARK);
+    // SAFETY: the call reads the map within its length and writes only these three values.
+    let number = unsafe {
+        feed_map_heard(
+            map.as_ptr(),
+            map.len(),
+            id,
+            count,
+            &mut at,
+            &mut length,
+            &mut whole,
+        )
+    };
+    (number, at, length, whole)
+}
+
+/// (number, row, unbroken, components)
+pub fn known(map: &[u8], count: u8) -> (u8, u8, u8, usize) {
+    let (mut row, mut unbroken, mut components) = (MARK, MARK, MARK_SIZE);
+    // SAFETY: the call reads the map within its length and writes only these three values.
+    let number = unsafe {
+        feed_map_known(
+            map.as_ptr(),
+            map.len(),
+            count,
+            &mut row,
+            &mut unbroken,
+            &mut components,
+        )
+    };
+    (number, row, unbroken, components)
 }
 
 pub fn list(map: &[u8], count: u8, out: &mut [u8]) -> u8 {

@@ -21,6 +21,17 @@ pub struct Structure {
     pub clock_periods: (u32, u32),
 }
 
+/// How far what a map has heard reaches.
+#[derive(Clone, Copy, Debug, PartialEq, Eq)]
+pub struct Reach {
+    /// How many frames were heard in a row, up to 255.
+    pub row: u8,
+    /// Whether every frame of the running configuration was.
+    pub unbroken: bool,
+    /// How many components are in force. More than 128 means that deletions were missed.
+    pub components: usize,
+}
+
 impl Map {
     /// A map of which nothing is known.
     pub fn new() -> Map {
@@ -51,18 +62,35 @@ impl Map {
         accepted(map::take(&mut self.bytes[..], field))
     }
 
-    /// The structures of a component in the frame of a count; none if nothing was heard of it, or all ones last. Refused: 46 if they
-    /// are not known to be all, and 33 if a map that was kept has one that no field can have.
-    pub fn component(&self, id: u8, count: u8) -> Result<Vec<Structure>, Refusal> {
-        let (number, at, length, _, _) = map::show(&self.bytes[..], id, count);
+    /// The structures of a component in the frame of a count: no structures if there is no such component, and nothing if not
+    /// enough was heard to know that. Refused: 46 if they are not known to be all, and 33 if a map that was kept has one that no
+    /// field can have.
+    pub fn component(&self, id: u8, count: u8) -> Result<Option<Vec<Structure>>, Refusal> {
+        let (number, at, length, _, _, unknown) = map::show(&self.bytes[..], id, count);
         accepted(number)?;
+        if unknown == 1 {
+            return Ok(None);
+        }
+        self.structures(at, length).map(Some)
+    }
+
+    /// The structures of a component that were heard up to now, for the frame of a count, and whether they are known to be all.
+    /// Refused: 33, as above.
+    pub fn heard(&self, id: u8, count: u8) -> Result<(Vec<Structure>, bool), Refusal> {
+        let (number, at, length, whole) = map::heard(&self.bytes[..], id, count);
+        accepted(number)?;
+        Ok((self.structures(at, length)?, whole == 1))
+    }
+
+    /// The structures that stand in a part of the map.
+    fn structures(&self, at: usize, length: usize) -> Result<Vec<Structure>, Refusal> {
         let part = &self.bytes[at..at + length];
         part.chunks_exact(8).map(structure).collect()
     }
 
     /// In how many frames behind the last one a change of the component comes, if one is announced.
     pub fn change_in(&self, id: u8) -> Option<u8> {
-        let (_, _, _, announced, frames) = map::show(&self.bytes[..], id, 0);
+        let (_, _, _, announced, frames, _) = map::show(&self.bytes[..], id, 0);
         (announced == 1).then_some(frames)
     }
 
@@ -71,9 +99,20 @@ impl Map {
         let mut out = [0; IDS];
         accepted(map::list(&self.bytes[..], count, &mut out)).expect("a good map");
         let ids = (0..=u8::MAX).zip(out);
-        ids.filter(|&(_, said)| said > 0)
+        ids.filter(|&(_, said)| [1, 2].contains(&said))
             .map(|(id, _)| id)
             .collect()
+    }
+
+    /// How far what was heard reaches, in the frame of a count.
+    pub fn reach(&self, count: u8) -> Reach {
+        let (number, row, unbroken, components) = map::known(&self.bytes[..], count);
+        accepted(number).expect("a good map");
+        Reach {
+            row,
+            unbroken: unbroken == 1,
+            components,
+        }
     }
 }
 

@@ -8,7 +8,7 @@ mod answers;
 mod map;
 
 pub use answers::{Protection, Refusal, Taken, Worth};
-pub use map::{Map, Structure};
+pub use map::{Map, Reach, Structure};
 
 use crate::calls;
 use answers::{accepted, worth};

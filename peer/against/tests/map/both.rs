@@ -4,6 +4,8 @@ use against::{map as ours, MARK};
 use second::map::{self as theirs, MAP};
 use second::samples::difference;
 
+/// Where the last frame's count stands in a map.
+pub const LAST: usize = MAP - 4;
 /// Bytes on each side of the library's buffers that nobody may touch.
 const MARGIN: usize = 64;
 
@@ -43,11 +45,23 @@ impl Both {
         number
     }
 
+    /// What is shown of a component, and what was heard of it.
     pub fn show(&mut self, id: u8, count: u8) -> u8 {
         let shown = ours::show(inside(&mut self.ours), id, count);
         assert_eq!(shown, theirs::show(&self.theirs, id, count), "{id} {count}");
         self.check("show");
+        let heard = ours::heard(inside(&mut self.ours), id, count);
+        let expected = theirs::heard(&self.theirs, id, count);
+        assert_eq!(heard, expected, "{id} {count}");
+        self.check("heard");
         shown.0
+    }
+
+    pub fn known(&mut self, count: u8) -> u8 {
+        let known = ours::known(inside(&mut self.ours), count);
+        assert_eq!(known, theirs::known(&self.theirs, count), "{count}");
+        self.check("known");
+        known.0
     }
 
     pub fn list(&mut self, count: u8, room: usize) -> u8 {
@@ -66,7 +80,7 @@ impl Both {
     }
 
     pub fn last(&self) -> u8 {
-        self.theirs[MAP - 3]
+        self.theirs[LAST]
     }
 }
 

@@ -5,9 +5,10 @@ mod both;
 mod numbers;
 mod program;
 
-use both::Both;
-use second::map::{pack, Field, IDS, MAP, PANNING};
+use both::{Both, LAST};
+use second::map::{pack, Field, COMPONENT, IDS, MAP, PANNING, STRUCTURE};
 use second::samples::broadcast::Broadcast;
+use second::samples::style::Style;
 use second::samples::{maps, rounds};
 use second::xorshift::Xorshift;
 
@@ -20,11 +21,13 @@ fn started() -> Both {
     both
 }
 
+/// Heard from a configuration's first frame on, and from before there is a component: nothing stays open.
 #[test]
 fn lawful_broadcasts() {
     let mut random = Xorshift::new(401);
     for seed in 0..rounds(8) as u64 {
-        let mut broadcast = Broadcast::new(500 + seed, random.below(256) as u8);
+        let origin = [2, 130][random.below(2)];
+        let mut broadcast = Broadcast::new(500 + 2 * seed, origin);
         let mut both = started();
         for _ in 0..3 * 256 {
             let frame = broadcast.frame();
@@ -38,6 +41,7 @@ fn lawful_broadcasts() {
                 assert_eq!(both.show(id, behind), 0);
             }
             assert_eq!(both.list(behind, IDS), 0);
+            assert_eq!(both.known(behind), 0);
         }
     }
 }
@@ -48,7 +52,7 @@ fn broadcasts_with_frames_lost() {
     let mut random = Xorshift::new(402);
     let mut unfinished = 0;
     for seed in 0..rounds(8) as u64 {
-        let mut broadcast = Broadcast::new(600 + seed, random.below(256) as u8);
+        let mut broadcast = Broadcast::new(600 + 2 * seed, random.below(256) as u8);
         let mut both = started();
         let lost = 2 + random.below(30);
         for _ in 0..3 * 256 {
@@ -61,19 +65,20 @@ fn broadcasts_with_frames_lost() {
                 unfinished += usize::from(both.show(id, frame.count) == 46);
             }
             both.list(COUNTS[random.below(10)], IDS);
+            both.known(COUNTS[random.below(10)]);
         }
     }
     assert!(unfinished > 100, "{unfinished}");
 }
 
-/// From the middle on, with up to 127 frames lost in a row.
+/// From the middle on, in a multiplex that has components already, with up to 127 frames lost in a row.
 #[test]
 fn broadcasts_from_the_middle_on() {
     let mut random = Xorshift::new(411);
     let mut unfinished = 0;
     for seed in 0..rounds(12) as u64 {
-        let most = [1, 3, 20, 128][seed as usize % 4];
-        let mut broadcast = Broadcast::in_turn(700 + seed, random.below(256) as u8, most);
+        let style = Style::any(&mut random, [1, 3, 20, 128][seed as usize % 4]);
+        let mut broadcast = Broadcast::with(700 + 2 * seed, random.below(256) as u8, style);
         let mut both = started();
         for _ in 0..128 + random.below(384) {
             broadcast.frame();
@@ -84,12 +89,14 @@ fn broadcasts_from_the_middle_on() {
                 broadcast.frame();
             }
             let frame = broadcast.frame();
-            both.take(&frame.field);
-            for &id in frame.present.keys().chain(frame.next.keys()) {
+            assert_eq!(both.take(&frame.field), 0);
+            let ids = frame.present.keys().chain(frame.next.keys());
+            for &id in ids.step_by(1 + frame.present.len() / 8) {
                 unfinished += usize::from(both.show(id, frame.count) == 46);
                 both.show(id, frame.count.wrapping_add(1));
             }
             both.list(frame.count, IDS);
+            both.known(frame.count);
         }
     }
     assert!(unfinished > 100, "{unfinished}");
@@ -126,14 +133,77 @@ fn parts() {
         let mut both = heard(&[(last, true, 11), (next, true, 11)], 0..0);
         assert_eq!(both.show(7, next), 46);
     }
+    // An announcement that begins in the middle, of which all frames are heard.
+    let middle = [(125, true, 21), (126, true, 31), (127, true, 11)];
+    assert_eq!(heard(&middle, 2..125).show(7, 130), 46);
+    // Nine fields that go into a second repetition.
+    let nine: Vec<_> = (2..20).map(|k| (k, true, u32::from(k - 2) % 9)).collect();
+    for length in 9..18 {
+        let mut both = heard(&nine[..length], 0..0);
+        idle(&mut both, nine[length].0..131);
+        assert_eq!(both.show(7, 130), 46, "{length}");
+    }
+    // A whole list that shrank unheard: the third beginning of a repetition shows it.
+    let mut both = heard(&known, 0..0);
+    for (count, line, number) in [
+        (132, 11, 0),
+        (133, 31, 46),
+        (134, 11, 46),
+        (135, 31, 46),
+        (136, 11, 0),
+    ] {
+        assert_eq!(both.take(&field(count, false, 7, line).encode()), 0);
+        assert_eq!(both.show(7, count), number);
+    }
+}
+
+/// When nothing heard is taken for none: behind 255 frames in a row, and until one is missed.
+#[test]
+fn unknown() {
+    let mut both = started();
+    for k in 0..300_u16 {
+        let count = k as u8;
+        both.take(&field(count, false, PANNING, 5).encode());
+        assert_eq!((both.show(7, count), both.list(count, IDS)), (0, 0));
+        assert_eq!(both.known(count), 0);
+    }
+    for count in 46..60 {
+        both.take(&field(count, false, PANNING, 5).encode());
+        assert_eq!((both.show(7, count), both.known(count)), (0, 0));
+    }
+}
+
+/// 128 announced, a change, and 127 more: none is refused, and with one in force beside them another is.
+#[test]
+fn more_than_128() {
+    let mut both = started();
+    let others = (128..=255).filter(|&id| id != PANNING);
+    for (count, id) in (2..130).zip(0..128) {
+        assert_eq!(both.take(&field(count, true, id, 11).encode()), 0);
+    }
+    idle(&mut both, 130..131);
+    for (count, id) in (131..=255).chain([0, 1]).zip(others) {
+        assert_eq!(both.take(&field(count, true, id, 11).encode()), 0);
+        both.known(count);
+    }
+    idle(&mut both, 2..3);
+    assert_eq!((both.known(2), both.list(2, IDS)), (0, 0));
+    for (count, id, number) in [(3, 5, 0), (4, 6, 45), (5, 5, 0), (6, 255, 0)] {
+        assert_eq!(both.take(&field(count, false, id, 11).encode()), number);
+    }
+}
+
+/// Frames of no matter.
+fn idle(both: &mut Both, counts: std::ops::Range<u8>) {
+    for count in counts {
+        assert_eq!(both.take(&field(count, false, PANNING, 5).encode()), 0);
+    }
 }
 
 /// A map that has heard frames of no matter, and then fields of component 7.
 fn heard(row: &[(u8, bool, u32)], before: std::ops::Range<u8>) -> Both {
     let mut both = started();
-    for count in before {
-        both.take(&field(count, false, PANNING, 5).encode());
-    }
+    idle(&mut both, before);
     for &(count, flag, line) in row {
         assert_eq!(both.take(&field(count, flag, 7, line).encode()), 0);
     }
@@ -163,6 +233,7 @@ fn history(random: &mut Xorshift, map: &[u8], length: usize, counts: &mut [usize
         counts[usize::from(both.show(id, both.last().wrapping_add(1)))] += 1;
         if random.below(4) == 0 {
             both.list(COUNTS[random.below(10)], IDS);
+            both.known(COUNTS[random.below(10)]);
         }
     }
 }
@@ -191,6 +262,7 @@ fn maps_made_by_hand() {
             COUNTS[random.below(10)],
         ] {
             both.list(count, IDS);
+            both.known(count);
             both.show(random.below(256) as u8, count);
         }
         history(&mut random, &map, 12, &mut counts);
@@ -234,23 +306,25 @@ fn bad_maps() {
         assert_eq!(both.take(&field), 34);
         assert_eq!(both.show(maps::id(&mut random), field[0]), 34);
         assert_eq!(both.list(field[0], IDS), 34);
+        assert_eq!(both.known(field[0]), 34);
     }
 }
 
-/// Every value of every byte that is tested, in some structures, and of the map's last three.
+/// Every value of every byte of some heads, of the byte behind each, and of the map's last four.
 #[test]
 fn every_byte_of_a_head() {
     let mut random = Xorshift::new(407);
     let mut map = maps::good(&mut random);
-    let places = [0, 68, 136 * 0x81, 136 * 255, 136 * 255 + 68];
-    let heads = places.iter().flat_map(|&at| at..at + 5);
-    for at in heads.chain(MAP - 3..MAP) {
+    let places = [0, 1, 2 * 0x81, 2 * 255, 2 * 255 + 1].map(|place| STRUCTURE * place);
+    let heads = places.iter().flat_map(|&at| at..at + 8);
+    for at in heads.chain(LAST..MAP) {
         let kept = map[at];
         for byte in 0..=255 {
             map[at] = byte;
             let mut both = Both::new(&map);
-            both.show((at / 136) as u8, 2);
-            both.take(&maps::field(&mut random, map[MAP - 3]));
+            both.show((at / COMPONENT) as u8, 2);
+            both.known(2);
+            both.take(&maps::field(&mut random, map[LAST]));
         }
         map[at] = kept;
     }
@@ -261,7 +335,9 @@ fn every_byte_of_a_head() {
 fn wrong_lengths() {
     let mut random = Xorshift::new(408);
     let contents = [maps::good(&mut random), maps::bad(&mut random)];
-    for length in [0, 1, 3, 68, 136, MAP - 136, MAP - 1, MAP, MAP + 1, 2 * MAP] {
+    let near = [MAP - COMPONENT, MAP - 1, MAP, MAP + 1];
+    let far = [0, 1, 4, STRUCTURE, COMPONENT, 2 * MAP];
+    for length in far.into_iter().chain(near) {
         for map in &contents {
             let map: Vec<u8> = map.iter().copied().cycle().take(length).collect();
             for room in [0, 1, 9, 10, 11, 20, 255, 256, 257, 512] {
@@ -271,6 +347,7 @@ fn wrong_lengths() {
             }
             let mut both = Both::new(&map);
             both.show(3, 9);
+            both.known(9);
             both.start();
         }
     }

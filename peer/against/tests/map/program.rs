@@ -1,6 +1,6 @@
 //! The map's type for programs in Rust.
 
-use against::feed::{Map, Refusal, Structure};
+use against::feed::{Map, Reach, Refusal, Structure};
 use against::map::{pack, write};
 use second::map::{FIELD, MAP};
 use second::samples::broadcast::Broadcast;
@@ -22,8 +22,17 @@ fn annex_c() {
     assert_eq!(map.take(&structure[1..]), Err(Refusal(20)));
     assert_eq!(map.change_in(0x20), Some(12));
     assert_eq!(map.change_in(0x22), None);
-    assert_eq!(map.component(0x20, 118), Ok(vec![]));
+    // Of what is in force nothing was heard yet; of what comes, a part.
+    assert_eq!(map.component(0x20, 118), Ok(None));
     assert_eq!(map.component(0x20, 130), Err(Refusal(46)));
+    assert_eq!(map.heard(0x20, 130), Ok((vec![expected], false)));
+    let reach = |row, unbroken, components| Reach {
+        row,
+        unbroken,
+        components,
+    };
+    assert_eq!(map.reach(118), reach(2, false, 0));
+    assert_eq!(map.reach(130), reach(2, false, 1));
     // In count 126 it comes again, and is known to be whole; the other frames are of no matter here.
     let (_, tdms) = pack([11, 21, 325, 333, 229, 1291]);
     for count in 119..131 {
@@ -35,11 +44,13 @@ fn annex_c() {
         assert_eq!(written, 0);
         assert_eq!(map.take(&field), Ok(()));
     }
-    assert_eq!(map.component(0x20, 130), Ok(vec![expected]));
+    assert_eq!(map.component(0x20, 130), Ok(Some(vec![expected])));
+    assert_eq!(map.heard(0x20, 130), Ok((vec![expected], true)));
     assert_eq!(map.components(130), [0x20]);
+    assert_eq!(map.reach(130), reach(14, true, 1));
     let mut kept = *map.bytes();
     assert!(Map::from_bytes(&kept).is_ok());
-    kept[MAP - 1] = 2;
+    kept[MAP - 2] = 2;
     assert_eq!(Map::from_bytes(&kept).err(), Some(Refusal(34)));
     assert_eq!(
         Refusal(46).to_string(),
@@ -50,7 +61,7 @@ fn annex_c() {
 /// It says what the calls under it say.
 #[test]
 fn a_broadcast() {
-    let mut broadcast = Broadcast::new(411, 77);
+    let mut broadcast = Broadcast::new(411, 130);
     let mut map = Map::default();
     let mut bytes = vec![0; MAP];
     for _ in 0..300 {
@@ -60,14 +71,16 @@ fn a_broadcast() {
         assert_eq!(difference(map.bytes(), &bytes), None);
         let ids: Vec<u8> = frame.present.keys().copied().collect();
         assert_eq!(map.components(frame.count), ids);
-        for (&id, list) in &frame.present {
+        assert_eq!(map.reach(frame.count).components, ids.len());
+        for (&id, list) in frame.present.iter() {
             let numbers = |it: Structure| {
                 let [(a, b), (c, d)] = [it.first_lines, it.second_lines];
                 let (e, f) = it.clock_periods;
                 second::map::pack([a, b, c, d, e, f]).1
             };
             let shown = map.component(id, frame.count).expect("a whole list");
-            let shown: Vec<u64> = shown.into_iter().map(numbers).collect();
+            let shown = shown.expect("a known one").into_iter().map(numbers);
+            let shown: Vec<u64> = shown.collect();
             assert_eq!(&shown, list);
             let announced = frame.announced.contains(&id);
             assert_eq!(map.change_in(id), announced.then_some(frame.to_change));

@@ -54,8 +54,7 @@ impl Map {
     /// The map that some bytes stand for; 20 and 34 are refused here, for every call.
     pub fn decode(bytes: &[u8]) -> Result<Map, u8> {
         refuse_unless(bytes.len() == MAP, LENGTH)?;
-        let (components, &[last, heard, unbroken, row]) =
-            bytes.split_last_chunk().ok_or(LENGTH)?;
+        let (components, &[last, heard, unbroken, row]) = bytes.split_last_chunk().ok_or(LENGTH)?;
         let components: Option<_> = components
             .chunks(COMPONENT)
             .map(Component::decode)

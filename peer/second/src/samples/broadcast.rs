@@ -7,7 +7,7 @@
 
 use super::speaker::{Speaker, Switches};
 use super::structures::{self, altered};
-use super::style::{Order, Style};
+use super::style::{Links, Order, Style};
 use crate::map::{self, FIELD, PANNING};
 use crate::xorshift::Xorshift;
 use std::collections::{BTreeMap, BTreeSet};
@@ -165,7 +165,7 @@ impl Broadcast {
             (_, 0) => (1, vec![]),
             (None, _) if self.next.len() >= self.style.most => return None,
             (Some(list), 1) => (random.below(2), list.clone()),
-            (Some(list), 2 | 3) if !self.style.few => (0, altered(random, list)),
+            (Some(list), 2 | 3) if self.style.alters() => (0, altered(random, list)),
             (_, 4) => (1 + random.below(2), self.style.list(random)),
             _ => (0, self.style.list(random)),
         };
@@ -257,13 +257,20 @@ impl Broadcast {
         self.last = id;
         let list = &self.present[&id];
         let random = &mut self.random;
-        let begins = if self.style.middle { random.below(list.len()) } else { 0 };
+        let begins = if self.style.middle {
+            random.below(list.len())
+        } else {
+            0
+        };
         let speaker = self
             .rounds
             .entry(id)
             .or_insert_with(|| Speaker::from(id, list.clone(), begins));
         match speaker.speak(random, &mut self.switches) {
-            Some((place, tdms, links)) => (Sent::Old(id, place), tdms, links),
+            Some((place, tdms, links)) => {
+                let any = self.style.links == Links::Anyhow && random.chance();
+                (Sent::Old(id, place), tdms, links ^ u8::from(any))
+            }
             None => self.pan(),
         }
     }

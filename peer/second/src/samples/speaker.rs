@@ -78,7 +78,7 @@ impl Switches {
     fn turn(&mut self, random: &mut Xorshift, id: u8, own: bool) -> bool {
         let last = &mut self.last[usize::from(id)];
         *last = match self.links {
-            Links::Each => !own,
+            Links::Each | Links::Anyhow => !own,
             Links::Both => !*last,
             Links::Seldom => own ^ (random.below(4) == 0),
         };

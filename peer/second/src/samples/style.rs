@@ -1,4 +1,4 @@
-//! How a broadcaster goes about it. All of it is lawful, but for LINKS that does not change, which no listener may rest on.
+//! How a broadcaster goes about it. All of it is lawful, but for some of what LINKS does, which no listener may rest on.
 
 use super::structures;
 use crate::xorshift::Xorshift;
@@ -11,6 +11,8 @@ pub struct Style {
     pub full: bool,
     /// Whether structures are made of few fields, so that they share them and come back.
     pub few: bool,
+    /// Whether structures have one field, so that much is said in a configuration.
+    pub short: bool,
     /// Whether some structures have more fields than a map has room for.
     pub long: bool,
     /// Whether the first repetition of a structure in force begins anywhere in it.
@@ -28,7 +30,10 @@ pub enum Links {
     Each,
     /// With each repetition of either.
     Both,
+    /// Not with each repetition, though never inside of one.
     Seldom,
+    /// At any time, among the fields in force.
+    Anyhow,
 }
 
 /// Where announcements stand among the other fields of a configuration.
@@ -45,6 +50,7 @@ impl Default for Style {
             most: 20,
             full: false,
             few: false,
+            short: false,
             long: false,
             middle: false,
             cyclic: false,
@@ -61,20 +67,35 @@ impl Style {
             most,
             full: random.below(4) != 0,
             few: random.chance(),
+            short: random.below(8) == 0,
             long: random.below(8) == 0,
             middle: random.chance(),
             cyclic: random.chance(),
-            links: [Links::Each, Links::Both, Links::Seldom][random.below(3)],
+            links: match random.below(7) {
+                0..=2 => Links::Each,
+                3 | 4 => Links::Both,
+                5 => Links::Seldom,
+                _ => Links::Anyhow,
+            },
             order: [Order::Mixed, Order::NewFirst, Order::NewLast][random.below(3)],
         }
     }
 
+    /// Whether a structure becomes another that differs a little.
+    pub fn alters(&self) -> bool {
+        !self.few && !self.short
+    }
+
     /// A structure.
     pub fn list(&self, random: &mut Xorshift) -> Vec<u64> {
-        match random.below(4) {
+        let mut list = match random.below(4) {
             0 if self.long => structures::long(random),
             _ if self.few => structures::of_stock(random),
             _ => structures::list(random),
+        };
+        if self.short {
+            list.truncate(1);
         }
+        list
     }
 }

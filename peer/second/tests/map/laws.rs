@@ -2,21 +2,36 @@
 //! frame for every component, against what the broadcaster knows and what of it was heard.
 //!
 //! - A: fields that are shown are a structure that the component has or had, and nothing that was heard since speaks against it.
-//! - B: it is right from the third beginning of a repetition on, within a configuration and with no frame missed since before the first.
+//! - B: it is right from the third beginning of a repetition on, within a configuration and with no frame missed since the first.
 //! - C: it is right from the second on, if at the first one the map held no whole list.
-//! - D: once it is right it stays so with each frame that is heard, over a change too if all was heard that announced it.
-//! - E: it is right behind a change if all was heard that announced it.
+//! - D: once it is right it stays so with each frame that is heard; over a change, if the configuration before was heard.
+//! - E: it is right behind a change that announces it, if the configuration before was heard.
 //! - F: no field is refused.
 //! - G: that there is no such component is held only where all ones said so, or behind 255 frames in a row.
 //!
-//! B to E are of structures that have room in a map.
+//! B to E are of structures that have room in a map. B and C rest on LINKS, which is the same within a repetition; and C is of any two
+//! beginnings, one behind the other. More is looked at: that there are no fields is shown only if none came last; what was heard of a
+//! list that is not whole is of the structure; and list and known say what show says.
 
 use crate::story::{Past, Story};
-use second::map::{known, list, start, take, Map, IDS, MAP};
+use second::map::{known, list, start, take, Map, Shown, IDS, MAP, PANNING};
 use second::numbers::{DONE, UNFINISHED};
 use second::samples::broadcast::{Frame, Sent};
+use second::samples::style::Links;
 
-/// How often each law was looked at where it says something.
+/// What it is for a configuration to be heard, in D and E, and in what known says.
+#[derive(Clone, Copy, Debug, PartialEq, Eq)]
+pub enum Reading {
+    /// Every frame of it was.
+    AsAsked,
+    /// As the map counts: the frame before it was, too, unless the listener was started with its first; and the first one behind it.
+    AsCounted,
+}
+
+/// A law that does not hold, of which component, and what is wrong.
+pub type Broken = (&'static str, u8, String);
+
+/// How often each law was looked at where it says something, and where it did not hold.
 #[derive(Debug, Default)]
 pub struct Seen {
     pub frames: usize,
@@ -28,36 +43,46 @@ pub struct Seen {
     pub kept: usize,
     pub kept_over_change: usize,
     pub announced: usize,
-    pub absent: usize,
+    pub gone: usize,
     pub unknown: usize,
     pub parts: usize,
+    /// The most components that were in force for certain at a time.
+    pub certain: usize,
     pub broken: Vec<Broken>,
 }
 
 /// A map, and all that is known of what it heard.
 pub struct Laws {
-    pub map: Vec<u8>,
+    map: Vec<u8>,
+    reading: Reading,
+    links: Links,
     stories: Vec<Story>,
     past: Past,
 }
 
-/// A law that does not hold, of which component, and what is wrong.
-pub type Broken = (&'static str, u8, String);
-
 impl Laws {
-    pub fn new() -> Laws {
+    pub fn new(reading: Reading, links: Links) -> Laws {
         let mut map = vec![0xA5; MAP];
         assert_eq!(start(&mut map), DONE);
         Laws {
             map,
+            reading,
+            links,
             stories: vec![Story::default(); IDS],
             past: Past::default(),
         }
     }
 
+    /// The listener is switched on before this frame, in the middle of a configuration or not.
+    pub fn begin(&mut self, frame: &Frame) {
+        for (id, story) in (0..=255).zip(&mut self.stories) {
+            story.change(frame.present.get(&id), &self.past);
+        }
+    }
+
     /// A frame of the broadcast that is not heard.
     pub fn miss(&mut self, frame: &Frame) {
-        self.begin(frame);
+        self.change(frame);
         self.past.miss();
         self.stories.iter_mut().for_each(Story::miss);
         self.look_back(frame);
@@ -65,151 +90,159 @@ impl Laws {
 
     /// A frame that is heard.
     pub fn hear(&mut self, frame: &Frame, seen: &mut Seen) {
-        self.begin(frame);
+        self.change(frame);
         let about = about(frame.sent);
-        let whole = self.is_whole(about, frame.count);
+        let whole = self.values().show(about, frame.count).length > 0;
         let number = take(&mut self.map, &frame.field);
         if number != DONE {
-            seen.broken.push(("F", about, format!("{number}")));
+            seen.broken.push(("F", about, number.to_string()));
         }
-        self.past.hear();
-        let story = &mut self.stories[usize::from(about)];
-        story.hear(frame, whole);
+        self.past.hear(frame);
+        self.stories[usize::from(about)].hear(frame, whole);
         seen.frames += 1;
         self.check(frame, seen);
         self.look_back(frame);
     }
 
     /// A configuration may begin with a frame.
-    fn begin(&mut self, frame: &Frame) {
-        if !self.past.is_begun() || frame.first {
-            self.past.change(frame.first);
-            for (id, story) in (0..=255).zip(&mut self.stories) {
-                story.change(frame.present.get(&id), &self.past);
-            }
+    fn change(&mut self, frame: &Frame) {
+        if frame.first {
+            self.past.change();
+            self.begin(frame);
         }
     }
 
-    fn is_whole(&self, id: u8, count: u8) -> bool {
-        let values = Map::decode(&self.map).expect("a good map");
-        values.show(id, count).length > 0
+    fn values(&self) -> Map {
+        Map::decode(&self.map).expect("a good map")
     }
 
-    /// Notes what was shown rightly in a frame.
+    /// Notes what is shown rightly in a frame that has passed.
     fn look_back(&mut self, frame: &Frame) {
-        let values = Map::decode(&self.map).expect("a good map");
-        for (id, story) in (0..=255).zip(&mut self.stories) {
-            let fields = shown(&self.map, &values, id, frame.count);
-            story.right = fields.as_deref() == Some(truth(frame, id, 0));
+        let values = self.values();
+        for id in 0..=255 {
+            let shown = values.show(id, frame.count);
+            let right = self.is_right(&shown, truth(frame, id, 0));
+            self.stories[usize::from(id)].right = right;
         }
-        self.past.right_heard = self.past.row > 0;
     }
 
     fn check(&self, frame: &Frame, seen: &mut Seen) {
-        let values = Map::decode(&self.map).expect("a good map");
+        let values = self.values();
         for id in 0..=255 {
             self.check_now(&values, frame, id, seen);
-            for ahead in self.asked(frame, id) {
+            let any = id.wrapping_mul(31).wrapping_add(frame.count) % 129;
+            let change = frame.to_change;
+            for ahead in [0, 1, change - 1, change, 128, any] {
                 self.check_ahead(&values, frame, id, ahead, seen);
-                self.check_heard(&values, frame, id, ahead, seen);
             }
+        }
+        for ahead in 0..=128 {
+            self.check_ahead(&values, frame, about(frame.sent), ahead, seen);
         }
         self.check_calls(&values, frame, seen);
+        let there = values.components.iter().map(|it| &it.in_force);
+        let certain = there.filter(|it| it.is_certainly_there()).count();
+        seen.certain = seen.certain.max(certain);
     }
 
-    /// Frames that are asked for, by how far ahead they are: those about the change, the farthest, and for one component all.
-    fn asked(&self, frame: &Frame, id: u8) -> Vec<u8> {
-        let change = frame.to_change;
-        if id == about(frame.sent) {
-            return (0..=128).collect();
-        }
-        let any = id.wrapping_mul(31).wrapping_add(frame.count) % 129;
-        vec![0, 1, change - 1, change, 128, any]
-    }
-
-    /// B to E, of the frame that was heard; and E of the next.
+    /// B to E, in the frame that was heard; and E in the next.
     fn check_now(&self, values: &Map, frame: &Frame, id: u8, seen: &mut Seen) {
         let story = &self.stories[usize::from(id)];
-        let truth_now = truth(frame, id, 0);
-        if truth_now.len() <= 8 {
-            let fields = shown(&self.map, values, id, frame.count);
-            let right = fields.as_deref() == Some(truth_now);
-            let kept = story.right && (!frame.first || self.past.before) && self.past.has_last();
-            let laws = [
-                ("B", story.beginnings >= 3, &mut seen.third),
-                ("C", story.second, &mut seen.second),
-                (if self.past.right_heard { "D" } else if story.told { "D, t not heard, told" } else { "D, t not heard" }, kept && !frame.first, &mut seen.kept),
-                (if !self.past.right_heard {"D change, t not heard"} else if self.past.gap_before {"D change, gap before"} else {"D change"}, kept && frame.first, &mut seen.kept_over_change),
-                (if self.past.gap_before {"E, gap before"} else if self.past.gap_behind {"E, gap behind"} else {"E"}, story.told, &mut seen.announced),
-            ];
-            for (law, holds, count) in laws {
-                *count += usize::from(holds && !(truth_now.is_empty() && law == "D"));
-                if holds && !right {
-                    let text = format!("{fields:x?}, not {truth_now:x?}");
-                    seen.broken.push((law, id, text));
-                }
-            }
+        let (here, there) = (truth(frame, id, 0), truth(frame, id, 1));
+        let next = values.show(id, frame.count.wrapping_add(1));
+        let ends = frame.to_change == 1 && self.is_heard(false);
+        if ends && story.announced && there.len() <= 8 && !self.is_right(&next, there) {
+            seen.broken.push(("E", id, format!("ahead, {next:?}")));
         }
-        let next = truth(frame, id, 1);
-        if frame.to_change == 1 && self.past.all && story.announced && next.len() <= 8 {
-            let fields = shown(&self.map, values, id, frame.count.wrapping_add(1));
-            if fields.as_deref() != Some(next) {
-                let law = if self.past.edge_missed {"E ahead, gap before"} else {"E ahead"};
-                let text = format!("{fields:x?}, not {next:x?}");
-                seen.broken.push((law, id, text));
+        let kept = story.right && self.keeps(story, frame);
+        let apart = self.links != Links::Anyhow;
+        let laws = [
+            ("B", apart && story.beginnings >= 3, &mut seen.third),
+            ("C", apart && story.second, &mut seen.second),
+            ("D", kept && !frame.first, &mut seen.kept),
+            ("D", kept && frame.first, &mut seen.kept_over_change),
+            ("E", story.told && self.is_heard(true), &mut seen.announced),
+        ];
+        let last = values.show(id, frame.count.wrapping_add(frame.to_change - 1));
+        let now = values.show(id, frame.count);
+        let right = self.is_right(&now, here) && self.is_right(&last, here);
+        for (law, holds, count) in laws {
+            let holds = holds && here.len() <= 8;
+            *count += usize::from(holds && !here.is_empty());
+            if holds && !right {
+                seen.broken.push((law, id, format!("{now:?}")));
             }
         }
     }
 
-    /// A and G, and what was heard, of a frame so far ahead.
+    /// Whether the running configuration was heard up to its end, or the one before.
+    fn is_heard(&self, before: bool) -> bool {
+        let Past {
+            now, before: gone, ..
+        } = &self.past;
+        let span = if before { gone } else { now };
+        match self.reading {
+            Reading::AsAsked => span.all(),
+            Reading::AsCounted => span.all_joined() && (now.first || !before),
+        }
+    }
+
+    /// Whether what was right in the frame before should be so in this one.
+    fn keeps(&self, story: &Story, frame: &Frame) -> bool {
+        // The frame of the change and perhaps others were missed, so that the map is not sure of it.
+        let late = self.past.now.heard == 1 && !frame.first;
+        let counted = self.reading == Reading::AsCounted;
+        let lost = counted && late && story.told;
+        !lost && (!frame.first || self.is_heard(true))
+    }
+
+    /// A and G, in a frame so far ahead.
     fn check_ahead(&self, values: &Map, frame: &Frame, id: u8, ahead: u8, seen: &mut Seen) {
         let story = &self.stories[usize::from(id)];
         let behind = ahead >= frame.to_change;
-        let count = frame.count.wrapping_add(ahead);
+        let (count, here) = (frame.count.wrapping_add(ahead), truth(frame, id, ahead));
         let it = values.show(id, count);
-        let fields = listed(&self.map, it.at, it.length);
-        let open = story.may_be(behind, truth(frame, id, ahead), &fields);
-        if it.length > 0 && !open {
-            seen.broken.push(("A", id, format!("{fields:x?} {ahead} ahead")));
+        let fields = self.listed(it.at, it.length);
+        if it.length > 0 && !story.may_be(behind, here, &fields) {
+            seen.broken.push(("A", id, format!("{fields:x?} {ahead}")));
         }
         let silent = it.number == DONE && it.length == 0;
-        let last = behind && frame.to_change == 1;
-        let gone = story.is_gone(behind, last && self.past.all);
-        if silent && !it.unknown && !gone && self.past.row < 255 {
-            seen.broken.push(("G", id, format!("{ahead} ahead")));
+        let ended = frame.to_change == 1 && self.past.now.all();
+        let gone = story.is_gone(behind, ended);
+        let held = silent && !it.unknown;
+        if held && !gone && self.past.row < 255 {
+            seen.broken.push(("G", id, format!("{it:?} {ahead}")));
         }
-        if silent && !it.unknown && gone && !truth(frame, id, ahead).is_empty() && (!behind || story.announced) {
-            seen.broken.push(("G2", id, format!("{ahead} ahead")));
-        }
-        if it.unknown && (!silent || self.past.row >= 255) {
-            seen.broken.push(("unknown", id, format!("{it:?}")));
-        }
-        if it.announced != story.announced {
-            seen.broken.push(("announced", id, format!("{it:?}")));
+        // What all ones said is so, up to the next change, or behind it where it was announced.
+        let wrong = held && gone && !here.is_empty() && (!behind || story.announced);
+        let odd = it.unknown && (!silent || self.past.row >= 255);
+        let blank = silent && story.is_there(behind);
+        if wrong || odd || blank || it.announced != story.announced {
+            seen.broken.push(("marks", id, format!("{it:?} {ahead}")));
         }
         seen.shown += usize::from(it.length > 0);
-        seen.stale += usize::from(it.length > 0 && fields != truth(frame, id, ahead));
+        seen.stale += usize::from(it.length > 0 && fields != here);
         seen.unfinished += usize::from(it.number == UNFINISHED);
-        seen.absent += usize::from(silent && !it.unknown);
+        seen.gone += usize::from(held && gone);
         seen.unknown += usize::from(it.unknown);
+        self.check_heard(values, frame, id, ahead, seen);
     }
 
-    /// Of a list that is not whole, what was heard are fields of the structure.
+    /// What was heard: of a whole list what is shown, and of another some fields of the structure.
     fn check_heard(&self, values: &Map, frame: &Frame, id: u8, ahead: u8, seen: &mut Seen) {
         let story = &self.stories[usize::from(id)];
         let count = frame.count.wrapping_add(ahead);
         let (it, shown) = (values.heard_of(id, count), values.show(id, count));
-        let fields = listed(&self.map, it.at, it.length);
-        let behind = ahead >= frame.to_change && story.announced;
-        let structure = truth(frame, id, if behind { ahead } else { 0 });
-        let same = (it.at, it.length) == (shown.at, shown.length);
+        let fields = self.listed(it.at, it.length);
+        let structure = truth(frame, id, if story.announced { ahead } else { 0 });
         let good = match it.whole {
-            true => same && it.length > 0,
+            true => it.length > 0 && (it.at, it.length) == (shown.at, shown.length),
             false => shown.length == 0 && fields.iter().all(|it| structure.contains(it)),
         };
         seen.parts += usize::from(!it.whole && it.length > 0);
         if !good {
-            seen.broken.push(("heard", id, format!("{it:?} {fields:x?} {ahead} ahead")));
+            let text = format!("{it:?} {fields:x?} {ahead}");
+            seen.broken.push(("heard", id, text));
         }
     }
 
@@ -227,16 +260,27 @@ impl Laws {
                 _ => 1,
             };
             if mark != expected {
-                seen.broken.push(("list", id, format!("{mark}, not {expected}")));
+                seen.broken.push(("list", id, format!("{mark} {it:?}")));
             }
         }
         let there = marks.iter().filter(|mark| [1, 2].contains(*mark)).count();
         let row = self.past.row.min(255) as u8;
-        let unbroken = self.past.unbroken.into();
         let it = known(&self.map, count);
-        if it != (DONE, row, unbroken, there) {
-            seen.broken.push(("known", 0, format!("{it:?}, not {row} {unbroken} {there}")));
+        if it != (DONE, row, self.is_heard(false).into(), there) {
+            seen.broken.push(("known", 0, format!("{it:?}")));
         }
+    }
+
+    /// Whether a component is shown as it is.
+    fn is_right(&self, shown: &Shown, truth: &[u64]) -> bool {
+        let same = || self.listed(shown.at, shown.length) == truth;
+        shown.number == DONE && shown.length == 8 * truth.len() && same()
+    }
+
+    /// The fields in a part of the map.
+    fn listed(&self, at: usize, length: usize) -> Vec<u64> {
+        let number = |bytes: &[u8]| u64::from_le_bytes(bytes.try_into().expect("eight bytes"));
+        self.map[at..at + length].chunks(8).map(number).collect()
     }
 }
 
@@ -244,7 +288,7 @@ impl Laws {
 fn about(sent: Sent) -> u8 {
     match sent {
         Sent::New(id, _) | Sent::Old(id, _) | Sent::Going(id) | Sent::Gone(id) => id,
-        Sent::Panning => second::map::PANNING,
+        Sent::Panning => PANNING,
     }
 }
 
@@ -253,16 +297,4 @@ fn truth(frame: &Frame, id: u8, ahead: u8) -> &[u64] {
     let behind = ahead >= frame.to_change;
     let then = if behind { &frame.next } else { &frame.present };
     then.get(&id).map_or(&[], Vec::as_slice)
-}
-
-/// The fields that are shown, if they are said to be all.
-fn shown(map: &[u8], values: &Map, id: u8, count: u8) -> Option<Vec<u64>> {
-    let it = values.show(id, count);
-    (it.number == DONE).then(|| listed(map, it.at, it.length))
-}
-
-/// The fields in a part of a map.
-fn listed(map: &[u8], at: usize, length: usize) -> Vec<u64> {
-    let number = |bytes: &[u8]| u64::from_le_bytes(bytes.try_into().expect("eight bytes"));
-    map[at..at + length].chunks(8).map(number).collect()
 }

@@ -1,10 +1,11 @@
 //! Broadcasts that are heard from the middle on, and not all of it: the laws, after every frame and for every component.
 
-use crate::laws::{Laws, Seen};
+use crate::laws::{Laws, Reading, Seen};
 use second::samples::broadcast::{Broadcast, Frame};
 use second::samples::rounds;
 use second::samples::style::Style;
 use second::xorshift::Xorshift;
+use std::collections::BTreeMap;
 
 /// A little more than four wraps of the count, of which up to two pass before the first frame is heard.
 const FRAMES: usize = 4 * 256 + 9;
@@ -14,47 +15,61 @@ const MOST: [usize; 8] = [1, 2, 3, 5, 20, 60, 127, 128];
 /// Who hears some of the frames.
 struct Ear {
     random: Xorshift,
-    kind: usize,
-    lost: usize,
-    /// The count, modulo 128, of the one frame about the next change that is not heard.
-    one: u8,
+    habit: Habit,
     /// How many frames will not be heard, and how many were not since the last one.
     gap: usize,
     missed: usize,
 }
 
+#[derive(Clone, Copy, Debug)]
+enum Habit {
+    HearsAll,
+    /// One frame in so many is missed.
+    One(usize),
+    /// In one of so many frames it begins to miss some, up to as many as may be.
+    Some(usize),
+    /// Frames about the changes are missed, here and there.
+    About,
+    /// Of the frames about a change one is missed: that of this count, modulo 128.
+    OneAbout(u8),
+}
+
 impl Ear {
-    fn new(seed: u64) -> Ear {
+    fn new(seed: u64, habit: usize) -> Ear {
         let mut random = Xorshift::new(seed);
+        let lost = [2, 8, 40, 150, 400][random.below(5)];
+        let habit = match habit % 7 {
+            0 => Habit::HearsAll,
+            1 => Habit::About,
+            2 | 3 => Habit::OneAbout(0),
+            4 => Habit::One(lost),
+            _ => Habit::Some(lost),
+        };
         Ear {
-            kind: random.below(7),
-            lost: [2, 8, 40, 150, 400][random.below(5)],
             random,
-            one: 0,
+            habit,
             gap: 0,
             missed: 0,
         }
     }
 
     fn hears(&mut self, frame: &Frame) -> bool {
-        let about = [126, 127, 0, 1, 2, 3].contains(&(frame.count % 128));
-        let random = &mut self.random;
-        match self.kind {
-            0 => {}
-            // About the changes.
-            1 => self.gap = usize::from(about && random.below(4) == 0),
-            6 => {
-                if frame.count % 128 == 64 {
-                    self.one = [126, 0, 1, 2, 3, 65][random.below(6)];
+        let (count, random) = (frame.count % 128, &mut self.random);
+        let about = [126, 127, 0, 1, 2, 3, 4].contains(&count);
+        self.gap = match &mut self.habit {
+            Habit::HearsAll => 0,
+            Habit::One(lost) => usize::from(random.below(*lost) == 0),
+            Habit::Some(_) if self.gap > 0 => self.gap - 1,
+            Habit::Some(lost) if random.below(*lost) > 0 => 0,
+            Habit::Some(_) => [1, random.below(8), random.below(128), 127][random.below(4)],
+            Habit::About => usize::from(about && random.below(4) == 0),
+            Habit::OneAbout(missed) => {
+                if count == 64 {
+                    *missed = [126, 0, 1, 1, 2, 2, 3, 65][random.below(8)];
                 }
-                self.gap = usize::from(frame.count % 128 == self.one);
+                usize::from(count == *missed)
             }
-            // One at a time.
-            2 => self.gap = usize::from(random.below(self.lost) == 0),
-            _ if self.gap > 0 => self.gap -= 1,
-            _ if random.below(self.lost) > 0 => {}
-            _ => self.gap = [1, random.below(8), random.below(128), 127][random.below(4)],
-        }
+        };
         // No more than 127 in a row are missed.
         let hears = self.gap == 0 || self.missed == 127;
         self.missed = if hears { 0 } else { self.missed + 1 };
@@ -62,47 +77,72 @@ impl Ear {
     }
 }
 
-#[test]
-fn the_laws_hold() {
-    let mut random = Xorshift::new(332);
-    let mut seen = Seen::default();
-    let mut broken: std::collections::BTreeMap<&str, usize> = Default::default();
-    let from: usize = std::env::var("FROM").map_or(0, |it| it.parse().unwrap());
-    for round in from..from + rounds(120) {
-        let style = Style::any(&mut random, MOST[round % MOST.len()]);
-        let broadcast = Broadcast::with(900 + round as u64, random.below(256) as u8, style);
-        let before = random.below(512);
-        let log = follow(broadcast, round as u64, before, &mut seen);
-        for (law, id, text) in seen.broken.drain(..) {
-            *broken.entry(law).or_default() += 1;
-            if broken[law] <= 2 {
-                println!("{law}: round {round} {style:?} id {id} {text}");
-            }
-        }
-        let _ = log;
-    }
-    println!("{seen:?}");
-    println!("{broken:?}");
-}
-
-fn follow(mut broadcast: Broadcast, seed: u64, before: usize, seen: &mut Seen) -> Vec<(usize, u8, bool, second::samples::broadcast::Sent)> {
-    let mut ear = Ear::new(seed);
-    let mut laws = Laws::new();
+/// One broadcast, by its number.
+fn follow(reading: Reading, number: usize, seen: &mut Seen) -> String {
+    let mut random = Xorshift::new(3320 + 2 * number as u64);
+    let style = Style::any(&mut random, MOST[number % MOST.len()]);
+    let mut broadcast = Broadcast::with(random.next(), random.below(256) as u8, style);
+    let mut ear = Ear::new(random.next(), number / MOST.len());
+    let before = random.below(512);
     for _ in 0..before {
         broadcast.frame();
     }
-    let mut log = vec![];
+    let mut laws = Laws::new(reading, style.links);
     for k in before..FRAMES {
         let frame = broadcast.frame();
-        let hears = k == before || ear.hears(&frame);
-        log.push((k, frame.count, hears, frame.sent));
-        if hears {
-            let n = seen.broken.len();
+        if k == before {
+            laws.begin(&frame);
+        }
+        let broken = seen.broken.len();
+        if k == before || ear.hears(&frame) {
             laws.hear(&frame, seen);
-            for it in &mut seen.broken[n..] { it.2 += &format!(" at frame {k} count {} ear {}", frame.count, ear.kind); }
         } else {
             laws.miss(&frame);
         }
+        for (_, _, text) in &mut seen.broken[broken..] {
+            *text += &format!(", frame {k}, count {}", frame.count);
+        }
     }
-    log
+    format!("{number} {style:?} {:?}", ear.habit)
+}
+
+#[test]
+fn the_laws_hold() {
+    let mut seen = Seen::default();
+    for number in 0..rounds(56) {
+        let told = follow(Reading::AsCounted, number, &mut seen);
+        assert_eq!(seen.broken.first(), None, "{told}");
+    }
+    println!("{seen:?}");
+    assert!(seen.shown > 1_000_000, "{seen:?}");
+    assert!(seen.stale > 10_000, "{seen:?}");
+    assert!(seen.unfinished > 1_000_000, "{seen:?}");
+    assert!(seen.third > 10_000, "{seen:?}");
+    assert!(seen.second > 5_000, "{seen:?}");
+    assert!(seen.kept > 100_000, "{seen:?}");
+    assert!(seen.kept_over_change > 500, "{seen:?}");
+    assert!(seen.announced > 10_000, "{seen:?}");
+    assert!(seen.gone > 100_000, "{seen:?}");
+    assert!(seen.unknown > 1_000_000, "{seen:?}");
+    assert!(seen.parts > 100_000, "{seen:?}");
+    assert!(seen.certain > 90, "{seen:?}");
+}
+
+/// The same with D and E to the letter. They do not hold so: see `limits.rs` for the two cases, one call after the other.
+#[test]
+#[ignore = "D and E have counterexamples as they are asked for"]
+fn the_laws_hold_as_asked() {
+    let mut seen = Seen::default();
+    let mut counts = BTreeMap::new();
+    for number in 0..rounds(56) {
+        let told = follow(Reading::AsAsked, number, &mut seen);
+        for (law, id, text) in seen.broken.drain(..) {
+            let count = counts.entry(law).or_insert(0);
+            *count += 1;
+            if *count <= 3 {
+                println!("{law}: {told}: component {id}, {text}");
+            }
+        }
+    }
+    assert_eq!(counts, BTreeMap::new(), "{seen:?}");
 }

@@ -179,6 +179,28 @@ fn one_goes_and_one_comes() {
     }
 }
 
+/// A multiplex that is always full: all 128 are announced, all 128 are described, and half of them make room for others at once. No field
+/// is refused.
+#[test]
+fn a_full_multiplex_is_not_refused() {
+    let mut listener = announced(128);
+    for id in 0..128 {
+        assert_eq!(hear(&mut listener, 0, id), 0);
+    }
+    assert_eq!(listener.count, 2);
+    for (goes, comes) in (0..64).zip(others()) {
+        assert_eq!(listener.hear(1, goes, GONE, 0), 0);
+        assert_eq!(hear(&mut listener, 1, comes), 0);
+    }
+    assert_eq!(listener.count, 130);
+    for id in (64..128).chain(others().take(64)) {
+        assert_eq!(hear(&mut listener, 0, id), 0);
+    }
+    assert_eq!(listener.count, 2);
+    assert_eq!(listener.components(), 128);
+    assert_eq!(hear(&mut listener.again(1), 0, 5), 45);
+}
+
 /// One goes and none comes: there is room from the frame of the change on.
 #[test]
 fn room_from_the_change_on() {

@@ -1,100 +1,98 @@
-//! What was heard of a broadcast: of one component, and of the frames.
+//! What was heard of a broadcast, beside what is true: the frames, and of one component what was said.
 
 use second::samples::broadcast::{Frame, Sent};
 
 /// The frames up to now.
 #[derive(Default)]
 pub struct Past {
-    begun: bool,
-    heard_one: bool,
-    /// How many were heard in a row.
+    /// Whether any was heard, and how many in a row up to the last one.
+    heard: bool,
     pub row: usize,
-    /// Whether every frame of the running configuration was heard, and of the one before.
-    pub all: bool,
-    pub before: bool,
-    /// The same as `all`, as the map counts it: ...
-    pub unbroken: bool,
-    pub right_heard: bool,
-    /// the frame before the configuration before was missed; the first of this one was
-    pub gap_before: bool,
-    pub gap_behind: bool,
-    /// the frame before this configuration
-    pub edge_missed: bool,
-    fresh: bool,
-    last_missed: bool,
+    /// The frames of the running configuration, and those of the one before.
+    pub now: Span,
+    pub before: Span,
+}
+
+/// What was heard of the frames of a configuration up to now.
+#[derive(Clone, Copy, Default)]
+pub struct Span {
+    /// How many there were, and how many of them were heard.
+    frames: usize,
+    pub heard: usize,
+    /// Whether the first one was.
+    pub first: bool,
+    /// Whether the frame before the first was, or none was heard before: the listener was started with the first.
+    joined: bool,
+}
+
+impl Span {
+    /// Whether every frame was heard.
+    pub fn all(&self) -> bool {
+        self.frames == self.heard && self.first
+    }
+
+    /// The same as the map counts it: a frame that is missed just before spoils the whole configuration.
+    pub fn all_joined(&self) -> bool {
+        self.all() && self.joined
+    }
 }
 
 impl Past {
-    pub fn is_begun(&self) -> bool {
-        self.begun
+    /// The first frame of a configuration comes.
+    pub fn change(&mut self) {
+        self.before = self.now;
+        self.now = Span {
+            joined: !self.heard || self.row > 0,
+            ..Span::default()
+        };
     }
 
-    /// The first frame, or one with which a configuration begins.
-    pub fn change(&mut self, first: bool) {
-        self.before = self.begun && self.all;
-        self.all = first;
-        self.gap_before = self.edge_missed;
-        self.gap_behind = false;
-        self.edge_missed = self.heard_one && self.last_missed;
-        self.fresh = first;
-        self.begun = true;
-    }
-
-    pub fn hear(&mut self) {
+    pub fn hear(&mut self, frame: &Frame) {
+        self.heard = true;
         self.row += 1;
-        if self.heard_one && self.last_missed {
-            self.unbroken = false;
-        } else if self.fresh {
-            self.unbroken = true;
-        }
-        self.fresh = false;
-        self.heard_one = true;
-        self.last_missed = false;
+        self.now.frames += 1;
+        self.now.heard += 1;
+        self.now.first |= frame.first;
     }
 
     pub fn miss(&mut self) {
         self.row = 0;
-        self.all = false;
-        if self.fresh { self.gap_behind = true; }
-        self.fresh = false;
-        self.last_missed = true;
-    }
-
-    /// Whether there is a frame before.
-    pub fn has_last(&self) -> bool {
-        self.begun
+        self.now.frames += 1;
     }
 }
 
-/// What was heard of one component, beside what is true.
+/// What was heard of one component.
 #[derive(Clone, Default)]
 pub struct Story {
-    /// The structures that it has, and had in earlier configurations, as far as nothing that was heard speaks against them.
+    /// The structures that it has, or had in an earlier configuration, as far as nothing that was heard since speaks against them.
     open: Vec<Vec<u64>>,
-    /// In the running configuration: whether anything was announced, all ones last of it, and whether all ones came without a flag.
+    /// In the running configuration: whether anything was announced, whether that was all ones at last, and whether all ones came
+    /// without a flag.
     pub announced: bool,
     going: bool,
     gone: bool,
-    /// Whether all ones were announced in the configuration before, and all of its frames were heard.
-    went: bool,
-    /// Whether anything was announced in the configuration before, and all of its frames were heard.
+    /// Whether a field of it came last, announced ones from their change on, and not all ones.
+    there: bool,
+    /// Whether anything was announced in the configuration before, and all ones at last, and every frame of it was heard.
     pub told: bool,
+    went: bool,
     /// How often a repetition began since a frame was missed or the configuration began.
     pub beginnings: usize,
-    /// Whether, at one of these, the map held no whole list; and whether another came behind that.
+    /// Whether the map held no whole list at one of these beginnings, and whether another came behind that.
     bare: bool,
     pub second: bool,
-    /// Whether it was shown rightly in the last frame, heard or not.
+    /// Whether it was shown rightly in the frame before, heard or not.
     pub right: bool,
 }
 
 impl Story {
     /// A configuration begins in which this is the structure.
     pub fn change(&mut self, list: Option<&Vec<u64>>, past: &Past) {
-        self.told = self.announced && past.before;
-        self.went = self.going && past.before;
+        self.told = self.announced && past.before.all();
+        self.went = self.going && past.before.all();
         if self.announced {
             self.open.clear();
+            self.there = !self.going;
         }
         self.open.extend(list.cloned());
         self.open.dedup();
@@ -110,7 +108,7 @@ impl Story {
         self.second = false;
     }
 
-    /// A frame about it was heard; before, the map held a whole list of it, or not.
+    /// A field of it was heard; before, the map held a whole list of it, or not.
     pub fn hear(&mut self, frame: &Frame, whole: bool) {
         match frame.sent {
             Sent::New(..) => {
@@ -123,6 +121,7 @@ impl Story {
             }
             Sent::Gone(_) => {
                 self.gone = true;
+                self.there = false;
                 self.open.clear();
             }
             Sent::Old(id, place) => self.describe(frame.present[&id][place], place, whole),
@@ -131,6 +130,7 @@ impl Story {
     }
 
     fn describe(&mut self, tdms: u64, place: usize, whole: bool) {
+        self.there = true;
         self.open.retain(|list| list.contains(&tdms));
         if place == 0 {
             self.beginnings += 1;
@@ -139,7 +139,7 @@ impl Story {
         }
     }
 
-    /// Whether these may be its fields in a frame before the next change, or behind it, where they truly are others.
+    /// Whether these may be taken for its fields in a frame up to the next change, or behind it, where they truly are others.
     pub fn may_be(&self, behind: bool, truth: &[u64], fields: &[u64]) -> bool {
         if behind && self.announced {
             return fields == truth;
@@ -147,7 +147,15 @@ impl Story {
         self.open.iter().any(|list| list == fields)
     }
 
-    /// Whether all ones said that it is not there; of a frame behind the next change, in a configuration that was heard to its end or not.
+    /// Whether a field was heard last, up to the next change or behind it.
+    pub fn is_there(&self, behind: bool) -> bool {
+        match behind && self.announced {
+            true => !self.going,
+            false => self.there,
+        }
+    }
+
+    /// Whether all ones said that it is not there. Behind the next change, what was announced counts where nothing can follow it.
     pub fn is_gone(&self, behind: bool, all: bool) -> bool {
         if behind && self.announced {
             return self.going && all;

@@ -59,7 +59,12 @@ fn all_ones_in_this_configuration() {
 /// Announced all ones: known behind the change if all was heard up to it, and only in that configuration.
 #[test]
 fn all_ones_announced() {
-    for (origin, missed, unknown) in [(2, None, 0), (3, None, 1), (2, Some(60), 1), (2, Some(129), 1)] {
+    for (origin, missed, unknown) in [
+        (2, None, 0),
+        (3, None, 1),
+        (2, Some(60), 1),
+        (2, Some(129), 1),
+    ] {
         let mut listener = Listener::late(origin);
         listener.hears(0, 7, "aa", 0);
         assert_eq!(listener.hear(1, 7, GONE, 0), 0);
@@ -97,7 +102,10 @@ fn with_fields() {
     assert_eq!((listener.now(7), listener.unknown(7)), (said(0, "ab"), 0));
     assert_eq!(listener.hear(1, 7, GONE, 0), 0);
     listener.hears(1, 7, "c", 0);
-    assert_eq!((listener.at(7, 2), listener.unknown_at(7, 2)), (said(46, ""), 0));
+    assert_eq!(
+        (listener.at(7, 2), listener.unknown_at(7, 2)),
+        (said(46, ""), 0)
+    );
     listener.idle_to(3);
     assert_eq!((listener.now(7), listener.unknown(7)), (said(0, "c"), 0));
 }
