@@ -139,11 +139,11 @@ module _ (a : Air) (t v : ℕ) (lo : t ≤ v) where
 
 -- ---- a field was heard last
 
-bit-front : (a : Air) (hears : ℕ → Bool) (n e id due : ℕ) (s : List ℕ) → Front a hears n e id due s → (headOf s .whole ≡ 0) ⊎ (headOf s .whole ≡ 1)
+pub bit-front : (a : Air) (hears : ℕ → Bool) (n e id due : ℕ) (s : List ℕ) → Front a hears n e id due s → (headOf s .whole ≡ 0) ⊎ (headOf s .whole ≡ 1)
 bit-front a hears n e id due s (some p) = inl (part-head s _ due p .0)
 bit-front a hears n e id due s (all j l hl hj pos h q) = inr (h .whole)
 
-bit-next : (a : Air) (hears : ℕ → Bool) (n e id due count links : ℕ) (g u : Bool) (s : List ℕ) → Next a hears n e id due count links g u s
+pub bit-next : (a : Air) (hears : ℕ → Bool) (n e id due count links : ℕ) (g u : Bool) (s : List ℕ) → Next a hears n e id due count links g u s
     → (headOf s .whole ≡ 0) ⊎ (headOf s .whole ≡ 1)
 bit-next a hears n e id due count links g u s (none em c q) = inl (em .whole)
 bit-next a hears n e id due count links g u s (delete d c) = inl (d .whole)
@@ -151,7 +151,7 @@ bit-next a hears n e id due count links g u s (piece w h p) = inl (part-head s _
 bit-next a hears n e id due count links g u s (sure k pos le c d hl la h) = inl (h .whole)
 bit-next a hears n e id due count links g u s (full l hl pos la h) = inr (h .whole)
 
-bit-settled : (su : Bool) (h : Structure) → (h .whole ≡ 0) ⊎ (h .whole ≡ 1) → (settledHead su h .whole ≡ 0) ⊎ (settledHead su h .whole ≡ 1)
+pub bit-settled : (su : Bool) (h : Structure) → (h .whole ≡ 0) ⊎ (h .whole ≡ 1) → (settledHead su h .whole ≡ 0) ⊎ (settledHead su h .whole ≡ 1)
 unfolding settledHead
 bit-settled true h b = go (complete h)
   where

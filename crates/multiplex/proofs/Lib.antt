@@ -7,9 +7,7 @@ pub mod Reaching
 pub mod Soundness
 pub mod Seeing
 pub mod Asked
+pub mod Accepting
+pub mod Telling
 pub mod Certain
 pub mod Keeping
-pub mod Steady
-pub mod Unsure
-pub mod Denied
-pub mod Stubborn

@@ -215,11 +215,11 @@ module _ (a : Air) (w : Orderly a) (hears : ℕ → Bool) (t : ℕ) (m : List �
 
 -- ---- nothing was heard before
 
-blank-structure : (id v : ℕ) → id < ids → v < 2 → Empty (structureAt id v (blank mapSize))
+pub blank-structure : (id v : ℕ) → id < ids → v < 2 → Empty (structureAt id v (blank mapSize))
 unfolding structureAt
 blank-structure id v hid hv = blank-empty _ (part-blank (id * blockSize + v * structureSize) structureSize mapSize (omega arith))
 
-blank-certain : (id : ℕ) → id < ids → headOf (structureAt id 0 (blank mapSize)) .certain ≡ 0
+pub blank-certain : (id : ℕ) → id < ids → headOf (structureAt id 0 (blank mapSize)) .certain ≡ 0
 unfolding structureAt headOf
 blank-certain id hid =
     ap (λ (s : List ℕ). getD s 6 0) (part-blank (id * blockSize + 0 * structureSize) structureSize mapSize (omega arith)) ∙ blank-at structureSize 6
@@ -281,7 +281,7 @@ first-before a hears t quiet = record {
         present = λ q. unheard-there (sym (r .0) ∙ q);
         coming = λ q. unheard-there (sym (r .1) ∙ q);
         nothing = λ q. (em .fields, em .deleted);
-        gone = λ z c. absurd (omega (arith, c, blank-certain id hid));
+        gone = λ z c. absurd (c (blank-certain id hid));
         ends = λ z c. absurd (omega (arith, c, em .deleted));
         ended = λ q. absent-unheard (sym q ∙ r .1);
       };

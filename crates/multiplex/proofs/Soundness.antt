@@ -29,6 +29,7 @@ use Rattle.multiplex.specs.Broadcast.{countAt, change, epoch}
 use Rattle.multiplex.specs.Heard.{ours}
 use Rattle.multiplex.specs.Air.{Carries, new, old, gone, vectors, Air, timed, carriedAs, fieldOn, InTurn, Orderly}
 use Rattle.multiplex.specs.Sound.{kept, missedBefore, anyBefore, inRow, Listener}
+use Rattle.multiplex.specs.Finding.{Near}
 use Rattle.multiplex.proofs.Counting.{begins-change, count-lt}
 use Rattle.multiplex.proofs.Distances.{since-is, count-apart, changes-epoch, epoch-either, epoch-step}
 use Rattle.multiplex.proofs.Listening.{capped, Known, Before, field-known}
@@ -310,8 +311,8 @@ pub data State (a : Air) (hears : ℕ → Bool) (t : ℕ) (m : List ℕ) : Type 
   silent : m ≡ blank mapSize → ((v : ℕ) → v < t → hears v ≡ true → ⊥) → State a hears t m
   since-one : (T : ℕ) (u : Bool) → T < t → Gap hears T t → missedBefore hears t ≡ t - suc T → anyBefore hears t ≡ true → Known a hears T m u → State a hears t m
 
-module _ (a : Air) (w : Orderly a) (hears : ℕ → Bool) (L : Listener ours a hears) where
-  missed-step : (t : ℕ) → hears t ≡ false → (m : List ℕ) → State a hears t m → State a hears (suc t) m
+module _ (a : Air) (w : Orderly a) (hears : ℕ → Bool) (near-by : Near hears) where
+  pub missed-step : (t : ℕ) → hears t ≡ false → (m : List ℕ) → State a hears t m → State a hears (suc t) m
   unfolding missedBefore anyBefore
   missed-step t e m (silent z q) = silent z (λ v hv hh. go v hh (ℕ-discrete v t) hv)
     where
@@ -330,7 +331,7 @@ module _ (a : Air) (w : Orderly a) (hears : ℕ → Bool) (L : Listener ours a h
       go v hh (yes s) hv = absurd (subst lib.Dec.T (sym hh ∙ ap hears s ∙ e) tt)
       go v hh (no s) hv = gap v (omega (arith, hv, s)) hh
 
-  heard-step : (t : ℕ) → hears t ≡ true → (m : List ℕ) → takeAnswer m (fieldBytes (fieldOn a t)) ≡ 0 → State a hears t m
+  pub heard-step : (t : ℕ) → hears t ≡ true → (m : List ℕ) → takeAnswer m (fieldBytes (fieldOn a t)) ≡ 0 → State a hears t m
       → State a hears (suc t) (takeAfter m (fieldBytes (fieldOn a t)))
   unfolding missedBefore anyBefore
   heard-step t e m ok (silent z q) =
@@ -346,7 +347,7 @@ module _ (a : Air) (w : Orderly a) (hears : ℕ → Bool) (L : Listener ours a h
   heard-step t e m ok (since-one T u l gap c any k) =
       let g = t - T in
       let at : T + g ≡ t = omega arith in
-      let most : g ≤ 128 = omega (arith, L .near t e any, c) in
+      let most : g ≤ 128 = omega (arith, near-by t e any, c) in
       subst (λ (n : ℕ). State a hears (suc n) (takeAfter m (fieldBytes (fieldOn a n)))) at
       (go g (omega arith) most (subst (λ (n : ℕ). takeAnswer m (fieldBytes (fieldOn a n)) ≡ 0) (sym at) ok) (subst (Gap hears T) (sym at) gap)
       (ap hears at ∙ e) (ℕ-discrete g 1))
@@ -365,6 +366,7 @@ module _ (a : Air) (w : Orderly a) (hears : ℕ → Bool) (L : Listener ours a h
           one-on x p = omega (arith, p)
       go g pos most not-refused away q (no s) = now (T + g) q false (far a w hears T g pos most m u k not-refused away q (omega (arith, pos, s)))
 
+module _ (a : Air) (w : Orderly a) (hears : ℕ → Bool) (L : Listener ours a hears) where
   pub state-at : (t : ℕ) → State a hears t (kept ours a hears t)
   unfolding kept ours
   state-at zero = silent refl (λ v hv hh. absurd (omega arith))
@@ -374,5 +376,5 @@ module _ (a : Air) (w : Orderly a) (hears : ℕ → Bool) (L : Listener ours a h
       m = kept ours a hears t
 
       go : (b : Bool) → hears t ≡ b → State a hears t m → State a hears (suc t) (cond (hears t) (takeAfter m (fieldBytes (fieldOn a t))) m)
-      go true e s = subst (λ (b : Bool). State a hears (suc t) (cond b (takeAfter m (fieldBytes (fieldOn a t))) m)) (sym e) (heard-step t e m (L .taken t e) s)
-      go false e s = subst (λ (b : Bool). State a hears (suc t) (cond b (takeAfter m (fieldBytes (fieldOn a t))) m)) (sym e) (missed-step t e m s)
+      go true e s = subst (λ (b : Bool). State a hears (suc t) (cond b (takeAfter m (fieldBytes (fieldOn a t))) m)) (sym e) (heard-step a w hears (L .near) t e m (L .taken t e) s)
+      go false e s = subst (λ (b : Bool). State a hears (suc t) (cond b (takeAfter m (fieldBytes (fieldOn a t))) m)) (sym e) (missed-step a w hears (L .near) t e m s)

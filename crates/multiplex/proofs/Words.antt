@@ -35,7 +35,7 @@ pub record Words (k p : Word) (F A : List ℕ) : Type 0 where
   pub coming : p ≡ there → 0 < headOf A .fields
   pub nothing : p ≡ unheard → (headOf A .fields ≡ 0) × (headOf A .deleted ≡ 0)
   -- what is held to be absent, or to be deleted, was so said last
-  pub gone : headOf F .fields ≡ 0 → headOf F .certain ≡ 1 → k ≡ absent
+  pub gone : headOf F .fields ≡ 0 → (headOf F .certain ≡ 0 → ⊥) → k ≡ absent
   pub ends : headOf A .fields ≡ 0 → headOf A .deleted ≡ 1 → p ≡ absent
   pub ended : p ≡ absent → (headOf A .fields ≡ 0) × (headOf A .deleted ≡ 1)
 
@@ -118,7 +118,7 @@ words-gap k p F A lf la w = record {
   nothing = λ e.
       let z = spoiled-none A la (unfinished-none A (w .nothing e .0)) in
       (z .fields ∙ w .nothing e .0, z .deleted ∙ w .nothing e .1);
-  gone = λ z c. w .gone (spoiled-back F lf z) (sym (spoiled-certain F lf) ∙ c);
+  gone = λ z c. w .gone (spoiled-back F lf z) (λ q. c (spoiled-certain F lf ∙ q));
   ends = λ z c. w .ends (spoiled-back A la z) (sym (spoiled-none A la (unfinished-none A (spoiled-back A la z)) .deleted) ∙ c);
   ended = λ e.
       let z = spoiled-none A la (unfinished-none A (w .ended e .0)) in
@@ -151,7 +151,7 @@ module _ (sure? : Bool) (m : List ℕ) (lm : length m ≡ mapSize) (id : ℕ) (h
             (ltb-true 0 _ (stayed-some (structureAt id 0 m) lf sure? ∙ lt-ltb 0 _ (w .present q)));
         coming = λ q. unheard-there q;
         nothing = λ q. (em .fields, em .deleted);
-        gone = λ z c. absurd (omega (arith, c, ap (λ (s : List ℕ). headOf s .certain) is ∙ stayed-certain (structureAt id 0 m) lf sure?));
+        gone = λ z c. absurd (c (ap (λ (s : List ℕ). headOf s .certain) is ∙ stayed-certain (structureAt id 0 m) lf sure?));
         ends = λ z c. absurd (omega (arith, c, em .deleted));
         ended = λ q. absent-unheard (sym q);
       }

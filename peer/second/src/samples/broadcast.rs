@@ -6,7 +6,7 @@
 //! come before it where a component is deleted and made anew by the same change.
 
 use super::speaker::{Speaker, Switches};
-use super::structures::{self, altered};
+use super::structures::{self, altered, reduced};
 use super::style::{Links, Order, Style};
 use crate::map::{self, FIELD, PANNING};
 use crate::xorshift::Xorshift;
@@ -161,12 +161,13 @@ impl Broadcast {
             _ => choose(random, &self.present).unwrap_or(0),
         };
         let taken = self.speakers.iter().any(|speaker| speaker.id == id);
-        let (ones, list) = match (self.present.get(&id), random.below(7)) {
+        let (ones, list) = match (self.present.get(&id), random.below(8)) {
             (_, 0) => (1, vec![]),
             (None, _) if self.next.len() >= self.style.most => return None,
             (Some(list), 1) => (random.below(2), list.clone()),
             (Some(list), 2 | 3) if self.style.alters() => (0, altered(random, list)),
-            (_, 4) => (1 + random.below(2), self.style.list(random)),
+            (Some(list), 4) => (0, reduced(random, list)),
+            (_, 5) => (1 + random.below(2), self.style.list(random)),
             _ => (0, self.style.list(random)),
         };
         (!taken).then(|| Speaker::new(id, ones, list))

@@ -41,6 +41,16 @@ pub fn altered(random: &mut Xorshift, list: &[u64]) -> Vec<u64> {
     rising(rows)
 }
 
+/// Some of the same fields, one at least.
+pub fn reduced(random: &mut Xorshift, list: &[u64]) -> Vec<u64> {
+    let kept = random.below(list.len());
+    let fields = list.iter().enumerate();
+    fields
+        .filter(|&(place, _)| place == kept || random.chance())
+        .map(|(_, &tdms)| tdms)
+        .collect()
+}
+
 /// Numbers in their order. Of those that would be at one place, one is kept.
 fn rising(mut rows: Vec<[u32; 6]>) -> Vec<u64> {
     rows.sort_by_key(|row| (row[0], row[4]));

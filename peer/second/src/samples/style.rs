@@ -67,7 +67,7 @@ impl Style {
             most,
             full: random.below(4) != 0,
             few: random.chance(),
-            short: random.below(8) == 0,
+            short: random.below(if most > 100 { 2 } else { 8 }) == 0,
             long: random.below(8) == 0,
             middle: random.chance(),
             cyclic: random.chance(),

@@ -1,7 +1,7 @@
 //! Broadcasts that are heard from the middle on, and not all of it: the laws, after every frame and for every component.
 
 use crate::laws::{Laws, Reading, Seen};
-use second::samples::broadcast::{Broadcast, Frame};
+use second::samples::broadcast::{Broadcast, Frame, Sent};
 use second::samples::rounds;
 use second::samples::style::Style;
 use second::xorshift::Xorshift;
@@ -10,7 +10,7 @@ use std::collections::BTreeMap;
 /// A little more than four wraps of the count, of which up to two pass before the first frame is heard.
 const FRAMES: usize = 4 * 256 + 9;
 /// Components at most: few come round often, and the last is a full multiplex.
-const MOST: [usize; 8] = [1, 2, 3, 5, 20, 60, 127, 128];
+const MOST: [usize; 8] = [1, 1, 2, 3, 5, 20, 60, 128];
 
 /// Who hears some of the frames.
 struct Ear {
@@ -32,17 +32,20 @@ enum Habit {
     About,
     /// Of the frames about a change one is missed: that of this count, modulo 128.
     OneAbout(u8),
+    /// What is announced is missed, in this configuration or not.
+    NoNews(bool),
 }
 
 impl Ear {
     fn new(seed: u64, habit: usize) -> Ear {
         let mut random = Xorshift::new(seed);
         let lost = [2, 8, 40, 150, 400][random.below(5)];
-        let habit = match habit % 7 {
+        let habit = match habit % 8 {
             0 => Habit::HearsAll,
             1 => Habit::About,
             2 | 3 => Habit::OneAbout(0),
             4 => Habit::One(lost),
+            5 => Habit::NoNews(true),
             _ => Habit::Some(lost),
         };
         Ear {
@@ -68,6 +71,12 @@ impl Ear {
                     *missed = [126, 0, 1, 1, 2, 2, 3, 65][random.below(8)];
                 }
                 usize::from(count == *missed)
+            }
+            Habit::NoNews(deaf) => {
+                if frame.first {
+                    *deaf = random.below(4) > 0;
+                }
+                usize::from(*deaf && matches!(frame.sent, Sent::New(..) | Sent::Going(_)))
             }
         };
         // No more than 127 in a row are missed.
@@ -109,7 +118,7 @@ fn follow(reading: Reading, number: usize, seen: &mut Seen) -> String {
 #[test]
 fn the_laws_hold() {
     let mut seen = Seen::default();
-    for number in 0..rounds(56) {
+    for number in 0..rounds(64) {
         let told = follow(Reading::AsCounted, number, &mut seen);
         assert_eq!(seen.broken.first(), None, "{told}");
     }
@@ -134,7 +143,7 @@ fn the_laws_hold() {
 fn the_laws_hold_as_asked() {
     let mut seen = Seen::default();
     let mut counts = BTreeMap::new();
-    for number in 0..rounds(56) {
+    for number in 0..rounds(64) {
         let told = follow(Reading::AsAsked, number, &mut seen);
         for (law, id, text) in seen.broken.drain(..) {
             let count = counts.entry(law).or_insert(0);
