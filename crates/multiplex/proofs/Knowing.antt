@@ -19,11 +19,11 @@ use mathlib.Core.Logic.{_⊎_, inl, inr}
 use Prim.Native.Nat.{ℕ, zero, suc, _+_, _-_, _^_, _≤_, _<_}
 use native.Mathlib.Omega.{arith}
 use native.Mathlib.Decide.{ℕ-discrete, decLt}
-use borrow.Author.Tests.{eq-eqb, ne-eqb}
+use borrow.Author.Tests.{eq-eqb, ne-eqb, lt-ltb, le-ltb}
 use lib.Dec.{T, ltb, eqb, lit<}
 use lib.ListN.{length, getD, drop}
 use Rattle.field.specs.Field.{key}
-use Rattle.structure.specs.Structure.{most, structureSize, headOf, gatheringHead, completedHead, gathered, spoiled, noneHead, deletion}
+use Rattle.structure.specs.Structure.{most, structureSize, headOf, stored, gatheringHead, completedHead, gathered, spoiled, noneHead, deletion}
 use Rattle.structure.specs.declared.Structure.{Structure}
 use Rattle.structure.proofs.Gathering.{Holds, Empty, alike-holds, alike-empty, begun, begun-head, joined, joined-head, completed, completed-head}
 use Rattle.structure.proofs.Kept.{spoiled-none, spoiled-last, none-head, deletion-length}
@@ -105,12 +105,29 @@ deletion-deleting = record {
   links = omega (arith, ap (λ (h : Structure). h .links) (none-head 1));
 }
 
+-- how many fields have room
+pub stored-at : (s : List ℕ) (n : ℕ) → headOf s .fields ≡ n → stored (headOf s) ≤ n
+unfolding stored
+stored-at s n e = go (decLt most (headOf s .fields))
+  where
+    go : Dec (most < headOf s .fields) → cond (ltb most (headOf s .fields)) most (headOf s .fields) ≤ n
+    go (yes q) = subst (λ (b : Bool). cond b most (headOf s .fields) ≤ n) (sym (lt-ltb most (headOf s .fields) q)) (omega (arith, q, e))
+    go (no q) = subst (λ (b : Bool). cond b most (headOf s .fields) ≤ n) (sym (le-ltb most (headOf s .fields) (omega (arith, q)))) (omega (arith, e))
+
+pub stored-some : (s : List ℕ) → 0 < headOf s .fields → 0 < stored (headOf s)
+unfolding stored
+stored-some s p = go (ltb most (headOf s .fields))
+  where
+    go : (b : Bool) → 0 < cond b most (headOf s .fields)
+    go true = lit< tt
+    go false = p
+
 -- what is whole stays
 whole-kept : (s xs : List ℕ) (k l : ℕ) → Holds s k xs 1 l → Holds (spoiled s) k xs 1 l
 whole-kept s xs k l h = alike-holds s (spoiled s) k xs 1 l (spoiled-whole s (h .size) (h .whole)) h
 
 -- a run from the first field on
-from-first : (s xs : List ℕ) (k l due : ℕ) → l ≤ 1 → 0 < k → k ≤ length xs → due ≡ k → Holds s k xs 0 l → Part s xs due
+pub from-first : (s xs : List ℕ) (k l due : ℕ) → l ≤ 1 → 0 < k → k ≤ length xs → due ≡ k → Holds s k xs 0 l → Part s xs due
 from-first s xs k l due hl pos le d h = run 0 k l hl pos (omega (arith, le)) (d ∙ sym (plain k)) h
   where
     plain : (x : ℕ) → 0 + x ≡ x
@@ -331,9 +348,9 @@ module _ (a : Air) (hears : ℕ → Bool) (n e id : ℕ) (now : epoch (timed a) 
   front-on due s here (some p) = some p
   front-on due s here (all j l hl hj pos h q) = all j l hl hj pos h (quiet-on j (here (a .config j id)) q)
 
-  took-front : (due : ℕ) (s : List ℕ) → 0 < length (a .config e id) → Took s (a .config e id) due → Front a hears (suc n) e id due s
-  took-front due s pos (partly p) = some p
-  took-front due s pos (wholly l hl h la) = all e l hl (omega arith) pos h (quiet-yet a hears (suc n) e id past-now)
+  took-front : (due l : ℕ) (s : List ℕ) → l ≤ 1 → 0 < length (a .config e id) → Took s (a .config e id) due l → Front a hears (suc n) e id due s
+  took-front due l s hl pos (partly i k p q d h) = some (run i k l hl p q d h)
+  took-front due l s hl pos (wholly h la) = all e l hl (omega arith) pos h (quiet-yet a hears (suc n) e id past-now)
 
   -- a present field: a list that is whole is held on only where it lists the field
   pub front-old : Linked (a .config e id) → (i l due : ℕ) (s : List ℕ) → a .carries n ≡ old id i l → i < length (a .config e id) → l ≤ 1
@@ -341,7 +358,7 @@ module _ (a : Air) (hears : ℕ → Bool) (n e id : ℕ) (now : epoch (timed a) 
       → Front a hears n e id due s → Front a hears (suc n) e id (suc i) (gathered s (getD (a .config e id) i 0) l)
   unfolding turn
   front-old k i l due s is hi hl order (some p) =
-      took-front (suc i) _ (omega arith) (part-takes _ (linked-fields _ k) i hi l hl s due order p)
+      took-front (suc i) l _ hl (omega arith) (part-takes _ (linked-fields _ k) i hi l hl s due order p)
   front-old k i l due s is hi hl order (all j m hm hj pos h q) =
       go (whole-takes _ (linked-fields _ k) i hi l hl s (a .config j id) m pos h)
     where
@@ -353,10 +370,10 @@ module _ (a : Air) (hears : ℕ → Bool) (n e id : ℕ) (now : epoch (timed a) 
           (ap (λ (x : ℕ). lists (a .config j id) (getD (a .config x id) i 0)) now ∙ listed (a .config j id) (z .place) _ (z .within) (z .listed))
 
       go : Stays (gathered s (getD (a .config e id) i 0) l) (a .config j id) m (getD (a .config e id) i 0)
-          ⊎ Took (gathered s (getD (a .config e id) i 0) l) (a .config e id) (suc i)
+          ⊎ Took (gathered s (getD (a .config e id) i 0) l) (a .config e id) (suc i) l
           → Front a hears (suc n) e id (suc i) (gathered s (getD (a .config e id) i 0) l)
       go (inl z) = all j m hm hj pos (z .holds) (quiet-on j (here z) q)
-      go (inr t) = took-front (suc i) _ (omega arith) t
+      go (inr t) = took-front (suc i) l _ hl (omega arith) t
 
   -- nothing was said of what comes
   pub next-on : (due count links : ℕ) (gone u : Bool) (s : List ℕ) → announces id (a .carries n) ≡ false
@@ -367,10 +384,10 @@ module _ (a : Air) (hears : ℕ → Bool) (n e id : ℕ) (now : epoch (timed a) 
   next-on due count links gone u s here (sure k pos le c d hl la h) = sure k pos le c d hl la h
   next-on due count links gone u s here (full l hl pos la h) = full l hl pos la h
 
-  took-next : (due count links : ℕ) (gone u : Bool) (s : List ℕ) → u ≡ false → 0 < length (a .config (suc e) id) → 0 < headOf s .fields
-      → Took s (a .config (suc e) id) due → Next a hears (suc n) e id due count links gone u s
-  took-next due count links gone u s w pos f (partly p) = piece w f p
-  took-next due count links gone u s w pos f (wholly l hl h la) = full l hl pos la h
+  took-next : (due count links l : ℕ) (gone u : Bool) (s : List ℕ) → l ≤ 1 → u ≡ false → 0 < length (a .config (suc e) id) → 0 < headOf s .fields
+      → Took s (a .config (suc e) id) due l → Next a hears (suc n) e id due count links gone u s
+  took-next due count links l gone u s hl w pos f (partly i k p q d h) = piece w f (run i k l hl p q d h)
+  took-next due count links l gone u s hl w pos f (wholly h la) = full l hl pos la h
 
   module _ (k : Linked (a .config (suc e) id)) (i l : ℕ) (hi : i < length (a .config (suc e) id)) (hl : l ≤ 1) where
     abbrev zs : List ℕ
@@ -434,17 +451,17 @@ module _ (a : Air) (hears : ℕ → Bool) (n e id : ℕ) (now : epoch (timed a) 
         let y = c refl in
         sure-first count due s gone (em .fields) (em .whole) (y .0) (y .1 .1) (first refl)
     next-new due count links gone false s order first (none em c q) =
-        took-next (suc i) (count + 1) l gone false _ refl (omega arith) (gathered-some s t l (em .size) (em .whole) small)
+        took-next (suc i) (count + 1) l l gone false _ hl refl (omega arith) (gathered-some s t l (em .size) (em .whole) small)
         (open-takes zs (linked-fields zs k) i hi l hl s (em .fields) (em .whole))
     next-new due count links gone true s order first (delete d c) =
         let y = c refl in
         sure-first count due s gone (d .fields) (d .whole) (y .0) (y .1 .1) (first refl)
     next-new due count links gone false s order first (delete d c) =
-        took-next (suc i) (count + 1) l gone false _ refl (omega arith) (gathered-some s t l (d .size) (d .whole) small)
+        took-next (suc i) (count + 1) l l gone false _ hl refl (omega arith) (gathered-some s t l (d .size) (d .whole) small)
         (open-takes zs (linked-fields zs k) i hi l hl s (d .fields) (d .whole))
     next-new due count links gone u s order first (piece w h p) =
         let x = part-head s zs due p in
-        took-next (suc i) (count + 1) l gone u _ w (omega arith) (gathered-some s t l (x .1 .1) (x .0) small)
+        took-next (suc i) (count + 1) l l gone u _ hl w (omega arith) (gathered-some s t l (x .1 .1) (x .0) small)
         (part-takes zs (linked-fields zs k) i hi l hl s due (λ j e. order j e .0) p)
     next-new due count links gone u s order first (sure c pos le ec d hk la h) =
         let z : suc (c - 1) ≡ c = omega (arith, pos) in

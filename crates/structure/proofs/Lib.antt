@@ -2,3 +2,4 @@ pub mod Gathering
 pub mod Kept
 pub mod Runs
 pub mod Turns
+pub mod Rounds

@@ -110,7 +110,7 @@ module _ (xs : List ℕ) (f : Fields xs) where
       subst (λ (n : ℕ). key (getD xs i 0) < key (getD xs n 0)) e (rises-by i (j - i - 1) (omega arith))
 
   -- so no two of its fields are the same
-  apart : (i j : ℕ) → i < j → j < length xs → getD xs i 0 ≡ getD xs j 0 → ⊥
+  pub apart : (i j : ℕ) → i < j → j < length xs → getD xs i 0 ≡ getD xs j 0 → ⊥
   apart i j h l e = omega (arith, rises-to i j h l, ap key e)
 
 -- no key is above that of all ones
@@ -205,9 +205,9 @@ spoiled-whole s ls w = spoiled-none s ls (λ i. eqb (w i) 0 && ltb 0 (headOf s .
 
 -- ---- one more field
 
-pub data Took (s xs : List ℕ) (due : ℕ) : Type 0 where
-  partly : Part s xs due → Took s xs due
-  wholly : (l : ℕ) → l ≤ 1 → Holds s (length xs) xs 1 l → Lasts s due → Took s xs due
+pub data Took (s xs : List ℕ) (due l : ℕ) : Type 0 where
+  partly : (i k : ℕ) → 0 < k → i + k ≤ length xs → due ≡ i + k → Holds s k (drop i xs) 0 l → Took s xs due l
+  wholly : Holds s (length xs) xs 1 l → Lasts s due → Took s xs due l
 
 pub record Stays (s ys : List ℕ) (m t : ℕ) : Type 0 where
   pub holds : Holds s (length ys) ys 1 m
@@ -259,23 +259,23 @@ module _ (xs : List ℕ) (f : Fields xs) (i : ℕ) (hi : i < length xs) (l : ℕ
       plus n = omega arith
 
   -- begun anew with it
-  begins-run : (s : List ℕ) → turnOf s t l ≡ Begins → Took (gathered s t l) xs (suc i)
+  pub begins-run : (s : List ℕ) → turnOf s t l ≡ Begins → Took (gathered s t l) xs (suc i) l
   begins-run s e =
-      subst (λ (x : List ℕ). Took x xs (suc i)) (sym (anew s t l e))
-      (partly (run i 1 l hl (lit< tt) (omega arith) (one-on i) (begun-anew s t l (drop i xs) small (sym (first-of i)))))
+      subst (λ (x : List ℕ). Took x xs (suc i) l) (sym (anew s t l e))
+      (partly i 1 (lit< tt) (omega arith) (one-on i) (begun-anew s t l (drop i xs) small (sym (first-of i))))
     where
       one-on : (n : ℕ) → suc n ≡ n + 1
       one-on n = omega arith
 
   -- where nothing was there
-  pub open-takes : (s : List ℕ) → headOf s .fields ≡ 0 → headOf s .whole ≡ 0 → Took (gathered s t l) xs (suc i)
+  pub open-takes : (s : List ℕ) → headOf s .fields ≡ 0 → headOf s .whole ≡ 0 → Took (gathered s t l) xs (suc i) l
   open-takes s f w =
-      partly (run i 1 l hl (lit< tt) (omega arith) (one-on i) (begun s f w t l (drop i xs) small (sym (first-of i))))
+      partly i 1 (lit< tt) (omega arith) (one-on i) (begun s f w t l (drop i xs) small (sym (first-of i)))
     where
       one-on : (n : ℕ) → suc n ≡ n + 1
       one-on n = omega arith
 
-  empty-takes : (s : List ℕ) → Empty s → Took (gathered s t l) xs (suc i)
+  empty-takes : (s : List ℕ) → Empty s → Took (gathered s t l) xs (suc i) l
   empty-takes s e = open-takes s (e .fields) (e .whole)
 
   and-no : (a b c : Bool) → c ≡ false → (a && (b && c)) ≡ false
@@ -291,7 +291,7 @@ module _ (xs : List ℕ) (f : Fields xs) (i : ℕ) (hi : i < length xs) (l : ℕ
   unfolding deletes
   not-ones e = true≢false (ap (λ (x : ℕ). eqb (x % 2 ^ 40) (2 ^ 40 - 1)) e ∙ f .stays i hi)
 
-  stuck-takes : (s : List ℕ) → Stuck s → Took (gathered s t l) xs (suc i)
+  stuck-takes : (s : List ℕ) → Stuck s → Took (gathered s t l) xs (suc i) l
   unfolding goesOn
   stuck-takes s k =
       let last : nth (stored (headOf s) - 1) s ≡ allOnes = ap (λ (n : ℕ). nth (n - 1) s) (stored-few (headOf s) 1 (k .fields) (omega arith)) ∙ k .first in
@@ -319,18 +319,18 @@ module _ (xs : List ℕ) (f : Fields xs) (i : ℕ) (hi : i < length xs) (l : ℕ
         minus a b p = omega arith
 
     -- the next in its repetition
-    goes-on : i ≡ j + k → Took (gathered s t l) xs (suc i)
+    goes-on : i ≡ j + k → Took (gathered s t l) xs (suc i) l
     unfolding goesOn
     goes-on e = go (ℕ-discrete m l)
       where
-        go : Dec (m ≡ l) → Took (gathered s t l) xs (suc i)
+        go : Dec (m ≡ l) → Took (gathered s t l) xs (suc i) l
         go (yes q) =
             let is : t ≡ getD (drop j xs) k 0 = ap (λ (n : ℕ). getD xs n 0) e ∙ sym (getD-drop j xs k 0) in
             let before : getD (drop j xs) (k - 1) 0 ≡ getD xs (j + (k - 1)) 0 = getD-drop j xs (k - 1) 0 in
             let up = rises-to xs f (j + (k - 1)) i (omega (arith, e)) hi in
-            partly (run j (k + 1) l hl (omega arith) (omega (arith, e)) (next j k e)
+            partly j (k + 1) (omega arith) (omega (arith, e)) (next j k e)
             (joined s (drop j xs) k t l (subst (λ (n : ℕ). Holds s k (drop j xs) 0 n) q h) pos (omega (arith, f .few, fits, e, hi)) small is
-            (omega (arith, up, ap key before))))
+            (omega (arith, up, ap key before)))
           where
             next : (a b : ℕ) → i ≡ a + b → suc i ≡ a + (b + 1)
             next a b p = omega (arith, p)
@@ -340,7 +340,7 @@ module _ (xs : List ℕ) (f : Fields xs) (i : ℕ) (hi : i < length xs) (l : ℕ
             (ap (λ (x : ℕ). eqb x t) first-place ∙ ne-eqb (getD xs j 0) t (apart xs f j i (omega (arith, e, pos)) hi)))
 
     -- a repetition ends, and the next begins
-    comes-round : i ≡ 0 → j + k ≡ length xs → Took (gathered s t l) xs (suc i)
+    comes-round : i ≡ 0 → j + k ≡ length xs → Took (gathered s t l) xs (suc i) l
     unfolding goesOn completedHead
     comes-round z e = go (ℕ-discrete j 0)
       where
@@ -351,13 +351,13 @@ module _ (xs : List ℕ) (f : Fields xs) (i : ℕ) (hi : i < length xs) (l : ℕ
             down (yes q) = omega (arith, ap (λ (n : ℕ). key (getD xs n 0)) (z ∙ sym q))
             down (no q) = omega (arith, rises-to xs f i (j + k - 1) (omega (arith, z, q)) (omega (arith, e, pos)))
 
-        go : Dec (j ≡ 0) → Took (gathered s t l) xs (suc i)
+        go : Dec (j ≡ 0) → Took (gathered s t l) xs (suc i) l
         go (yes q) =
             let all : k ≡ length xs = omega (arith, e, q) in
             let is : t ≡ getD (drop j xs) 0 0 = ap (λ (n : ℕ). getD xs n 0) (z ∙ sym q) ∙ sym (first-of j) in
             let last : getD (drop j xs) (k - 1) 0 ≡ getD xs (j + k - 1) 0 = getD-drop j xs (k - 1) 0 ∙ ap (λ (n : ℕ). getD xs n 0) (minus j k pos) in
             let c = completed s (drop j xs) k t l m h pos few is (omega (arith, falls, ap key last)) in
-            wholly l hl
+            wholly
             (subst (λ (n : ℕ). Holds (gathered s t l) n xs 1 l) all
             (subst (λ (n : ℕ). Holds (gathered s t l) k (drop n xs) 1 l) q c))
             (inr (first-last (completed-head s (drop j xs) k t l m h pos few is (omega (arith, falls, ap key last)))))
@@ -374,22 +374,22 @@ module _ (xs : List ℕ) (f : Fields xs) (i : ℕ) (hi : i < length xs) (l : ℕ
             ∙ ne-eqb (getD xs j 0) t (λ p. apart xs f i j (omega (arith, z, q)) (omega (arith, e, pos)) (sym p))))
 
   -- the field that comes in turn: behind place `due`, where one was carried before
-  pub part-takes : (s : List ℕ) (due : ℕ) → ((k : ℕ) → due ≡ suc k → i ≡ cond (eqb (suc k) (length xs)) 0 (suc k)) → Part s xs due → Took (gathered s t l) xs (suc i)
+  pub part-takes : (s : List ℕ) (due : ℕ) → ((k : ℕ) → due ≡ suc k → i ≡ cond (eqb (suc k) (length xs)) 0 (suc k)) → Part s xs due → Took (gathered s t l) xs (suc i) l
   part-takes s due turn (empty e) = empty-takes s e
   part-takes s due turn (stuck k) = stuck-takes s k
   part-takes s due turn (run j k m hm pos fits d h) =
       let e : suc (j + k - 1) ≡ j + k = omega (arith, pos) in
       go (ℕ-discrete (j + k) (length xs)) (turn (j + k - 1) (d ∙ sym e) ∙ ap (λ (n : ℕ). cond (eqb n (length xs)) 0 n) e)
     where
-      go : Dec (j + k ≡ length xs) → i ≡ cond (eqb (j + k) (length xs)) 0 (j + k) → Took (gathered s t l) xs (suc i)
+      go : Dec (j + k ≡ length xs) → i ≡ cond (eqb (j + k) (length xs)) 0 (j + k) → Took (gathered s t l) xs (suc i) l
       go (yes q) at = comes-round s j k m hm pos fits h (at ∙ ap (λ (b : Bool). cond b 0 (j + k)) (eq-eqb (j + k) (length xs) q)) q
       go (no q) at = goes-on s j k m hm pos fits h (at ∙ ap (λ (b : Bool). cond b 0 (j + k)) (ne-eqb (j + k) (length xs) q))
 
   -- where a structure is held as whole: it lists the field, which comes in turn, and is held on; or this is begun anew
-  pub whole-takes : (s ys : List ℕ) (m : ℕ) → 0 < length ys → Holds s (length ys) ys 1 m → Stays (gathered s t l) ys m t ⊎ Took (gathered s t l) xs (suc i)
+  pub whole-takes : (s ys : List ℕ) (m : ℕ) → 0 < length ys → Holds s (length ys) ys 1 m → Stays (gathered s t l) ys m t ⊎ Took (gathered s t l) xs (suc i) l
   whole-takes s ys m pos h = go (isNext s t) refl
     where
-      go : (b : Bool) → isNext s t ≡ b → Stays (gathered s t l) ys m t ⊎ Took (gathered s t l) xs (suc i)
+      go : (b : Bool) → isNext s t ≡ b → Stays (gathered s t l) ys m t ⊎ Took (gathered s t l) xs (suc i) l
       go true e = inl (next-stays s ys m t l pos h e)
       go false e = inr (begins-run s (other-begins s t l (h .whole) e))
 

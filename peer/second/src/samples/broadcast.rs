@@ -149,27 +149,30 @@ impl Broadcast {
     fn attempts(&mut self) -> usize {
         match self.random.below(3) {
             0 => 0,
-            _ => self.random.below(self.style.most + 1),
+            _ => 1 + self.random.below(self.style.most),
         }
     }
 
     /// An announcement for a component that has none yet: it comes, changes, goes, stays as it is, or is made anew.
     fn speaker(&mut self) -> Option<Speaker> {
-        let random = &mut self.random;
+        let (random, style) = (&mut self.random, self.style);
+        let old = choose(random, &self.present).unwrap_or(0);
         let id = match random.below(3) {
             0 => any_id(random),
-            _ => choose(random, &self.present).unwrap_or(0),
+            _ => old,
+        };
+        let full = self.next.len() >= style.most;
+        let (id, ones, list) = match (self.present.get(&id), random.below(9)) {
+            (_, 0) => (id, 1, vec![]),
+            // There is no room for one that comes, so another goes.
+            (None, _) if full => (old, 1, vec![]),
+            (Some(list), 1) => (id, random.below(2), list.clone()),
+            (Some(list), 2 | 3) if style.alters() => (id, 0, altered(random, list)),
+            (Some(list), 4 | 5) => (id, 0, reduced(random, list)),
+            (_, 6) => (id, 1 + random.below(2), style.list(random)),
+            _ => (id, 0, style.list(random)),
         };
         let taken = self.speakers.iter().any(|speaker| speaker.id == id);
-        let (ones, list) = match (self.present.get(&id), random.below(8)) {
-            (_, 0) => (1, vec![]),
-            (None, _) if self.next.len() >= self.style.most => return None,
-            (Some(list), 1) => (random.below(2), list.clone()),
-            (Some(list), 2 | 3) if self.style.alters() => (0, altered(random, list)),
-            (Some(list), 4) => (0, reduced(random, list)),
-            (_, 5) => (1 + random.below(2), self.style.list(random)),
-            _ => (0, self.style.list(random)),
-        };
         (!taken).then(|| Speaker::new(id, ones, list))
     }
 

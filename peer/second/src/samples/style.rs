@@ -61,13 +61,14 @@ impl Default for Style {
 }
 
 impl Style {
-    /// Any style with so many components at most.
+    /// Any style with so many components at most. Of many, the structures are often short, so that all come round.
     pub fn any(random: &mut Xorshift, most: usize) -> Style {
+        let many = most > 100;
         Style {
             most,
-            full: random.below(4) != 0,
+            full: many || random.below(4) != 0,
             few: random.chance(),
-            short: random.below(if most > 100 { 2 } else { 8 }) == 0,
+            short: random.below(if many { 2 } else { 8 }) == 0,
             long: random.below(8) == 0,
             middle: random.chance(),
             cyclic: random.chance(),

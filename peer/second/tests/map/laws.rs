@@ -46,7 +46,8 @@ pub struct Seen {
     pub gone: usize,
     pub unknown: usize,
     pub parts: usize,
-    /// The most components that were in force for certain at a time.
+    /// The most components that the map had in force at a time, and for certain.
+    pub components: usize,
     pub certain: usize,
     pub broken: Vec<Broken>,
 }
@@ -266,6 +267,7 @@ impl Laws {
         let there = marks.iter().filter(|mark| [1, 2].contains(*mark)).count();
         let row = self.past.row.min(255) as u8;
         let it = known(&self.map, count);
+        seen.components = seen.components.max(it.3);
         if it != (DONE, row, self.is_heard(false).into(), there) {
             seen.broken.push(("known", 0, format!("{it:?}")));
         }

@@ -9,8 +9,8 @@ use std::collections::BTreeMap;
 
 /// A little more than four wraps of the count, of which up to two pass before the first frame is heard.
 const FRAMES: usize = 4 * 256 + 9;
-/// Components at most: few come round often, and the last is a full multiplex.
-const MOST: [usize; 8] = [1, 1, 2, 3, 5, 20, 60, 128];
+/// Components at most: few come round often, and 128 are a full multiplex.
+const MOST: [usize; 8] = [1, 1, 2, 3, 5, 20, 128, 128];
 
 /// Who hears some of the frames.
 struct Ear {
@@ -134,6 +134,7 @@ fn the_laws_hold() {
     assert!(seen.gone > 100_000, "{seen:?}");
     assert!(seen.unknown > 1_000_000, "{seen:?}");
     assert!(seen.parts > 100_000, "{seen:?}");
+    assert!(seen.components > 128, "{seen:?}");
     assert!(seen.certain > 90, "{seen:?}");
 }
 
