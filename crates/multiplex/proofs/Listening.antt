@@ -14,7 +14,7 @@ use Prim.Native.Nat.{ℕ, zero, suc, _+_, _-_, _<_}
 use native.Mathlib.Omega.{arith}
 use native.Mathlib.Decide.{ℕ-discrete}
 use borrow.Author.Tests.{eq-eqb, ne-eqb}
-use lib.Dec.{T, ltb, eqb, lit<}
+use lib.Dec.{T, leb, ltb, eqb, lit<}
 use lib.ListN.{length, getD}
 use Rattle.field.specs.Field.{panning}
 use Rattle.structure.specs.Structure.{structureSize, headOf, gathered, absence, deletion, certainly}
@@ -25,8 +25,10 @@ use Rattle.map.specs.Map.{ids, mapSize, structureAt, withStructure, framesOf, w
 use Rattle.map.specs.Calls.{putIn, takenIn}
 use Rattle.map.proofs.Places.{structure-length, structure-same, structure-other, with-structure-length, with-frames-length, structures-kept, frames-stored}
 use Rattle.multiplex.specs.Broadcast.{countAt, change, epoch, begun}
-use Rattle.multiplex.specs.Air.{Carries, new, old, gone, vectors, Air, timed, carriedAs, fieldOn, newIn, oldIn, goneIn, later, lastOld, lastNew, linkOf, linksNew, one, newBefore, newTo, goneBefore, goneTo, inForce, coming, InTurn, nothing, Orderly}
+use Rattle.multiplex.specs.Air.{Carries, new, old, gone, vectors, Air, timed, carriedAs, fieldOn, newIn, oldIn, goneIn, later, lastOld, lastNew, linkOf, linksOld, linksNew, one, newBefore, newTo, goneBefore, goneTo, inForce, coming, InTurn, nothing, Orderly}
 use Rattle.multiplex.specs.Sound.{inRow, announces, lists, denies, Word, unheard, absent, there, over, presentIn, comingIn, comingBefore, comingTo, presentBefore, presentTo}
+use Rattle.multiplex.specs.Finding.{first, roundsBefore, roundsTo, newRoundsBefore, newRoundsTo, whollyBefore, readyBefore, readyTo}
+use Rattle.multiplex.proofs.Rounding.{Turns, turns-plain, turns-gone, turns-old, Came, unbegun, came-plain, came-new}
 use Rattle.multiplex.proofs.Words.{Words, Sure, sure-as, words-as, words-force, words-dropped, words-told, words-ends, some-old, some-new}
 use Rattle.multiplex.proofs.Knowing.{Front, some, all, Next, delete, deletion-deleting, front-on, front-old, next-on, next-new}
 
@@ -40,6 +42,9 @@ newLast a id t = later (newIn id (a .carries t)) (lastNew a id t)
 
 abbrev linkLast : Air → ℕ → ℕ → ℕ
 linkLast a id t = cond (eqb (newIn id (a .carries t)) 0) (linksNew a id t) (linkOf (a .carries t))
+
+abbrev oldLink : Air → ℕ → ℕ → ℕ
+oldLink a id t = cond (eqb (oldIn id (a .carries t)) 0) (linksOld a id t) (linkOf (a .carries t))
 
 -- as far as the byte goes
 unfoldable pub capped : ℕ → ℕ
@@ -55,6 +60,9 @@ pub record Known (a : Air) (hears : ℕ → Bool) (t : ℕ) (m : List ℕ) (u : 
   pub heard : hears t ≡ true
   pub words : (id : ℕ) → id < ids → Words (presentTo a hears id t) (comingTo a hears id t) (structureAt id 0 m) (structureAt id 1 m)
   pub sure : (id : ℕ) → id < ids → Sure (inForce a t id) (coming a t id) (structureAt id 0 m) (structureAt id 1 m)
+  pub wholly : u ≡ whollyBefore a hears t
+  pub turns : (id : ℕ) → id < ids → Turns (readyTo a hears id t) (roundsTo a hears id t) (inForce a t id) (oldLast a id t) (oldLink a id t) (structureAt id 0 m)
+  pub came : (id : ℕ) → id < ids → Came (newRoundsTo a hears id t) (coming a t id) (newLast a id t) (linkLast a id t) (structureAt id 1 m)
 
 pub record Before (a : Air) (hears : ℕ → Bool) (t : ℕ) (m : List ℕ) (u : Bool) : Type 0 where
   pub size : length m ≡ mapSize
@@ -64,6 +72,10 @@ pub record Before (a : Air) (hears : ℕ → Bool) (t : ℕ) (m : List ℕ) (u :
       → Next a hears t (epoch (timed a) t) id (lastNew a id t) (newBefore a id t) (linksNew a id t) (goneBefore a id t) u (structureAt id 1 m)
   pub words : (id : ℕ) → id < ids → Words (presentBefore a hears id t) (comingBefore a hears id t) (structureAt id 0 m) (structureAt id 1 m)
   pub sure : (id : ℕ) → id < ids → Sure (inForce a t id) (coming a t id) (structureAt id 0 m) (structureAt id 1 m)
+  pub wholly : u ≡ whollyBefore a hears t
+  pub turns : (id : ℕ) → id < ids
+      → Turns (readyBefore a hears id t) (roundsBefore a hears id t) (inForce a t id) (lastOld a id t) (linksOld a id t) (structureAt id 0 m)
+  pub came : (id : ℕ) → id < ids → Came (newRoundsBefore a hears id t) (coming a t id) (lastNew a id t) (linksNew a id t) (structureAt id 1 m)
 
 pub front-as : (a : Air) (hears : ℕ → Bool) (n e id due : ℕ) (s : List ℕ) (e' due' : ℕ) → e ≡ e' → due ≡ due'
     → Front a hears n e id due s → Front a hears n e' id due' s
@@ -89,6 +101,34 @@ none-last a id (suc t) z = go (change (timed a) (suc t)) (newIn id (a .carries t
     go true n z r = refl
     go false zero z r = r (omega (arith, z))
     go false (suc n) z r = absurd (omega (arith, z, ap (λ (b : Bool). newBefore a id t + cond b 0 1) (ne-eqb (suc n) 0 (λ q. omega (arith, q)))))
+
+-- nor did it begin
+none-begun : (a : Air) (hears : ℕ → Bool) (id t : ℕ) → newBefore a id t ≡ 0 → newRoundsBefore a hears id t ≡ 0
+unfolding newBefore newRoundsBefore first
+none-begun a hears id zero z = refl
+none-begun a hears id (suc t) z = go (hears t) (change (timed a) (suc t)) (newIn id (a .carries t)) z (none-begun a hears id t)
+  where
+    go : (h b : Bool) (n : ℕ) → cond b 0 (newBefore a id t + one n) ≡ 0 → (newBefore a id t ≡ 0 → newRoundsBefore a hears id t ≡ 0)
+        → cond h (cond b 0 (newRoundsBefore a hears id t + first n)) 0 ≡ 0
+    go false b n z r = refl
+    go true true n z r = refl
+    go true false zero z r = omega (arith, r (omega (arith, z)), none-first)
+      where
+        none-first : first 0 ≡ 0
+        none-first = refl
+    go true false (suc n) z r = absurd (omega (arith, z, ap (λ (b : Bool). newBefore a id t + cond b 0 1) (ne-eqb (suc n) 0 (λ q. omega (arith, q)))))
+
+-- a frame that carries none of its fields
+turns-none : (ready : Bool) (b : ℕ) (xs : List ℕ) (due l : ℕ) (F : List ℕ) (n v : ℕ) → n ≡ 0 → Turns ready b xs due l F
+    → Turns (ready || leb 3 (b + first n)) (b + first n) xs (later n due) (cond (eqb n 0) l v) F
+unfolding first later
+turns-none ready b xs due l F n v z w =
+    subst (λ (k : ℕ). Turns (ready || leb 3 (b + first k)) (b + first k) xs (later k due) (cond (eqb k 0) l v) F) (sym z) (turns-plain ready b xs due l F w)
+
+came-none : (c : ℕ) (zs : List ℕ) (due l : ℕ) (A : List ℕ) (n v : ℕ) → n ≡ 0 → Came c zs due l A → Came (c + first n) zs (later n due) (cond (eqb n 0) l v) A
+unfolding first later
+came-none c zs due l A n v z w =
+    subst (λ (k : ℕ). Came (c + first k) zs (later k due) (cond (eqb k 0) l v) A) (sym z) (came-plain c zs due l A w)
 
 clash : {A : Type 0} → true ≡ false → A
 clash e = absurd (subst T e tt)
@@ -142,6 +182,16 @@ module _ (a : Air) (w : Orderly a) (hears : ℕ → Bool) (t : ℕ) (m : List �
   abbrev WordsAt : Carries → ℕ → List ℕ → List ℕ → Type 0
   WordsAt c id F A = Words (over (presentIn id c) (presentBefore a hears id t)) (over (comingIn id c) (comingBefore a hears id t)) F A
 
+  abbrev TurnsAt : Carries → ℕ → List ℕ → Type 0
+  TurnsAt c id F =
+      Turns (readyBefore a hears id t || leb 3 (roundsBefore a hears id t + first (oldIn id c))) (roundsBefore a hears id t + first (oldIn id c))
+      (inForce a t id) (later (oldIn id c) (lastOld a id t)) (cond (eqb (oldIn id c) 0) (linksOld a id t) (linkOf c)) F
+
+  abbrev CameAt : Carries → ℕ → List ℕ → Type 0
+  CameAt c id A =
+      Came (newRoundsBefore a hears id t + first (newIn id c)) (coming a t id) (later (newIn id c) (lastNew a id t))
+      (cond (eqb (newIn id c) 0) (linksNew a id t) (linkOf c)) A
+
   -- what is held when the field is taken in, but for the frames that were heard
   record Taken (c : Carries) (x : List ℕ) : Type 0 where
     pub size : length x ≡ mapSize
@@ -151,6 +201,8 @@ module _ (a : Air) (w : Orderly a) (hears : ℕ → Bool) (t : ℕ) (m : List �
         (cond (eqb (newIn id c) 0) (linksNew a id t) (linkOf c)) (goneBefore a id t || goneIn id c) u (structureAt id 1 x)
     pub words : (id : ℕ) → id < ids → WordsAt c id (structureAt id 0 x) (structureAt id 1 x)
     pub sure : (id : ℕ) → id < ids → Sure (inForce a t id) (coming a t id) (structureAt id 0 x) (structureAt id 1 x)
+    pub turns : (id : ℕ) → id < ids → TurnsAt c id (structureAt id 0 x)
+    pub came : (id : ℕ) → id < ids → CameAt c id (structureAt id 1 x)
 
   -- the announced structure of one component, by its bytes
   abbrev AtIs : Carries → ℕ → List ℕ → Type 0
@@ -208,6 +260,17 @@ module _ (a : Air) (w : Orderly a) (hears : ℕ → Bool) (t : ℕ) (m : List �
         (record { front = h .sure k hk .front; next = c })))
         (λ e. sure-as (sym (put-off k 1 hk (lit< tt) s ls id 0 (lit< tt) (λ p q. e p))) (sym (put-off k 1 hk (lit< tt) s ls id 1 (lit< tt) (λ p q. e p))) (h .sure id hid))
 
+  turns-off : (c : Carries) (id : ℕ) → id < ids → (F : List ℕ) → oldIn id c ≡ 0 → structureAt id 0 m ≡ F → TurnsAt c id F
+  turns-off c id hid F z is =
+      subst (TurnsAt c id) is
+      (turns-none (readyBefore a hears id t) (roundsBefore a hears id t) (inForce a t id) (lastOld a id t) (linksOld a id t) (structureAt id 0 m)
+      (oldIn id c) (linkOf c) z (h .turns id hid))
+
+  came-off : (c : Carries) (id : ℕ) → id < ids → (A : List ℕ) → newIn id c ≡ 0 → structureAt id 1 m ≡ A → CameAt c id A
+  came-off c id hid A z is =
+      subst (CameAt c id) is
+      (came-none (newRoundsBefore a hears id t) (coming a t id) (lastNew a id t) (linksNew a id t) (structureAt id 1 m) (newIn id c) (linkOf c) z (h .came id hid))
+
   abbrev gather : ℕ → ℕ → ℕ → ℕ → List ℕ
   gather k v t l = gathered (structureAt k v m) t l
 
@@ -216,7 +279,7 @@ module _ (a : Air) (w : Orderly a) (hears : ℕ → Bool) (t : ℕ) (m : List �
 
   taken-new : (k i l : ℕ) → a .carries t ≡ new k i l → InTurn a t (new k i l)
       → Taken (new k i l) (withStructure k 1 (gather k 1 (getD (coming a t k) i 0) l) m)
-  unfolding denies newIn oldIn goneIn linkOf later InTurn over presentIn comingIn
+  unfolding denies newIn oldIn goneIn linkOf later InTurn over presentIn comingIn first
   taken-new k i l is law =
       let hk = law .0 in
       let s = gather k 1 (getD (coming a t k) i 0) l in
@@ -234,8 +297,22 @@ module _ (a : Air) (w : Orderly a) (hears : ℕ → Bool) (t : ℕ) (m : List �
             (λ e. subst (λ (j : ℕ). WordsAt (new k i l) j (structureAt j 0 (withStructure k 1 s m)) (structureAt j 1 (withStructure k 1 s m))) (sym e) (heard-new hk ls))
             (λ e. words-off k 1 hk (lit< tt) s ls (new k i l) id hid e refl (ap (λ (b : Bool). cond b there unheard) (ne-eqb k id (λ q. e (sym q)))));
         sure = sure-coming k hk s ls (λ _. omega (arith, law .1 .0));
+        turns = λ id hid. turns-off (new k i l) id hid _ refl (sym (put-off k 1 hk (lit< tt) s ls id 0 (lit< tt) (λ p q. omega (arith, q))));
+        came = λ id hid. pick id k
+            (λ e. subst (λ (j : ℕ). CameAt (new k i l) j (structureAt j 1 (withStructure k 1 s m))) (sym e) (subst (CameAt (new k i l) k) (sym (put-at k 1 hk (lit< tt) s ls)) (came-here hk)))
+            (λ e. came-off (new k i l) id hid _ (ap (λ (b : Bool). cond b (suc i) 0) (ne-eqb k id (λ q. e (sym q)))) (sym (put-off k 1 hk (lit< tt) s ls id 1 (lit< tt) (λ p q. e p))));
       }
     where
+      came-here : (hk : k < ids) → CameAt (new k i l) k (gather k 1 (getD (coming a t k) i 0) l)
+      came-here hk =
+          let yes-k : suc i ≡ newIn k (new k i l) = sym (ap (λ (b : Bool). cond b (suc i) 0) (eq-eqb k k refl)) in
+          subst (λ (x : ℕ). Came (newRoundsBefore a hears k t + first x) (coming a t k) (later x (lastNew a k t)) (cond (eqb x 0) (linksNew a k t) l) (gather k 1 (getD (coming a t k) i 0) l))
+          yes-k
+          (subst (λ (b : Bool). Came (newRoundsBefore a hears k t + first (suc i)) (coming a t k) (suc i) (cond b (linksNew a k t) l) (gather k 1 (getD (coming a t k) i 0) l))
+          (sym (ne-eqb (suc i) 0 (λ z. omega (arith, z))))
+          (came-new (coming a t k) (w .linked (suc now) k hk) i (law .1 .0) l (omega (arith, law .1 .1 .0)) (lastNew a k t) (linksNew a k t) (law .1 .1 .1 .0)
+          a hears t now k (newBefore a k t) (goneBefore a k t) u refl (newRoundsBefore a hears k t) (structureAt k 1 m) (h .next k hk) (h .came k hk)))
+
       heard-new : (hk : k < ids) → length (gather k 1 (getD (coming a t k) i 0) l) ≡ structureSize
           → WordsAt (new k i l) k (structureAt k 0 (withStructure k 1 (gather k 1 (getD (coming a t k) i 0) l) m))
           (structureAt k 1 (withStructure k 1 (gather k 1 (getD (coming a t k) i 0) l) m))
@@ -262,7 +339,7 @@ module _ (a : Air) (w : Orderly a) (hears : ℕ → Bool) (t : ℕ) (m : List �
 
   taken-old : (k i l : ℕ) → a .carries t ≡ old k i l → InTurn a t (old k i l)
       → Taken (old k i l) (withStructure k 0 (gather k 0 (getD (inForce a t k) i 0) l) m)
-  unfolding denies newIn oldIn goneIn later InTurn over presentIn comingIn
+  unfolding denies newIn oldIn goneIn linkOf later InTurn over presentIn comingIn first
   taken-old k i l is law =
       let hk = law .0 in
       let s = gather k 0 (getD (inForce a t k) i 0) l in
@@ -283,8 +360,22 @@ module _ (a : Air) (w : Orderly a) (hears : ℕ → Bool) (t : ℕ) (m : List �
             (λ e. subst (λ (j : ℕ). WordsAt (old k i l) j (structureAt j 0 (withStructure k 0 s m)) (structureAt j 1 (withStructure k 0 s m))) (sym e) (heard-old hk ls))
             (λ e. words-off k 0 hk (lit< tt) s ls (old k i l) id hid e (ap (λ (b : Bool). cond b there unheard) (ne-eqb k id (λ q. e (sym q)))) refl);
         sure = sure-force k hk s ls (λ _. omega (arith, law .1 .0));
+        turns = λ id hid. pick id k
+            (λ e. subst (λ (j : ℕ). TurnsAt (old k i l) j (structureAt j 0 (withStructure k 0 s m))) (sym e) (subst (TurnsAt (old k i l) k) (sym (put-at k 0 hk (lit< tt) s ls)) (turns-here hk)))
+            (λ e. turns-off (old k i l) id hid _ (ap (λ (b : Bool). cond b (suc i) 0) (ne-eqb k id (λ q. e (sym q)))) (sym (put-off k 0 hk (lit< tt) s ls id 0 (lit< tt) (λ p q. e p))));
+        came = λ id hid. came-off (old k i l) id hid _ refl (sym (put-off k 0 hk (lit< tt) s ls id 1 (lit< tt) (λ p q. omega (arith, q))));
       }
     where
+      turns-here : (hk : k < ids) → TurnsAt (old k i l) k (gather k 0 (getD (inForce a t k) i 0) l)
+      turns-here hk =
+          let yes-k : suc i ≡ oldIn k (old k i l) = sym (ap (λ (b : Bool). cond b (suc i) 0) (eq-eqb k k refl)) in
+          subst (λ (x : ℕ). Turns (readyBefore a hears k t || leb 3 (roundsBefore a hears k t + first x)) (roundsBefore a hears k t + first x) (inForce a t k)
+          (later x (lastOld a k t)) (cond (eqb x 0) (linksOld a k t) l) (gather k 0 (getD (inForce a t k) i 0) l)) yes-k
+          (subst (λ (b : Bool). Turns (readyBefore a hears k t || leb 3 (roundsBefore a hears k t + first (suc i))) (roundsBefore a hears k t + first (suc i)) (inForce a t k)
+          (suc i) (cond b (linksOld a k t) l) (gather k 0 (getD (inForce a t k) i 0) l)) (sym (ne-eqb (suc i) 0 (λ z. omega (arith, z))))
+          (turns-old (inForce a t k) (w .linked now k hk) i (law .1 .0) l (omega (arith, law .1 .1 .0)) (lastOld a k t) (linksOld a k t) (law .1 .1 .1)
+          a hears t now k refl (λ j. w .linked j k hk) (readyBefore a hears k t) (roundsBefore a hears k t) (structureAt k 0 m) (h .front k hk) (h .turns k hk)))
+
       heard-old : (hk : k < ids) → length (gather k 0 (getD (inForce a t k) i 0) l) ≡ structureSize
           → WordsAt (old k i l) k (structureAt k 0 (withStructure k 0 (gather k 0 (getD (inForce a t k) i 0) l) m))
           (structureAt k 1 (withStructure k 0 (gather k 0 (getD (inForce a t k) i 0) l) m))
@@ -306,9 +397,9 @@ module _ (a : Air) (w : Orderly a) (hears : ℕ → Bool) (t : ℕ) (m : List �
           (λ j e. law .1 .1 .1 j e .0) (h .front k hk)))
 
   -- all ones: at once, or by the next change
-  taken-gone : (k tdms l : ℕ) → a .carries t ≡ gone 0 k tdms l → k < ids → Taken (gone 0 k tdms l) (withStructure k 0 absence m)
-  unfolding denies newIn oldIn goneIn later over presentIn comingIn
-  taken-gone k tdms l is hk =
+  taken-gone : (k tdms l : ℕ) → a .carries t ≡ gone 0 k tdms l → k < ids → inForce a t k ≡ [] → Taken (gone 0 k tdms l) (withStructure k 0 absence m)
+  unfolding denies newIn oldIn goneIn linkOf later over presentIn comingIn first
+  taken-gone k tdms l is hk none =
       let ls = absence-length in
       record {
         size = put-long k 0 hk (lit< tt) _ ls;
@@ -327,10 +418,16 @@ module _ (a : Air) (w : Orderly a) (hears : ℕ → Bool) (t : ℕ) (m : List �
             (sym (put-at k 0 hk (lit< tt) _ ls)) (sym (put-off k 0 hk (lit< tt) _ ls k 1 (lit< tt) (λ p q. omega (arith, q))))))
             (λ e. words-off k 0 hk (lit< tt) _ ls (gone 0 k tdms l) id hid e (ap (λ (b : Bool). cond b absent unheard) (ne-eqb k id (λ q. e (sym q)))) refl);
         sure = sure-force k hk absence ls (λ c. clash (sym c ∙ absence-certainly));
+        turns = λ id hid. pick id k
+            (λ e. subst (λ (j : ℕ). TurnsAt (gone 0 k tdms l) j (structureAt j 0 (withStructure k 0 absence m))) (sym e)
+            (subst (TurnsAt (gone 0 k tdms l) k) (sym (put-at k 0 hk (lit< tt) _ ls))
+            (turns-gone (readyBefore a hears k t) (roundsBefore a hears k t) (inForce a t k) (lastOld a k t) (linksOld a k t) absence none absence-empty)))
+            (λ e. turns-off (gone 0 k tdms l) id hid _ refl (sym (put-off k 0 hk (lit< tt) _ ls id 0 (lit< tt) (λ p q. e p))));
+        came = λ id hid. came-off (gone 0 k tdms l) id hid _ refl (sym (put-off k 0 hk (lit< tt) _ ls id 1 (lit< tt) (λ p q. omega (arith, q))));
       }
 
   taken-ends : (k tdms l : ℕ) → a .carries t ≡ gone 1 k tdms l → k < ids → newBefore a k t ≡ 0 → Taken (gone 1 k tdms l) (withStructure k 1 deletion m)
-  unfolding denies newIn oldIn goneIn later over presentIn comingIn
+  unfolding denies newIn oldIn goneIn linkOf later over presentIn comingIn first
   taken-ends k tdms l is hk z =
       record {
         size = put-long k 1 hk (lit< tt) _ deletion-length;
@@ -350,6 +447,11 @@ module _ (a : Air) (w : Orderly a) (hears : ℕ → Bool) (t : ℕ) (m : List �
             (sym (put-off k 1 hk (lit< tt) _ deletion-length k 0 (lit< tt) (λ p q. omega (arith, q)))) (sym (put-at k 1 hk (lit< tt) _ deletion-length))))
             (λ e. words-off k 1 hk (lit< tt) _ deletion-length (gone 1 k tdms l) id hid e refl (ap (λ (b : Bool). cond b absent unheard) (ne-eqb k id (λ q. e (sym q)))));
         sure = sure-coming k hk deletion deletion-length (λ p. absurd (omega (arith, p, deletion-deleting .fields)));
+        turns = λ id hid. turns-off (gone 1 k tdms l) id hid _ refl (sym (put-off k 1 hk (lit< tt) _ deletion-length id 0 (lit< tt) (λ p q. omega (arith, q))));
+        came = λ id hid. pick id k
+            (λ e. subst (λ (j : ℕ). CameAt (gone 1 k tdms l) j (structureAt j 1 (withStructure k 1 deletion m))) (sym e)
+            (unbegun (plain (newRoundsBefore a hears k t) (none-begun a hears k t z))))
+            (λ e. came-off (gone 1 k tdms l) id hid _ refl (sym (put-off k 1 hk (lit< tt) _ deletion-length id 1 (lit< tt) (λ p q. e p))));
       }
     where
       plain : (x : ℕ) → x ≡ 0 → x + 0 ≡ 0
@@ -363,13 +465,15 @@ module _ (a : Air) (w : Orderly a) (hears : ℕ → Bool) (t : ℕ) (m : List �
           or-yes false = refl
 
   taken-vectors : (flag tdms l : ℕ) → a .carries t ≡ vectors flag tdms l → Taken (vectors flag tdms l) m
-  unfolding denies newIn oldIn goneIn later over presentIn comingIn
+  unfolding denies newIn oldIn goneIn linkOf later over presentIn comingIn first
   taken-vectors flag tdms l is = record {
     size = h .size;
     front = λ id hid. front-plain a hears t id (vectors flag tdms l) is (structureAt id 0 m) refl (λ xs. refl) (h .front id hid);
     next = λ id hid. next-plain a hears t id (vectors flag tdms l) is u (structureAt id 1 m) refl refl (h .next id hid);
     words = h .words;
     sure = h .sure;
+    turns = λ id hid. turns-off (vectors flag tdms l) id hid _ refl refl;
+    came = λ id hid. came-off (vectors flag tdms l) id hid _ refl refl;
   }
 
   -- whatever the frame carries
@@ -390,7 +494,7 @@ module _ (a : Air) (w : Orderly a) (hears : ℕ → Bool) (t : ℕ) (m : List �
   taken-as (gone zero k tdms l) is law =
       let go : takenIn (carriedAs a t (gone 0 k tdms l)) m ≡ withStructure k 0 absence m =
       (λ j. cond (ne-eqb k panning (law .1 .0) j) m (withStructure k 0 (cond (law .1 .1 .1 .1 .0 j) absence (gather k 0 tdms l)) m)) in
-      subst (Taken (gone 0 k tdms l)) (sym go) (taken-gone k tdms l is (law .0))
+      subst (Taken (gone 0 k tdms l)) (sym go) (taken-gone k tdms l is (law .0) (law .1 .1 .0 refl))
   taken-as (gone (suc zero) k tdms l) is law =
       let go : takenIn (carriedAs a t (gone 1 k tdms l)) m ≡ withStructure k 1 deletion m =
       (λ j. cond (ne-eqb k panning (law .1 .0) j) m (withStructure k 1 (cond (law .1 .1 .1 .1 .0 j) deletion (gather k 1 tdms l)) m)) in
@@ -416,4 +520,7 @@ module _ (a : Air) (w : Orderly a) (hears : ℕ → Bool) (t : ℕ) (m : List �
             (sym (ap (λ (b : Bool). over (cond b (comingIn id (a .carries t)) unheard) (comingBefore a hears id t)) heard))
             (sym (structures-kept x (k .size) f id 0 hid (lit< tt))) (sym (structures-kept x (k .size) f id 1 hid (lit< tt)));
         sure = λ id hid. sure-as (sym (structures-kept x (k .size) f id 0 hid (lit< tt))) (sym (structures-kept x (k .size) f id 1 hid (lit< tt))) (k .sure id hid);
+        wholly = h .wholly;
+        turns = λ id hid. subst (TurnsAt (a .carries t) id) (sym (structures-kept x (k .size) f id 0 hid (lit< tt))) (k .turns id hid);
+        came = λ id hid. subst (CameAt (a .carries t) id) (sym (structures-kept x (k .size) f id 1 hid (lit< tt))) (k .came id hid);
       }

@@ -6,13 +6,14 @@
 --
 -- Assumes nothing.
 use mathlib.Core.Path.{_≡_, refl, sym, ap, ap₂, _∙_, subst}
-use mathlib.Core.Bool.{Bool, true, false, cond, _&&_, _||_}
+use mathlib.Core.Bool.{Bool, true, false, cond, not, _&&_, _||_}
 use mathlib.Core.List.{List, [], _∷_}
 use Prim.Native.Nat.{ℕ, zero, suc, _+_, _-_, _*_, _≤_, _<_}
 use native.Mathlib.Omega.{arith}
 use borrow.Author.Tests.{eq-eqb, eqb-true}
 use lib.ListN.{getD}
-use Rattle.bits.proofs.Search.{and-left}
+use Rattle.bits.proofs.Search.{and-left, and-right}
+use native.Mathlib.Decide.{ℕ-discrete}
 use lib.Dec.{T, eqb, lit<, lit≤}
 use Rattle.bits.specs.Bits.{blank}
 use Rattle.bits.proofs.Storing.{blank-length}
@@ -24,12 +25,16 @@ use Rattle.structure.proofs.Runs.{empty}
 use Rattle.map.specs.Map.{ids, mapSize, blockSize, structureAt, eachFrom, changedFrom, spoiledBoth}
 use Rattle.map.proofs.Places.{structure-length}
 use Rattle.map.proofs.Changing.{blank-empty, part-blank, gap-length, gap-structure, from-length}
-use Rattle.multiplex.specs.Broadcast.{change, epoch, begun}
-use Rattle.multiplex.specs.Air.{Air, timed, newIn, oldIn, later, same, lastOld, lastNew, linkOf, linksNew, newBefore, newTo, goneBefore, goneTo, inForce, coming, Said, nothing, described, deleted, Orderly}
-use Rattle.multiplex.specs.Sound.{unheard, over, presentIn, comingIn, comingBefore, comingTo, presentBefore, presentTo}
+use Rattle.multiplex.specs.Broadcast.{change, epoch, begun, Linked}
+use Rattle.multiplex.specs.Broadcast as broadcast
+use Rattle.multiplex.specs.Air.{Air, timed, newIn, oldIn, later, same, lastOld, lastNew, linkOf, linksOld, linksNew, newBefore, newTo, goneBefore, goneTo, inForce, coming, Said, nothing, described, deleted, Orderly}
+use Rattle.multiplex.specs.Finding.{roundsBefore, roundsTo, newRoundsBefore, newRoundsTo, whollyBefore, news, overChange, readyBefore, readyTo}
+use Rattle.multiplex.specs.Sound.{anyBefore, Word, unheard, absent, there, over, presentIn, comingIn, comingBefore, comingTo, presentBefore, presentTo}
 use Rattle.multiplex.proofs.Distances.{epoch-step, epoch-mono}
 use Rattle.multiplex.proofs.Knowing.{Front, some, all, Next, none, delete, piece, sure, full, Silent, Past, Settled, stays-so, told, ends, front-gap, next-gap, front-unsure, front-sure}
 use Rattle.multiplex.proofs.Words.{Words, Sure, sure-as, sure-gap, sure-change, words-as, words-gap, words-change, unheard-there, absent-unheard, Goes, goes-to}
+use Rattle.multiplex.proofs.Rounding.{Right, Turns, unbegun, Came, none-is, right-sure, right-kept, right-gone, right-round}
+use Rattle.multiplex.proofs.Rounding as rounding
 use Rattle.multiplex.proofs.Listening.{Known, Before, front-as, next-as}
 
 same-refl : (xs : List ℕ) → same xs xs ≡ true
@@ -63,6 +68,69 @@ module _ (a : Air) (hears : ℕ → Bool) (t n : ℕ) (gap : Gap hears t n) wher
   silent-new : (e id : ℕ) → epoch (timed a) t < e → Silent a hears n e id
   silent-new e id h v hv hh z = absurd (omega (arith, h, z, epoch-mono (timed a) v t (omega (arith, gap v hv hh))))
 
+-- ---- from when on it is right
+
+turns-as : {r r' : Bool} {b b' : ℕ} {xs xs' : List ℕ} {due due' l l' : ℕ} {F : List ℕ} → r ≡ r' → b ≡ b' → xs ≡ xs' → due ≡ due' → l ≡ l' → Turns r b xs due l F → Turns r' b' xs' due' l' F
+turns-as {r} {r'} {b} {b'} {xs} {xs'} {due} {due'} {l} {l'} {F} er eb ex ed el w =
+    subst (λ (x : Bool). Turns x b' xs' due' l' F) er
+    (subst (λ (x : ℕ). Turns r x xs' due' l' F) eb
+    (subst (λ (x : List ℕ). Turns r b x due' l' F) ex (subst (λ (x : ℕ). Turns r b xs x l' F) ed (subst (λ (x : ℕ). Turns r b xs due x F) el w))))
+
+came-as : {c c' : ℕ} {zs zs' : List ℕ} {due due' l l' : ℕ} {A : List ℕ} → c ≡ c' → zs ≡ zs' → due ≡ due' → l ≡ l' → Came c zs due l A → Came c' zs' due' l' A
+came-as {c} {c'} {zs} {zs'} {due} {due'} {l} {l'} {A} ec ez ed el w =
+    subst (λ (x : ℕ). Came x zs' due' l' A) ec
+    (subst (λ (x : List ℕ). Came c x due' l' A) ez (subst (λ (x : ℕ). Came c zs x l' A) ed (subst (λ (x : ℕ). Came c zs due x A) el w)))
+
+none-came : {c : ℕ} {zs : List ℕ} {due l : ℕ} {A : List ℕ} → c ≡ 0 → Came c zs due l A
+none-came z = unbegun z
+
+-- behind frames that were missed nothing is asked of it
+record Lost (a : Air) (hears : ℕ → Bool) (n : ℕ) : Type 0 where
+  wholly : whollyBefore a hears n ≡ false
+  ready : (id : ℕ) → readyBefore a hears id n ≡ false
+  rounds : (id : ℕ) → roundsBefore a hears id n ≡ 0
+  announced : (id : ℕ) → newRoundsBefore a hears id n ≡ 0
+
+off-cond : {A : Type 0} (x y : A) (b : Bool) → b ≡ false → cond b x y ≡ y
+off-cond x y true e = absurd (subst T e tt)
+off-cond x y false e = refl
+
+-- what is asked of it where the frame before was heard
+abbrev heardReady : Air → (ℕ → Bool) → ℕ → ℕ → Bool
+heardReady a hears id n =
+    cond (change (timed a) (suc n))
+    (cond (whollyBefore a hears n) (readyTo a hears id n || news a id n) (overChange (comingTo a hears id n) (readyTo a hears id n) a hears id n)) (readyTo a hears id n)
+
+any-heard : (hears : ℕ → Bool) (t v : ℕ) → t < v → hears t ≡ true → anyBefore hears v ≡ true
+unfolding anyBefore
+any-heard hears t zero l h = absurd (omega arith)
+any-heard hears t (suc v) l h = go (ℕ-discrete t v) (any-heard hears t v)
+  where
+    or-yes : (x : Bool) → (x || true) ≡ true
+    or-yes true = refl
+    or-yes false = refl
+
+    go : Dec (t ≡ v) → (t < v → hears t ≡ true → anyBefore hears v ≡ true) → (hears v || anyBefore hears v) ≡ true
+    go (yes e) r = ap (λ (b : Bool). b || anyBefore hears v) (ap hears (sym e) ∙ h)
+    go (no e) r = ap (λ (b : Bool). hears v || b) (r (omega (arith, l, e)) h) ∙ or-yes (hears v)
+
+lost-at : (a : Air) (hears : ℕ → Bool) (t n : ℕ) → suc t < n → Gap hears t n → hears t ≡ true → Lost a hears n
+unfolding whollyBefore readyBefore roundsBefore newRoundsBefore
+lost-at a hears t zero l gap h = absurd (omega arith)
+lost-at a hears t (suc n) l gap h =
+    let off : hears n ≡ false = unheard-at (hears n) refl in
+    let any : anyBefore hears n ≡ true = any-heard hears t n (omega (arith, l)) h in
+    record {
+      wholly = λ i. cond (off i) (change (timed a) (suc n) || whollyBefore a hears n) (cond (any i) false (change (timed a) (suc n)));
+      ready = λ id. off-cond (heardReady a hears id n) (cond (anyBefore hears n) false (not (broadcast.some (inForce a (suc n) id)))) (hears n) off ∙ ap (λ (b : Bool). cond b false (not (broadcast.some (inForce a (suc n) id)))) any;
+      rounds = λ id. off-cond (cond (change (timed a) (suc n)) 0 (roundsTo a hears id n)) 0 (hears n) off;
+      announced = λ id. off-cond (cond (change (timed a) (suc n)) 0 (newRoundsTo a hears id n)) 0 (hears n) off;
+    }
+  where
+    unheard-at : (b : Bool) → hears n ≡ b → hears n ≡ false
+    unheard-at true e = absurd (omega (arith, l, gap n (omega arith) e))
+    unheard-at false e = e
+
 module _ (a : Air) (w : Orderly a) (hears : ℕ → Bool) (t : ℕ) (m : List ℕ) (u : Bool) (k : Known a hears t m u) where
   abbrev e : ℕ
   e = epoch (timed a) t
@@ -76,8 +144,31 @@ module _ (a : Air) (w : Orderly a) (hears : ℕ → Bool) (t : ℕ) (m : List �
 
   -- ---- the next frame
 
+  wholly-next : (b : Bool) → change (timed a) (suc t) ≡ b → whollyBefore a hears (suc t) ≡ (b || whollyBefore a hears t)
+  unfolding whollyBefore
+  wholly-next b c =
+      ap (λ (x : Bool). cond x (change (timed a) (suc t) || whollyBefore a hears t) (cond (anyBefore hears t) false (change (timed a) (suc t)))) (k .heard)
+      ∙ ap (λ (x : Bool). x || whollyBefore a hears t) c
+
+  -- over a change
+  crossed : ℕ → Bool
+  crossed id = cond (whollyBefore a hears t) (readyTo a hears id t || news a id t) (overChange (comingTo a hears id t) (readyTo a hears id t) a hears id t)
+
+  ready-next : (id : ℕ) → readyBefore a hears id (suc t) ≡ cond (change (timed a) (suc t)) (crossed id) (readyTo a hears id t)
+  unfolding readyBefore crossed
+  ready-next id =
+      ap (λ (x : Bool). cond x (cond (change (timed a) (suc t)) (crossed id) (readyTo a hears id t)) (cond (anyBefore hears t) false (not (broadcast.some (inForce a (suc t) id))))) (k .heard)
+
+  rounds-next : (id : ℕ) → roundsBefore a hears id (suc t) ≡ cond (change (timed a) (suc t)) 0 (roundsTo a hears id t)
+  unfolding roundsBefore
+  rounds-next id = ap (λ (x : Bool). cond x (cond (change (timed a) (suc t)) 0 (roundsTo a hears id t)) 0) (k .heard)
+
+  new-next : (id : ℕ) → newRoundsBefore a hears id (suc t) ≡ cond (change (timed a) (suc t)) 0 (newRoundsTo a hears id t)
+  unfolding newRoundsBefore
+  new-next id = ap (λ (x : Bool). cond x (cond (change (timed a) (suc t)) 0 (newRoundsTo a hears id t)) 0) (k .heard)
+
   pub near-same : change (timed a) (suc t) ≡ false → Before a hears (suc t) m u
-  unfolding lastOld lastNew linksNew newBefore goneBefore begun
+  unfolding lastOld lastNew linksOld linksNew newBefore goneBefore begun
   near-same c =
       let on : epoch (timed a) (suc t) ≡ e = epoch-step (timed a) t false c in
       record {
@@ -94,6 +185,12 @@ module _ (a : Air) (w : Orderly a) (hears : ℕ → Bool) (t : ℕ) (m : List �
             let g = goes (suc t) (omega arith) (λ v hv hh. hv) id .before on in
             words-as (k .words id hid) (sym (g .1)) (sym (g .0)) refl refl;
         sure = λ id hid. subst (λ (x : ℕ). Sure (a .config x id) (a .config (suc x) id) (structureAt id 0 m) (structureAt id 1 m)) (sym on) (k .sure id hid);
+        wholly = k .wholly ∙ sym (wholly-next false c);
+        turns = λ id hid. turns-as (sym (ready-next id ∙ ap (λ (b : Bool). cond b (crossed id) (readyTo a hears id t)) c)) (sym (rounds-next id ∙ ap (λ (b : Bool). cond b 0 (roundsTo a hears id t)) c))
+            (ap (λ (x : ℕ). a .config x id) (sym on))
+            (sym (ap (λ (b : Bool). cond b (later (oldIn id (a .carries t)) (lastOld a id t)) 0) (same-eq _ _ (ap (λ (x : ℕ). a .config x id) (sym on))))) refl (k .turns id hid);
+        came = λ id hid. came-as (sym (new-next id ∙ ap (λ (b : Bool). cond b 0 (newRoundsTo a hears id t)) c)) (ap (λ (x : ℕ). a .config (suc x) id) (sym on))
+            (sym (ap (λ (b : Bool). cond b 0 (later (newIn id (a .carries t)) (lastNew a id t))) c)) refl (k .came id hid);
       }
     where
       or-yes : (x : Bool) → (x || true) ≡ true
@@ -130,6 +227,47 @@ module _ (a : Air) (w : Orderly a) (hears : ℕ → Bool) (t : ℕ) (m : List �
       subst (λ (x : Bool). Then x id) (sym q)
       (front-unsure a hears (suc t) e id past hid m (k .size) (w .linked (suc e) id hid) _ (lastOld a id (suc t)) _ _ _ _ u (k .front id hid) (k .next id hid))
 
+  -- right behind the change
+  right-change : change (timed a) (suc t) ≡ true → (id : ℕ) → id < ids → (v : Bool) → u ≡ v → crossed id ≡ true
+      → Right (coming a t id) (lastOld a id (suc t)) (structureAt id 0 (changedFrom ids 0 u m))
+  unfolding crossed news overChange
+  right-change c id hid true q e =
+      subst (λ (x : Bool). Right (coming a t id) (lastOld a id (suc t)) (structureAt id 0 (changedFrom ids 0 x m))) (sym q)
+      (right-sure a hears (suc t) (epoch (timed a) t) id hid m (k .size) (w .linked (suc (epoch (timed a) t)) id hid) (lastOld a id (suc t))
+      (later (oldIn id (a .carries t)) (lastOld a id t)) _ _ _ _ (readyTo a hears id t) (settled-by id (w .said t id hid c (k .begun q)))
+      (subst (λ (x : Bool). Next a hears (suc t) (epoch (timed a) t) id (later (newIn id (a .carries t)) (lastNew a id t)) (newTo a id t)
+      (cond (eqb (newIn id (a .carries t)) 0) (linksNew a id t) (linkOf (a .carries t))) (goneTo a id t) x (structureAt id 1 m)) q (k .next id hid))
+      (k .turns id hid .rightly)
+      (sym (ap (λ (b : Bool). cond b (readyTo a hears id t || news a id t) (overChange (comingTo a hears id t) (readyTo a hears id t) a hears id t)) (sym (k .wholly) ∙ q)) ∙ e))
+  right-change c id hid false q e =
+      by (comingTo a hears id t) refl
+      (sym (ap (λ (b : Bool). cond b (readyTo a hears id t || news a id t) (overChange (comingTo a hears id t) (readyTo a hears id t) a hears id t)) (sym (k .wholly) ∙ q)) ∙ e)
+    where
+      next : ℕ
+      next = lastOld a id (suc t)
+
+      now : ℕ
+      now = epoch (timed a) t
+
+      lk : Linked (a .config (suc now) id)
+      lk = w .linked (suc now) id hid
+
+      by : (x : Word) → comingTo a hears id t ≡ x → overChange (comingTo a hears id t) (readyTo a hears id t) a hears id t ≡ true
+          → Right (coming a t id) (lastOld a id (suc t)) (structureAt id 0 (changedFrom ids 0 u m))
+      by unheard z ok =
+          let y : (readyTo a hears id t && same (inForce a t id) (coming a t id)) ≡ true = sym (ap (λ (v : Word). overChange v (readyTo a hears id t) a hears id t) z) ∙ ok in
+          let n = k .words id hid .nothing z in
+          right-kept a hears (suc t) now id hid m (k .size) lk next (later (oldIn id (a .carries t)) (lastOld a id t)) u (n .0) (n .1)
+          (and-right (readyTo a hears id t) _ y) (k .turns id hid .rightly (and-left (readyTo a hears id t) _ y))
+      by absent z ok =
+          let n = k .words id hid .ended z in
+          right-gone a hears (suc t) now id hid m (k .size) lk next u _ _ _ _ u (k .next id hid) (n .0) (n .1)
+          (sym (ap (λ (v : Word). overChange v (readyTo a hears id t) a hears id t) z) ∙ ok)
+      by there z ok =
+          right-round a hears (suc t) now id hid m (k .size) lk next u (newRoundsTo a hears id t) (later (newIn id (a .carries t)) (lastNew a id t))
+          (cond (eqb (newIn id (a .carries t)) 0) (linksNew a id t) (linkOf (a .carries t))) (k .came id hid)
+          (sym (ap (λ (v : Word). overChange v (readyTo a hears id t) a hears id t) z) ∙ ok)
+
   pub near-change : change (timed a) (suc t) ≡ true → Before a hears (suc t) (changedFrom ids 0 u m) true
   unfolding lastOld lastNew newBefore goneBefore begun
   near-change c =
@@ -147,11 +285,21 @@ module _ (a : Air) (w : Orderly a) (hears : ℕ → Bool) (t : ℕ) (m : List �
         sure = λ id hid.
             subst (λ (x : ℕ). Sure (a .config x id) (a .config (suc x) id) (structureAt id 0 (changedFrom ids 0 u m)) (structureAt id 1 (changedFrom ids 0 u m))) (sym on)
             (sure-change u m (k .size) id hid _ _ _ (k .sure id hid));
+        wholly = sym (wholly-next true c);
+        turns = λ id hid. record {
+          rightly = λ e. subst (λ (x : ℕ). Right (a .config x id) (lastOld a id (suc t)) (structureAt id 0 (changedFrom ids 0 u m))) (sym on)
+              (right-change c id hid u refl (sym (ready-next id ∙ ap (λ (b : Bool). cond b (crossed id) (readyTo a hears id t)) c) ∙ e));
+          round = unbegun (rounds-next id ∙ ap (λ (b : Bool). cond b 0 (roundsTo a hears id t)) c);
+        };
+        came = λ id hid. none-came (new-next id ∙ ap (λ (b : Bool). cond b 0 (newRoundsTo a hears id t)) c);
       }
 
   -- ---- frames are missed
 
-  module _ (n : ℕ) (later-on : t < n) (gap : Gap hears t n) where
+  module _ (n : ℕ) (missed : suc t < n) (gap : Gap hears t n) where
+    later-on : t < n
+    later-on = omega (arith, missed)
+
     abbrev gaps : List ℕ
     gaps = eachFrom ids 0 spoiledBoth m
 
@@ -173,8 +321,15 @@ module _ (a : Air) (w : Orderly a) (hears : ℕ → Bool) (t : ℕ) (m : List �
         sure-as (sym (gap-structure m (k .size) id 0 hid (lit< tt))) (sym (gap-structure m (k .size) id 1 hid (lit< tt)))
         (sure-gap _ _ _ _ (structure-length m (k .size) id 0 hid (lit< tt)) (structure-length m (k .size) id 1 hid (lit< tt)) (k .sure id hid))
 
+    -- the frame before was missed
+    lost : Lost a hears n
+    lost = lost-at a hears t n missed gap (k .heard)
+
     no : {A : Type 0} → false ≡ true → A
     no z = absurd (subst T (sym z) tt)
+
+    lost-turns : (id : ℕ) {xs F : List ℕ} {due l : ℕ} → Turns (readyBefore a hears id n) (roundsBefore a hears id n) xs due l F
+    lost-turns id = record { rightly = λ z. no (sym (lost .ready id) ∙ z); round = unbegun (lost .rounds id) }
 
     pub far-same : epoch (timed a) n ≡ e → Before a hears n gaps false
     far-same on = record {
@@ -188,6 +343,9 @@ module _ (a : Air) (w : Orderly a) (hears : ℕ → Bool) (t : ℕ) (m : List �
           let g = goes n later-on gap id .before on in
           words-as (gap-words id hid) (sym (g .1)) (sym (g .0)) refl refl;
       sure = λ id hid. subst (λ (x : ℕ). Sure (a .config x id) (a .config (suc x) id) (structureAt id 0 gaps) (structureAt id 1 gaps)) (sym on) (gap-sure id hid);
+      wholly = sym (lost .wholly);
+      turns = λ id hid. lost-turns id;
+      came = λ id hid. none-came (lost .announced id);
     }
 
     far-both : (id : ℕ) → id < ids
@@ -211,6 +369,9 @@ module _ (a : Air) (w : Orderly a) (hears : ℕ → Bool) (t : ℕ) (m : List �
           sure = λ id hid.
               subst (λ (x : ℕ). Sure (a .config x id) (a .config (suc x) id) (structureAt id 0 (changedFrom ids 0 false gaps)) (structureAt id 1 (changedFrom ids 0 false gaps)))
               (sym on) (sure-change false gaps lg id hid _ _ _ (gap-sure id hid));
+          wholly = sym (lost .wholly);
+          turns = λ id hid. lost-turns id;
+          came = λ id hid. none-came (lost .announced id);
         }
 
 -- ---- nothing was heard before
@@ -268,6 +429,40 @@ unspoken a hears id (suc t) quiet = go (hears t) refl (unspoken a hears id t (λ
           ap (λ (b : Bool). cond b unheard (comingTo a hears id t)) q ∙ c,
         )
 
+-- before the first frame that is heard
+record First (a : Air) (hears : ℕ → Bool) (n : ℕ) : Type 0 where
+  wholly : whollyBefore a hears n ≡ change (timed a) n
+  ready : (id : ℕ) → readyBefore a hears id n ≡ not (broadcast.some (inForce a n id))
+  rounds : (id : ℕ) → roundsBefore a hears id n ≡ 0
+  announced : (id : ℕ) → newRoundsBefore a hears id n ≡ 0
+
+none-heard : (hears : ℕ → Bool) (n : ℕ) → ((v : ℕ) → v < n → hears v ≡ true → ⊥) → anyBefore hears n ≡ false
+unfolding anyBefore
+none-heard hears zero q = refl
+none-heard hears (suc n) q =
+    ap₂ (λ (x y : Bool). x || y) (off (hears n) refl) (none-heard hears n (λ v hv. q v (omega (arith, hv))))
+  where
+    off : (b : Bool) → hears n ≡ b → hears n ≡ false
+    off true e = absurd (q n (omega arith) e)
+    off false e = e
+
+first-at : (a : Air) (hears : ℕ → Bool) (n : ℕ) → ((v : ℕ) → v < n → hears v ≡ true → ⊥) → First a hears n
+unfolding whollyBefore readyBefore roundsBefore newRoundsBefore
+first-at a hears zero q = record { wholly = refl; ready = λ id. refl; rounds = λ id. refl; announced = λ id. refl }
+first-at a hears (suc n) q =
+    let off : hears n ≡ false = off-at (hears n) refl in
+    let any : anyBefore hears n ≡ false = none-heard hears n (λ v hv. q v (omega (arith, hv))) in
+    record {
+      wholly = λ i. cond (off i) (change (timed a) (suc n) || whollyBefore a hears n) (cond (any i) false (change (timed a) (suc n)));
+      ready = λ id. off-cond (heardReady a hears id n) (cond (anyBefore hears n) false (not (broadcast.some (inForce a (suc n) id)))) (hears n) off ∙ ap (λ (b : Bool). cond b false (not (broadcast.some (inForce a (suc n) id)))) any;
+      rounds = λ id. off-cond (cond (change (timed a) (suc n)) 0 (roundsTo a hears id n)) 0 (hears n) off;
+      announced = λ id. off-cond (cond (change (timed a) (suc n)) 0 (newRoundsTo a hears id n)) 0 (hears n) off;
+    }
+  where
+    off-at : (b : Bool) → hears n ≡ b → hears n ≡ false
+    off-at true e = absurd (q n (omega arith) e)
+    off-at false e = e
+
 pub first-before : (a : Air) (hears : ℕ → Bool) (t : ℕ) → ((v : ℕ) → v < t → hears v ≡ true → ⊥) → Before a hears t (blank mapSize) (change (timed a) t)
 first-before a hears t quiet = record {
   size = blank-length mapSize;
@@ -289,4 +484,10 @@ first-before a hears t quiet = record {
     front = λ c. absurd (omega (arith, eqb-true (headOf (structureAt id 0 (blank mapSize)) .certain) 1 (certainly-mark _ c), blank-certain id hid));
     next = λ h. absurd (omega (arith, h, blank-structure id 1 hid (lit< tt) .fields));
   };
+  wholly = sym (first-at a hears t quiet .wholly);
+  turns = λ id hid. record {
+    rightly = λ z. rounding.absent (none-is (inForce a t id) (sym (first-at a hears t quiet .ready id) ∙ z)) (blank-structure id 0 hid (lit< tt));
+    round = unbegun (first-at a hears t quiet .rounds id);
+  };
+  came = λ id hid. none-came (first-at a hears t quiet .announced id);
 }

@@ -285,7 +285,7 @@ same-is [] (y ∷ ys) e = clash (sym e)
 same-is (x ∷ xs) [] e = clash (sym e)
 same-is (x ∷ xs) (y ∷ ys) e = ap₂ (λ (v : ℕ) (vs : List ℕ). v ∷ vs) (eqb-true x y (and-left (eqb x y) _ e)) (same-is xs ys (and-right (eqb x y) _ e))
 
-none-is : (xs : List ℕ) → not (some xs) ≡ true → xs ≡ []
+pub none-is : (xs : List ℕ) → not (some xs) ≡ true → xs ≡ []
 unfolding some
 none-is [] e = refl
 none-is (x ∷ xs) e = clash (sym e)

@@ -234,10 +234,10 @@ module _ (a : Air) (w : Orderly a) (hears : ℕ → Bool) (T g : ℕ) (pos : 0 <
       go : skips (framesOf m) c ≡ true → (epoch (timed a) t ≡ epoch (timed a) T) ⊎ (epoch (timed a) t ≡ suc (epoch (timed a) T))
           → Known a hears t (takeAfter m (fieldBytes (fieldOn a t))) false
       go s (inl e) =
-          take-known a w hears t m not-refused heard _ false (far-same a w hears T m u k t (omega arith) gap e)
+          take-known a w hears t m not-refused heard _ false (far-same a w hears T m u k t (omega (arith, h)) gap e)
           (up-to false true false (changing-is ∙ le-ltb (epoch (timed a) T) (epoch (timed a) t) (omega (arith, e))) s (sure-far s)) fresh (frames-far h s)
       go s (inr e) =
-          take-known a w hears t m not-refused heard _ false (far-change a w hears T m u k t (omega arith) gap e)
+          take-known a w hears t m not-refused heard _ false (far-change a w hears T m u k t (omega (arith, h)) gap e)
           (up-to true true false (changing-is ∙ lt-ltb (epoch (timed a) T) (epoch (timed a) t) (omega (arith, e))) s (sure-far s)) fresh (frames-far h s)
 
   near : g ≡ 1 → t ≡ suc T → Known a hears t (takeAfter m (fieldBytes (fieldOn a t))) (cond (change (timed a) t) true u)

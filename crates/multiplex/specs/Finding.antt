@@ -62,10 +62,10 @@ news a id t = ltb 0 (newTo a id t) || goneTo a id t
 
 -- over a change at the end of a configuration of which frames were missed: where nothing was heard of the component's change, it must be
 -- right before and stay as it is; where all ones were, it must be gone; where fields were, they must have come round
-unfoldable pub over : Word → Bool → Air → (ℕ → Bool) → ℕ → ℕ → Bool
-over unheard ready a hears id t = ready && same (inForce a t id) (coming a t id)
-over absent ready a hears id t = not (some (coming a t id))
-over there ready a hears id t = leb 2 (newRoundsTo a hears id t)
+unfoldable pub overChange : Word → Bool → Air → (ℕ → Bool) → ℕ → ℕ → Bool
+overChange unheard ready a hears id t = ready && same (inForce a t id) (coming a t id)
+overChange absent ready a hears id t = not (some (coming a t id))
+overChange there ready a hears id t = leb 2 (newRoundsTo a hears id t)
 
 -- A start finds nothing, which is right of a component that there is not. From then on: it stays right from frame to frame; at a change behind a
 -- configuration that was wholly heard, it is right if it was so before or the change was announced; and from the third beginning of a
@@ -75,7 +75,7 @@ readyBefore a hears id zero = not (some (inForce a zero id))
 readyBefore a hears id (suc t) =
     let ready = readyBefore a hears id t || leb 3 (roundsTo a hears id t) in
     cond (hears t)
-    (cond (change (timed a) (suc t)) (cond (whollyBefore a hears t) (ready || news a id t) (over (comingTo a hears id t) ready a hears id t)) ready)
+    (cond (change (timed a) (suc t)) (cond (whollyBefore a hears t) (ready || news a id t) (overChange (comingTo a hears id t) ready a hears id t)) ready)
     (cond (anyBefore hears t) false (not (some (inForce a (suc t) id))))
 
 abbrev pub readyTo : Air → (ℕ → Bool) → ℕ → ℕ → Bool
@@ -106,7 +106,7 @@ pub record Followed (a : Air) : Type 0 where
   pub orderly : Orderly a
   pub empty : (id : ℕ) → a .config 0 id ≡ []
   pub round : (t id : ℕ) → id < ids → change (timed a) (suc t) ≡ true → begun (timed a) t ≡ false
-      → over (comingTo a every id t) true a every id t ≡ true
+      → overChange (comingTo a every id t) true a every id t ≡ true
 
 pub record ShowsInForce (M : Machine) : Type 0 where
   pub taken : (a : Air) → Followed a → (t : ℕ) → M .answer (kept M a every t) (fieldBytes (fieldOn a t)) ≡ 0

@@ -3,6 +3,7 @@
 use super::field::Field;
 use super::structure::{mark, Component, Structure, COMPONENT, HEAD, STRUCTURE};
 use crate::numbers::{refuse_unless, DONE, LENGTH, NOT_GOOD, TOO_MANY, UNFINISHED};
+use std::borrow::Cow;
 
 /// Components that a map has room for, one for each TDMCID, and its bytes.
 pub const IDS: usize = 256;
@@ -178,16 +179,16 @@ impl Map {
     }
 
     /// The structure of a component that is in force in the frame of a count, and where its fields stand.
-    fn then(&self, id: u8, count: u8) -> (Structure, usize) {
+    fn then(&self, id: u8, count: u8) -> (Cow<'_, Structure>, usize) {
         let component = &self.components[usize::from(id)];
         let place = COMPONENT * usize::from(id) + HEAD;
         if !component.is_announced() || !self.changing(count) {
-            return (component.in_force.clone(), place);
+            return (Cow::Borrowed(&component.in_force), place);
         }
         // Something more could be announced in the frames between, but for the last.
         let all_heard = self.unbroken && self.to_change() == 1;
         let structure = component.announced.behind_change(all_heard);
-        (structure, place + STRUCTURE)
+        (Cow::Owned(structure), place + STRUCTURE)
     }
 
     /// In how many frames behind the last one the next change comes.

@@ -14,7 +14,7 @@
 //! list that is not whole is of the structure; and list and known say what show says.
 
 use crate::story::{Past, Story};
-use second::map::{known, list, start, take, Map, Shown, IDS, MAP, PANNING};
+use second::map::{known, list, start, take, Heard, Map, Shown, IDS, MAP, PANNING};
 use second::numbers::{DONE, UNFINISHED};
 use second::samples::broadcast::{Frame, Sent};
 use second::samples::style::Links;
@@ -226,16 +226,22 @@ impl Laws {
         seen.unfinished += usize::from(it.number == UNFINISHED);
         seen.gone += usize::from(held && gone);
         seen.unknown += usize::from(it.unknown);
-        self.check_heard(values, frame, id, ahead, seen);
+        let heard = values.heard_of(id, count);
+        self.check_heard(frame, id, ahead, (it, heard), seen);
     }
 
     /// What was heard: of a whole list what is shown, and of another some fields of the structure.
-    fn check_heard(&self, values: &Map, frame: &Frame, id: u8, ahead: u8, seen: &mut Seen) {
-        let story = &self.stories[usize::from(id)];
-        let count = frame.count.wrapping_add(ahead);
-        let (it, shown) = (values.heard_of(id, count), values.show(id, count));
+    fn check_heard(
+        &self,
+        frame: &Frame,
+        id: u8,
+        ahead: u8,
+        (shown, it): (Shown, Heard),
+        seen: &mut Seen,
+    ) {
+        let announced = self.stories[usize::from(id)].announced;
         let fields = self.listed(it.at, it.length);
-        let structure = truth(frame, id, if story.announced { ahead } else { 0 });
+        let structure = truth(frame, id, if announced { ahead } else { 0 });
         let good = match it.whole {
             true => it.length > 0 && (it.at, it.length) == (shown.at, shown.length),
             false => shown.length == 0 && fields.iter().all(|it| structure.contains(it)),

@@ -7,8 +7,8 @@ use second::samples::style::Style;
 use second::xorshift::Xorshift;
 use std::collections::BTreeMap;
 
-/// A little more than four wraps of the count, of which up to two pass before the first frame is heard.
-const FRAMES: usize = 4 * 256 + 9;
+/// A little more than six wraps of the count, of which up to two pass before the first frame is heard.
+const FRAMES: usize = 6 * 256 + 9;
 /// Components at most: few come round often, and 128 are a full multiplex.
 const MOST: [usize; 8] = [1, 1, 2, 3, 5, 20, 128, 128];
 
