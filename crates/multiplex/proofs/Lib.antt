@@ -10,5 +10,6 @@ pub mod Seeing
 pub mod Asked
 pub mod Accepting
 pub mod Telling
+pub mod Finding
 pub mod Certain
 pub mod Keeping

@@ -278,7 +278,7 @@ module _ (zs : List ℕ) (k : Linked zs) (i : ℕ) (hi : i < length zs) (l : ℕ
 
 -- ---- a change
 
-same-is : (xs ys : List ℕ) → same xs ys ≡ true → xs ≡ ys
+pub same-is : (xs ys : List ℕ) → same xs ys ≡ true → xs ≡ ys
 unfolding same
 same-is [] [] e = refl
 same-is [] (y ∷ ys) e = clash (sym e)

@@ -52,9 +52,10 @@ pub struct Seen {
     pub broken: Vec<Broken>,
 }
 
-/// A map, and all that is known of what it heard.
+/// A map, as bytes and as values, and all that is known of what it heard.
 pub struct Laws {
     map: Vec<u8>,
+    values: Map,
     reading: Reading,
     links: Links,
     stories: Vec<Story>,
@@ -66,6 +67,7 @@ impl Laws {
         let mut map = vec![0xA5; MAP];
         assert_eq!(start(&mut map), DONE);
         Laws {
+            values: Map::decode(&map).expect("a good map"),
             map,
             reading,
             links,
@@ -93,8 +95,9 @@ impl Laws {
     pub fn hear(&mut self, frame: &Frame, seen: &mut Seen) {
         self.change(frame);
         let about = about(frame.sent);
-        let whole = self.values().show(about, frame.count).length > 0;
+        let whole = self.values.show(about, frame.count).length > 0;
         let number = take(&mut self.map, &frame.field);
+        self.values = Map::decode(&self.map).expect("a good map");
         if number != DONE {
             seen.broken.push(("F", about, number.to_string()));
         }
@@ -113,44 +116,40 @@ impl Laws {
         }
     }
 
-    fn values(&self) -> Map {
-        Map::decode(&self.map).expect("a good map")
-    }
-
     /// Notes what is shown rightly in a frame that has passed.
     fn look_back(&mut self, frame: &Frame) {
-        let values = self.values();
         for id in 0..=255 {
-            let shown = values.show(id, frame.count);
+            let shown = self.values.show(id, frame.count);
             let right = self.is_right(&shown, truth(frame, id, 0));
             self.stories[usize::from(id)].right = right;
         }
     }
 
     fn check(&self, frame: &Frame, seen: &mut Seen) {
-        let values = self.values();
         for id in 0..=255 {
-            self.check_now(&values, frame, id, seen);
+            self.check_now(frame, id, seen);
             let any = id.wrapping_mul(31).wrapping_add(frame.count) % 129;
             let change = frame.to_change;
             for ahead in [0, 1, change - 1, change, 128, any] {
-                self.check_ahead(&values, frame, id, ahead, seen);
+                self.check_ahead(frame, id, ahead, seen);
             }
         }
         for ahead in 0..=128 {
-            self.check_ahead(&values, frame, about(frame.sent), ahead, seen);
+            self.check_ahead(frame, about(frame.sent), ahead, seen);
         }
-        self.check_calls(&values, frame, seen);
-        let there = values.components.iter().map(|it| &it.in_force);
+        if frame.count % 4 == 0 {
+            self.check_calls(frame, seen);
+        }
+        let there = self.values.components.iter().map(|it| &it.in_force);
         let certain = there.filter(|it| it.is_certainly_there()).count();
         seen.certain = seen.certain.max(certain);
     }
 
     /// B to E, in the frame that was heard; and E in the next.
-    fn check_now(&self, values: &Map, frame: &Frame, id: u8, seen: &mut Seen) {
+    fn check_now(&self, frame: &Frame, id: u8, seen: &mut Seen) {
         let story = &self.stories[usize::from(id)];
         let (here, there) = (truth(frame, id, 0), truth(frame, id, 1));
-        let next = values.show(id, frame.count.wrapping_add(1));
+        let next = self.values.show(id, frame.count.wrapping_add(1));
         let ends = frame.to_change == 1 && self.is_heard(false);
         if ends && story.announced && there.len() <= 8 && !self.is_right(&next, there) {
             seen.broken.push(("E", id, format!("ahead, {next:?}")));
@@ -164,8 +163,10 @@ impl Laws {
             ("D", kept && frame.first, &mut seen.kept_over_change),
             ("E", story.told && self.is_heard(true), &mut seen.announced),
         ];
-        let last = values.show(id, frame.count.wrapping_add(frame.to_change - 1));
-        let now = values.show(id, frame.count);
+        let last = self
+            .values
+            .show(id, frame.count.wrapping_add(frame.to_change - 1));
+        let now = self.values.show(id, frame.count);
         let right = self.is_right(&now, here) && self.is_right(&last, here);
         for (law, holds, count) in laws {
             let holds = holds && here.len() <= 8;
@@ -198,11 +199,11 @@ impl Laws {
     }
 
     /// A and G, in a frame so far ahead.
-    fn check_ahead(&self, values: &Map, frame: &Frame, id: u8, ahead: u8, seen: &mut Seen) {
+    fn check_ahead(&self, frame: &Frame, id: u8, ahead: u8, seen: &mut Seen) {
         let story = &self.stories[usize::from(id)];
         let behind = ahead >= frame.to_change;
         let (count, here) = (frame.count.wrapping_add(ahead), truth(frame, id, ahead));
-        let it = values.show(id, count);
+        let it = self.values.show(id, count);
         let fields = self.listed(it.at, it.length);
         if it.length > 0 && !story.may_be(behind, here, &fields) {
             seen.broken.push(("A", id, format!("{fields:x?} {ahead}")));
@@ -226,7 +227,7 @@ impl Laws {
         seen.unfinished += usize::from(it.number == UNFINISHED);
         seen.gone += usize::from(held && gone);
         seen.unknown += usize::from(it.unknown);
-        let heard = values.heard_of(id, count);
+        let heard = self.values.heard_of(id, count);
         self.check_heard(frame, id, ahead, (it, heard), seen);
     }
 
@@ -254,12 +255,12 @@ impl Laws {
     }
 
     /// List and known say what show says of all.
-    fn check_calls(&self, values: &Map, frame: &Frame, seen: &mut Seen) {
+    fn check_calls(&self, frame: &Frame, seen: &mut Seen) {
         let count = frame.count.wrapping_add(frame.field[3] % 129);
         let mut marks = [0xA5; IDS];
         assert_eq!(list(&self.map, count, &mut marks), DONE);
         for (id, mark) in (0..=255).zip(marks) {
-            let it = values.show(id, count);
+            let it = self.values.show(id, count);
             let expected = match (it.number, it.length, it.unknown) {
                 (UNFINISHED, _, _) => 2,
                 (_, 0, true) => 3,
