@@ -13,6 +13,7 @@ use mathlib.Core.Bool.{Bool, true, false, cond, _||_}
 use mathlib.Core.List.{List, [], _∷_}
 use Prim.Native.Nat.{ℕ, zero, suc, _+_, _<_}
 use native.Mathlib.Omega.{arith}
+use borrow.Author.Tests.{ne-eqb}
 use lib.Dec.{T, eqb, lit<}
 use lib.ListN.{length, getD}
 use Rattle.bits.specs.Bits.{bitsOf, number, sent, taken}
@@ -24,8 +25,8 @@ use Rattle.multiplex.specs.Empty.{seven, together, held, surely, stubbor
 use Rattle.multiplex.specs.Air.{Carries, old, gone, Air, timed, inForce, coming, carriedAs, fieldOn, newIn, oldIn, goneIn, turn, later, same, lastOld, newBefore, newTo, goneBefore, goneTo, InTurn, Said, nothing, Orderly}
 use Rattle.multiplex.specs.Sound.{kept, lists, denies, Undenied, Whole, NeverWrong}
 use Rattle.multiplex.proofs.Distances.{epoch-mono}
-use Rattle.multiplex.proofs.Keeping.{none-linked, one-linked, fitting}
-use Rattle.multiplex.proofs.Unsure.{every, takes, place, moving, place-linked, later-on, rises}
+use Rattle.multiplex.proofs.Keeping.{none-linked, one-linked, fitting, few-seven}
+use Rattle.multiplex.proofs.Unsure.{every, takes, place, moving, place-linked, none-there, later-on, rises}
 
 -- ---- changes of which nothing is said
 
@@ -108,8 +109,9 @@ pub unannounced-orderly : Orderly unannounced
 unfolding unannounced moving InTurn turn newIn goneIn change countAt
 unannounced-orderly = record {
   linked = λ j id hid. place-linked j id;
+  few = λ j. few-seven (moving .config j) (λ id e. none-there id e j);
   vectors = λ j. refl;
-  turns = λ t. (lit< tt, (lit< tt, (lit< tt, λ k e. sym (ap (λ (n : ℕ). cond (eqb (suc n) 1) 0 (suc n)) (last-one t k e)))));
+  turns = λ t. (lit< tt, (lit< tt, (lit< tt, λ k e. (sym (ap (λ (n : ℕ). cond (eqb (suc n) 1) 0 (suc n)) (last-one t k e)), λ z. absurd (omega (arith, z))))));
   said = λ t id hid c b. unsaid unannounced id (λ v. (refl, refl)) t (stays (epoch (timed unannounced) t) id (not-first unannounced refl t b));
 }
 
@@ -158,6 +160,11 @@ once-linked zero id = go (eqb id 7)
     go false = none-linked
 once-linked (suc j) id = none-linked
 
+none-else : (j id : ℕ) → (id ≡ 7 → ⊥) → once j id ≡ []
+unfolding once
+none-else zero id e = ap (λ (b : Bool). cond b (one ∷ []) []) (ne-eqb id 7 e)
+none-else (suc j) id e = refl
+
 none-left : (j id : ℕ) → 0 < j → once j id ≡ []
 unfolding once
 none-left zero id h = absurd (omega arith)
@@ -174,12 +181,12 @@ second-on t = omega (arith, in-2, epoch-mono (timed removed) 2 (suc (suc t)) (om
 ending-turns : (t : ℕ) → InTurn removed t (ending t)
 unfolding removed once ending InTurn turn lastOld oldIn later same epoch change countAt tdmsOf badTdms badPair fln1 lln1 fln2 lln2 fcp lcp deletes
 ending-turns zero = (lit< tt, (lit< tt, (lit< tt, λ k e. absurd (omega (arith, e)))))
-ending-turns (suc zero) = (lit< tt, (lit< tt, (lit< tt, λ k e. first k (omega (arith, e)))))
+ending-turns (suc zero) = (lit< tt, (lit< tt, (lit< tt, λ k e. (first k (omega (arith, e)), λ z. absurd (omega (arith, z))))))
   where
     first : (k : ℕ) → k ≡ 0 → 0 ≡ cond (eqb (suc k) 1) 0 (suc k)
     first k e = sym (ap (λ (n : ℕ). cond (eqb (suc n) 1) 0 (suc n)) e)
 ending-turns (suc (suc t)) =
-    (lit< tt, (λ e. omega (arith, e), (none-left _ 7 (second-on t), (refl, (refl, record { flags = lit< tt; width = lit< tt; links = lit< tt })))))
+    (lit< tt, (λ e. omega (arith, e), ((λ z. none-left _ 7 (second-on t)), ((λ z. absurd (omega (arith, z))), (refl, (refl, record { flags = lit< tt; width = lit< tt; links = lit< tt }))))))
 
 silent : (id t : ℕ) → (newIn id (removed .carries t) ≡ 0) × (goneIn id (removed .carries t) ≡ false)
 unfolding removed ending newIn goneIn
@@ -191,6 +198,7 @@ pub removed-orderly : Orderly removed
 unfolding removed once change countAt
 removed-orderly = record {
   linked = λ j id hid. once-linked j id;
+  few = λ j. few-seven (once j) (none-else j);
   vectors = none-vectors;
   turns = ending-turns;
   said = λ t id hid c b. unsaid removed id (silent id) t (sym (none-left (epoch (timed removed) t) id (not-first removed refl t b)));

@@ -10,15 +10,15 @@ use mathlib.Core.List.{List, [], _∷_}
 use Prim.Native.Nat.{ℕ, zero, suc, _+_, _/_, _%_, _^_, _≤_, _<_}
 use native.Mathlib.Omega.{arith}
 use native.Mathlib.Decide.{ℕ-discrete}
-use borrow.Author.Tests.{eq-eqb}
+use borrow.Author.Tests.{eq-eqb, ne-eqb}
 use lib.Dec.{eqb, lit<}
 use lib.ListN.{length}
 use Rattle.field.specs.Field.{tdmsOf, fln1, lln1, fln2, lln2, fcp, lcp, badPair, badTdms, deletes, key}
 use Rattle.map.specs.Map.{ids}
 use Rattle.multiplex.specs.Broadcast.{change, Linked}
 use Rattle.multiplex.specs.Example.{one, two}
-use Rattle.multiplex.specs.Air.{Carries, old, Air, timed, newIn, oldIn, goneIn, turn, later, same, lastOld, newBefore, newTo, goneBefore, goneTo, InTurn, nothing, Orderly}
-use Rattle.multiplex.proofs.Keeping.{none-linked, two-linked, fitting}
+use Rattle.multiplex.specs.Air.{Carries, old, Air, timed, newIn, oldIn, goneIn, turn, later, same, lastOld, newBefore, newTo, goneBefore, goneTo, linkOf, linksOld, InTurn, nothing, Orderly}
+use Rattle.multiplex.proofs.Keeping.{none-linked, two-linked, fitting, few-seven}
 
 unfoldable pub lists : ℕ → List ℕ
 lists id = cond (eqb id 7) (one ∷ two ∷ []) []
@@ -58,6 +58,16 @@ in-turn (suc t) k e = go (ℕ-discrete (t % 2) 1) (sym (last-is t) ∙ e)
         let here : suc t % 2 ≡ 1 = omega (arith, q) in
         here ∙ sym (ap (λ (n : ℕ). cond (eqb n 2) 0 n) none-k)
 
+-- the second field has the first one's LINKS
+links-stay : (t k : ℕ) → lastOld steady 7 t ≡ suc k → t % 2 ≡ suc k → t / 2 % 2 ≡ linksOld steady 7 t
+unfolding lastOld linksOld steady oldIn linkOf
+links-stay zero k e z = absurd (omega (arith, e))
+links-stay (suc t) k e z =
+    let odd : t % 2 ≡ 0 = omega (arith, z) in
+    let half : suc t / 2 ≡ t / 2 = omega (arith, odd) in
+    ap (λ (n : ℕ). n % 2) half
+    ∙ sym (ap (λ (b : Bool). cond b (linksOld steady 7 t) (t / 2 % 2)) (ne-eqb (suc (t % 2)) 0 (λ q. absurd (omega (arith, q)))))
+
 none-new : (id t : ℕ) → newBefore steady id t ≡ 0
 unfolding newBefore steady newIn
 none-new id zero = refl
@@ -80,7 +90,8 @@ pub steady-orderly : Orderly steady
 unfolding steady lists InTurn newIn goneIn
 steady-orderly = record {
   linked = λ j id hid. lists-linked id;
+  few = λ j. few-seven lists (λ id e. ap (λ (b : Bool). cond b (one ∷ two ∷ []) []) (ne-eqb id 7 e));
   vectors = λ j. refl;
-  turns = λ t. (lit< tt, (omega arith, (omega arith, in-turn t)));
+  turns = λ t. (lit< tt, (omega arith, (omega arith, λ k e. (in-turn t k e, links-stay t k e))));
   said = λ t id hid c b. nothing (ap (λ (n : ℕ). n + 0) (none-new id t)) (ap (λ (x : Bool). x || false) (none-gone id t)) refl;
 }

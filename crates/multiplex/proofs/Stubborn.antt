@@ -54,7 +54,7 @@ unfolding seven carriedAs InTurn
 seven-old a t (new k i l) law e = clash e
 seven-old a t (old k i l) law e = record { place = i; links = l; is = ap (λ (x : ℕ). old x i l) (eqb-true k 7 (and-left (eqb k 7) _ e)) }
 seven-old a t (gone flag k tdms l) law e =
-    clash (sym (ap not (law .1 .1 .1 .0)) ∙ and-right (eqb k 7) _ (and-right (eqb flag 0) _ e))
+    clash (sym (ap not (law .1 .1 .1 .1 .0)) ∙ and-right (eqb k 7) _ (and-right (eqb flag 0) _ e))
 seven-old a t (vectors flag tdms l) law e = clash (and-right (eqb flag 0) _ e)
 
 counted : (a : Air) (t : ℕ) (c : Carries) → carriedAs a t c .count ≡ countAt (timed a) t
@@ -99,7 +99,7 @@ module _ (a : Air) (w : Orderly a) (t i l j m : ℕ) (this : a .carries t ≡ ol
 
   in-turn : j ≡ turn (length xs) i
   unfolding InTurn
-  in-turn = subst (InTurn a (suc t)) next (w .turns (suc t)) .1 .1 .1 i last ∙ ap (λ (ys : List ℕ). turn (length ys) i) held-on
+  in-turn = subst (InTurn a (suc t)) next (w .turns (suc t)) .1 .1 .1 i last .0 ∙ ap (λ (ys : List ℕ). turn (length ys) i) held-on
 
   same-key : (n : ℕ) → j ≡ n → key (getD xs n 0) ≡ key (getD xs i 0)
   same-key n e = ap key (sym (ap₂ (λ (ys : List ℕ) (x : ℕ). getD ys x 0) held-on e) ∙ alike)

@@ -22,7 +22,7 @@ use Rattle.multiplex.specs.Empty.{deaf, hasty, clinging}
 use Rattle.multiplex.specs.Heard.{Machine}
 use Rattle.multiplex.specs.Air.{new, Air, timed, newIn, goneIn, turn, later, lastNew, newBefore, newTo, goneBefore, goneTo, InTurn, Said, nothing, described, Orderly}
 use Rattle.multiplex.specs.Sound.{kept, missedBefore, announces, Quiet, Listener, there, over, presentIn, comingIn, comingBefore, presentBefore, wordFor, NeverWrong}
-use Rattle.multiplex.proofs.Keeping.{none-linked, one-linked, fitting}
+use Rattle.multiplex.proofs.Keeping.{none-linked, one-linked, fitting, few-seven}
 use Rattle.multiplex.proofs.Steady.{lists, steady, steady-orderly}
 
 -- every frame is heard
@@ -115,7 +115,7 @@ module _ (id : ℕ) (other : id ≡ 7 → ⊥) where
       go true e = refl
       go false e = ap₂ (λ (x y : ℕ). x + cond (eqb y 0) 0 1) e (unsaid t)
 
-  none-there : (j : ℕ) → moving .config j id ≡ []
+  pub none-there : (j : ℕ) → moving .config j id ≡ []
   unfolding moving
   none-there j = ap (λ (b : Bool). cond b (place j ∷ []) []) (ne-eqb id 7 other)
 
@@ -148,6 +148,7 @@ pub moving-orderly : Orderly moving
 unfolding moving InTurn turn
 moving-orderly = record {
   linked = λ j id hid. place-linked j id;
+  few = λ j. few-seven (moving .config j) (λ id e. none-there id e j);
   vectors = λ j. refl;
   turns = λ t. (lit< tt, (lit< tt, (lit< tt, ((λ k e. (sym (ap (λ (n : ℕ). cond (eqb (suc n) 1) 0 (suc n)) (last-one t k e)), λ z. absurd (omega (arith, z)))), (λ e b. refl)))));
   said = λ t id hid c b. told-all t id;
