@@ -60,7 +60,7 @@ module _ (a : Air) (id : ℕ) (silent : (t : ℕ) → (newIn id (a .carries t) �
       go true e = refl
       go false e = ap₂ (λ (x y : Bool). x || y) e (silent t .1)
 
-  unsaid : (t : ℕ) → coming a t id ≡ inForce a t id → Said a t id
+  pub unsaid : (t : ℕ) → coming a t id ≡ inForce a t id → Said a t id
   unsaid t e = nothing (ap₂ (λ (x y : ℕ). x + cond (eqb y 0) 0 1) (none-new t) (silent t .0)) (ap₂ (λ (x y : Bool). x || y) (none-gone t) (silent t .1)) e
 
 takes-all : (m f : List ℕ) → stubborn .answer m f ≡ 0

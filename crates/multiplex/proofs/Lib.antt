@@ -13,3 +13,4 @@ pub mod Steady
 pub mod Unsure
 pub mod Denied
 pub mod Stubborn
+pub mod Examples
