@@ -14,3 +14,4 @@ pub mod Unsure
 pub mod Denied
 pub mod Stubborn
 pub mod Examples
+pub mod Refuting
