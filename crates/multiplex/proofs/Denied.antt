@@ -31,7 +31,7 @@ use Rattle.multiplex.proofs.Unsure.{every, takes, place, moving, place-
 -- ---- changes of which nothing is said
 
 -- where no configuration begins with frame 0, one that began in frame 0 or later is not the first
-not-first : (a : Air) → change (timed a) 0 ≡ false → (t : ℕ) → begun (timed a) t ≡ true → 0 < epoch (timed a) t
+pub not-first : (a : Air) → change (timed a) 0 ≡ false → (t : ℕ) → begun (timed a) t ≡ true → 0 < epoch (timed a) t
 unfolding begun epoch
 not-first a c zero b = absurd (subst T (sym b ∙ c) tt)
 not-first a c (suc t) b = go (change (timed a) (suc t)) b (not-first a c t)

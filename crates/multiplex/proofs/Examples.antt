@@ -61,7 +61,7 @@ past [] t h = refl
 past (c ∷ cs) zero h = absurd (omega arith)
 past (c ∷ cs) (suc t) h = past cs t (omega arith)
 
-told-before : (t : ℕ) → 9 ≤ t → t < 133 → told t ≡ vectors 0 0 0
+told-before : (t : ℕ) → 10 ≤ t → t < 133 → told t ≡ vectors 0 0 0
 unfolding told
 told-before t l h = ap (λ (b : Bool). cond b (pick script t) (gone 1 7 ones 0)) (lt-ltb t 133 h) ∙ past script t l
 
@@ -91,7 +91,7 @@ none-new = from-on 133 (λ t. newBefore example 7 t ≡ 0) refl next
 
 -- ---- every frame carries what is in turn
 
-script-turns : (t : ℕ) → t < 9 → InTurn example t (told t)
+script-turns : (t : ℕ) → t < 10 → InTurn example t (told t)
 unfolding example structures told pick InTurn turn lastOld lastNew linksOld linksNew oldIn newIn linkOf later same epoch change countAt tdmsOf
 script-turns zero h = (lit< tt, (lit< tt, (lit< tt, ((λ k e. absurd (omega (arith, e))), λ e b. refl))))
 script-turns (suc zero) h = (lit< tt, (lit< tt, (lit< tt, (in-place 0 2 1 0 0 refl (λ e. refl), λ e b. absurd (omega (arith, e))))))
@@ -104,7 +104,9 @@ script-turns (suc (suc (suc (suc (suc (suc zero)))))) h = (lit< tt, (lit< tt, (l
 script-turns (suc (suc (suc (suc (suc (suc (suc zero))))))) h = (lit< tt, (lit< tt, (lit< tt, in-place 0 2 1 0 0 refl (λ e. refl))))
 script-turns (suc (suc (suc (suc (suc (suc (suc (suc zero)))))))) h =
     (lit< tt, (lit< tt, (lit< tt, (in-place 0 2 1 0 0 refl (λ e. refl), λ e b. absurd (omega (arith, e))))))
-script-turns (suc (suc (suc (suc (suc (suc (suc (suc (suc t))))))))) h = absurd (omega arith)
+script-turns (suc (suc (suc (suc (suc (suc (suc (suc (suc zero))))))))) h =
+    (lit< tt, (lit< tt, (lit< tt, in-place 1 2 0 1 0 refl (λ e. absurd (omega (arith, e))))))
+script-turns (suc (suc (suc (suc (suc (suc (suc (suc (suc (suc t)))))))))) h = absurd (omega arith)
 
 vectors-turn : (t : ℕ) → InTurn example t (vectors 0 0 0)
 unfolding InTurn
@@ -116,9 +118,9 @@ gone-turn t h =
     (lit< tt, (λ e. omega (arith, e), ((λ z. absurd (omega (arith, z))), ((λ z. none-new t h), (refl, (refl, record { flags = lit< tt; width = lit< tt; links = lit< tt }))))))
 
 example-turns : (t : ℕ) → InTurn example t (told t)
-example-turns t = go (decLt t 9) (decLt t 133)
+example-turns t = go (decLt t 10) (decLt t 133)
   where
-    go : Dec (t < 9) → Dec (t < 133) → InTurn example t (told t)
+    go : Dec (t < 10) → Dec (t < 133) → InTurn example t (told t)
     go (yes a) b = script-turns t a
     go (no a) (yes b) = subst (InTurn example t) (sym (told-before t (omega (arith, a)) b)) (vectors-turn t)
     go (no a) (no b) = subst (InTurn example t) (sym (told-on t (omega (arith, b)))) (gone-turn t (omega (arith, b)))
@@ -163,7 +165,7 @@ module _ (id : ℕ) (e : id ≡ 7 → ⊥) where
   away : eqb 7 id ≡ false
   away = ne-eqb 7 id (λ z. e (sym z))
 
-  script-silent : (t : ℕ) → t < 9 → (newIn id (told t) ≡ 0) × (goneIn id (told t) ≡ false)
+  script-silent : (t : ℕ) → t < 10 → (newIn id (told t) ≡ 0) × (goneIn id (told t) ≡ false)
   unfolding told pick newIn goneIn tdmsOf
   script-silent zero h = (ap (λ (b : Bool). cond b 1 0) away, refl)
   script-silent (suc zero) h = (ap (λ (b : Bool). cond b 2 0) away, refl)
@@ -174,13 +176,14 @@ module _ (id : ℕ) (e : id ≡ 7 → ⊥) where
   script-silent (suc (suc (suc (suc (suc (suc zero)))))) h = (ap (λ (b : Bool). cond b 1 0) away, refl)
   script-silent (suc (suc (suc (suc (suc (suc (suc zero))))))) h = (refl, refl)
   script-silent (suc (suc (suc (suc (suc (suc (suc (suc zero)))))))) h = (ap (λ (b : Bool). cond b 2 0) away, refl)
-  script-silent (suc (suc (suc (suc (suc (suc (suc (suc (suc t))))))))) h = absurd (omega arith)
+  script-silent (suc (suc (suc (suc (suc (suc (suc (suc (suc zero))))))))) h = (refl, refl)
+  script-silent (suc (suc (suc (suc (suc (suc (suc (suc (suc (suc t)))))))))) h = absurd (omega arith)
 
   silent : (t : ℕ) → (newIn id (told t) ≡ 0) × (goneIn id (told t) ≡ false)
   unfolding newIn goneIn
-  silent t = go (decLt t 9) (decLt t 133)
+  silent t = go (decLt t 10) (decLt t 133)
     where
-      go : Dec (t < 9) → Dec (t < 133) → (newIn id (told t) ≡ 0) × (goneIn id (told t) ≡ false)
+      go : Dec (t < 10) → Dec (t < 133) → (newIn id (told t) ≡ 0) × (goneIn id (told t) ≡ false)
       go (yes a) b = script-silent t a
       go (no a) (yes b) =
           let is = told-before t (omega (arith, a)) b in

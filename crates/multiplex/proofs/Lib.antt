@@ -15,3 +15,4 @@ pub mod Denied
 pub mod Stubborn
 pub mod Examples
 pub mod Refuting
+pub mod Faults

@@ -6,7 +6,7 @@
 --   configuration 2    component 7 with another second field
 --   from 3 on          nothing: component 7 is deleted
 --
---   script             what the first nine frames carry: the structure of configuration 1, twice; behind its change that structure's own fields
+--   script             what the first ten frames carry: the structure of configuration 1, twice; behind its change that structure's own fields
 --                      and those of configuration 2, by turns. Panning vectors from then on
 --   told               the same, and from frame 133 on that component 7 is to be deleted
 use mathlib.Core.Bool.{cond}
@@ -49,7 +49,7 @@ pick (c ∷ cs) (suc t) = pick cs t
 abbrev pub script : List Carries
 script =
     new 7 0 0 ∷ new 7 1 0 ∷ new 7 0 1 ∷ new 7 1 1 ∷ vectors 0 0 0
-    ∷ old 7 0 0 ∷ new 7 0 0 ∷ old 7 1 0 ∷ new 7 1 0 ∷ []
+    ∷ old 7 0 0 ∷ new 7 0 0 ∷ old 7 1 0 ∷ new 7 1 0 ∷ old 7 0 1 ∷ []
 
 unfoldable pub told : ℕ → Carries
 told t = cond (ltb t 133) (pick script t) (gone 1 7 none 0)
