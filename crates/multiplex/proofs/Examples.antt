@@ -12,15 +12,14 @@ use mathlib.Core.List.{List, [], _∷_}
 use Prim.Native.Nat.{ℕ, zero, suc, _+_, _%_, _≤_, _<_}
 use native.Mathlib.Omega.{arith}
 use native.Mathlib.Decide.{ℕ-discrete, decLt}
-use borrow.Author.Tests.{eq-eqb, ne-eqb, eqb-true, lt-ltb, le-ltb}
-use lib.Dec.{T, ltb, leb, eqb, lit<, lit≤}
+use borrow.Author.Tests.{ne-eqb, eqb-true, lt-ltb, le-ltb}
+use lib.Dec.{T, eqb, lit<, lit≤}
 use lib.ListN.{length}
-use Rattle.field.specs.Field.{tdmsOf, fln1, lln1, fln2, lln2, fcp, lcp, badPair, badTdms, deletes, key, panning}
-use Rattle.map.specs.Map.{ids}
-use Rattle.multiplex.specs.Broadcast.{countAt, change, epoch, begun, some, Linked}
+use Rattle.field.specs.Field.{tdmsOf, fln1, lln1, fln2, lln2, fcp, lcp, badPair, badTdms, deletes, key}
+use Rattle.multiplex.specs.Broadcast.{countAt, change, epoch, begun, Linked}
 use Rattle.multiplex.specs.Example.{one, two, other, none as ones, structures, pick, script, told, example}
 use Rattle.multiplex.specs.Heard.{Machine}
-use Rattle.multiplex.specs.Air.{Carries, new, old, gone, vectors, Air, timed, inForce, coming, newIn, oldIn, goneIn, turn, later, same, lastOld, lastNew, linkOf, linksOld, linksNew, newBefore, newTo, goneBefore, goneTo, InTurn, Said, nothing, described, deleted, Orderly}
+use Rattle.multiplex.specs.Air.{Carries, gone, vectors, timed, inForce, newIn, oldIn, goneIn, turn, later, same, lastOld, lastNew, linkOf, linksOld, linksNew, newBefore, newTo, goneBefore, InTurn, Said, described, deleted, Orderly}
 use Rattle.multiplex.specs.Sound.{kept, Word, unheard, there, comingIn, comingBefore, comingTo, over as later-word}
 use Rattle.multiplex.specs.Finding.{first, newRoundsBefore, over, every, Followed, ShowsInForce}
 use Rattle.multiplex.proofs.Keeping.{none-linked, two-linked, fitting, few-seven}
@@ -49,7 +48,7 @@ none-else j id e = ap (λ (b : Bool). cond b (structures j) []) (ne-eqb id 7 e)
 
 -- ---- frames
 
-in-place : (p n i l m : ℕ) → i ≡ turn n p → (i ≡ suc p → l ≡ m) → (k : ℕ) → suc p ≡ suc k → (i ≡ turn n k) × (i ≡ suc k → l ≡ m)
+pub in-place : (p n i l m : ℕ) → i ≡ turn n p → (i ≡ suc p → l ≡ m) → (k : ℕ) → suc p ≡ suc k → (i ≡ turn n k) × (i ≡ suc k → l ≡ m)
 in-place p n i l m x y k e =
     let at : p ≡ k = omega (arith, e) in
     subst (λ (q : ℕ). (i ≡ turn n q) × (i ≡ suc q → l ≡ m)) at (x, y)

@@ -12,12 +12,12 @@
 --
 -- Assumes nothing.
 use mathlib.Core.Path.{_≡_, refl, sym, ap, ap₂, _∙_, subst}
-use mathlib.Core.Bool.{Bool, true, false, cond, not, _&&_, _||_}
-use mathlib.Core.List.{List, [], _∷_}
-use Prim.Native.Nat.{ℕ, zero, suc, _+_, _-_, _≤_, _<_}
+use mathlib.Core.Bool.{Bool, true, cond, not}
+use mathlib.Core.List.{List}
+use Prim.Native.Nat.{ℕ, zero, suc, _≤_}
 use native.Mathlib.Omega.{arith}
 use borrow.Author.Tests.{ne-eqb}
-use lib.Dec.{T, leb, ltb, eqb, lit<, lit≤}
+use lib.Dec.{T, eqb, lit<, lit≤}
 use lib.ListN.{length}
 use Rattle.bits.specs.Bits.{blank}
 use Rattle.slot.proofs.Laws.{blank-at}
@@ -27,14 +27,12 @@ use Rattle.map.specs.Map.{mapSize, framesOf}
 use Rattle.map.specs.Calls.{takeAnswer, takeAfter}
 use Rattle.multiplex.specs.Broadcast.{countAt, change, epoch, some}
 use Rattle.multiplex.specs.Heard.{ours}
-use Rattle.multiplex.specs.Example.{one, two, structures, pick, told, example}
+use Rattle.multiplex.specs.Example.{structures, pick, told, example}
 use Rattle.multiplex.specs.Empty.{deaf, doubting, mute, refusing, firstOnly, late}
 use Rattle.multiplex.specs.Air.{vectors, Air, timed, inForce, fieldOn, oldIn, newIn, goneIn, InTurn, Orderly}
-use Rattle.multiplex.specs.Sound.{kept, missedBefore, anyBefore, inRow, Listener, Word, unheard, absent, there, over, presentIn, comingIn, comingBefore, presentBefore, wordFor, NeverWrong}
+use Rattle.multiplex.specs.Sound.{kept, missedBefore, inRow, Listener, Word, unheard, over, presentIn, comingIn, comingBefore, presentBefore, wordFor, NeverWrong}
 use Rattle.multiplex.specs.Finding.{Near, first, roundsBefore, whollyBefore, over as carried, readyBefore, readyTo, every, Finds, ShowsInForce, heardNews, Announces, Reason, gone, long, Admits}
-use Rattle.multiplex.proofs.Listening.{Known}
 use Rattle.multiplex.proofs.Soundness.{State, silent, since-one, state-at}
-use Rattle.multiplex.proofs.Keeping.{few-seven}
 use Rattle.multiplex.proofs.Steady.{lists, steady, steady-orderly}
 use Rattle.multiplex.proofs.Denied.{unsaid}
 use Rattle.multiplex.proofs.Examples.{example-orderly, example-followed}

@@ -34,7 +34,7 @@ lists-linked id = go (eqb id 7)
     go true = two-linked one two (fitting one tt refl refl) (fitting two tt refl refl) (lit< tt)
     go false = none-linked
 
-same-all : (xs : List ℕ) → same xs xs ≡ true
+pub same-all : (xs : List ℕ) → same xs xs ≡ true
 unfolding same
 same-all [] = refl
 same-all (x ∷ xs) = ap₂ (λ (a b : Bool). a && b) (eq-eqb x x refl) (same-all xs)

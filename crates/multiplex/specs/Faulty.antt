@@ -101,6 +101,9 @@ reader h = record {
   unknown = λ m id count. 0;
 }
 
+abbrev pub careful : Heeds
+careful = record { ends = true; starts = true; links = true; gaps = true; blocks = true; news = true; wraps = true }
+
 -- ---- one thing unheeded
 
 -- never 46: it shows what it has heard of the component so far
