@@ -1,6 +1,6 @@
 -- Structures of the examples keep the law.
 --
---   fitting, none-linked, one-linked, two-linked
+--   fitting, none-linked, one-linked, two-linked, three-linked
 --   few-seven         one component is no more than 128
 --
 -- Assumes nothing.
@@ -42,6 +42,20 @@ two-linked x y f g l = record { few = lit≤ tt; fit = fits; rising = rise }
     rise : (i : ℕ) → suc i < 2 → key (getD (x ∷ y ∷ []) i 0) < key (getD (x ∷ y ∷ []) (suc i) 0)
     rise zero h = l
     rise (suc i) h = absurd (omega arith)
+
+pub three-linked : (x y z : ℕ) → Fit x → Fit y → Fit z → key x < key y → key y < key z → Linked (x ∷ y ∷ z ∷ [])
+three-linked x y z f g h l m = record { few = lit≤ tt; fit = fits; rising = rise }
+  where
+    fits : (i : ℕ) → i < 3 → Fit (getD (x ∷ y ∷ z ∷ []) i 0)
+    fits zero h = f
+    fits (suc zero) h = g
+    fits (suc (suc zero)) h' = h
+    fits (suc (suc (suc i))) h = absurd (omega arith)
+
+    rise : (i : ℕ) → suc i < 3 → key (getD (x ∷ y ∷ z ∷ []) i 0) < key (getD (x ∷ y ∷ z ∷ []) (suc i) 0)
+    rise zero h = l
+    rise (suc zero) h = m
+    rise (suc (suc i)) h = absurd (omega arith)
 
 -- ---- how many components
 

@@ -13,3 +13,10 @@ pub mod Telling
 pub mod Finding
 pub mod Certain
 pub mod Keeping
+pub mod Steady
+pub mod Unsure
+pub mod Denied
+pub mod Stubborn
+pub mod Examples
+pub mod Refuting
+pub mod Faults

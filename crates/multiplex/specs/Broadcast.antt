@@ -58,4 +58,3 @@ pub record Bits (flag tdms l : ℕ) : Type 0 where
   pub flags : flag < 2
   pub width : tdms < 2 ^ 62
   pub links : l < 2
-

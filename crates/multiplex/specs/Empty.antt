@@ -1,6 +1,8 @@
 -- Machines that do not keep a theorem's promise: it must be false of each.
 --
---   deaf         takes every field, keeps nothing, and shows no component ever
+--   deaf         takes every field, keeps nothing, and shows no component ever; and it says of none that it does not know
+--   doubting     the same, but it says of every component that it does not know
+--   mute         takes every field, keeps nothing, and says 46 of every component
 --   refusing     ours, but it refuses every field
 --   firstOnly    ours, but it keeps only the first field
 --   late         ours, but whatever frame it is asked for, it shows the one that has ended
@@ -30,6 +32,30 @@ deaf = record {
   answer = λ m f. 0;
   after = λ m f. m;
   number = λ m id count. 0;
+  fields = λ m id count. [];
+  announced = λ m id count. 0;
+  frames = λ m id count. 0;
+  unknown = λ m id count. 0;
+}
+
+unfoldable pub doubting : Machine
+doubting = record {
+  start = [];
+  answer = λ m f. 0;
+  after = λ m f. m;
+  number = λ m id count. 0;
+  fields = λ m id count. [];
+  announced = λ m id count. 0;
+  frames = λ m id count. 0;
+  unknown = λ m id count. 1;
+}
+
+unfoldable pub mute : Machine
+mute = record {
+  start = [];
+  answer = λ m f. 0;
+  after = λ m f. m;
+  number = λ m id count. 46;
   fields = λ m id count. [];
   announced = λ m id count. 0;
   frames = λ m id count. 0;

@@ -5,3 +5,4 @@ pub mod Sound
 pub mod Finding
 pub mod Example
 pub mod Empty
+pub mod Faulty

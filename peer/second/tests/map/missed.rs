@@ -89,7 +89,12 @@ impl Ear {
 /// One broadcast, by its number.
 fn follow(reading: Reading, number: usize, seen: &mut Seen) -> String {
     let mut random = Xorshift::new(3320 + 2 * number as u64);
-    let style = Style::any(&mut random, MOST[number % MOST.len()]);
+    let mut style = Style::any(&mut random, MOST[number % MOST.len()]);
+    // The second full one comes round within a configuration or two, so that the map has all of it.
+    if number % MOST.len() == MOST.len() - 1 {
+        style.short = true;
+        style.cyclic = true;
+    }
     let mut broadcast = Broadcast::with(random.next(), random.below(256) as u8, style);
     let mut ear = Ear::new(random.next(), number / MOST.len());
     let before = random.below(512);
