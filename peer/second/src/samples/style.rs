@@ -69,7 +69,7 @@ impl Style {
             full: many || random.below(4) != 0,
             few: random.chance(),
             short: random.below(if many { 2 } else { 8 }) == 0,
-            long: random.below(8) == 0,
+            long: random.below(4) == 0,
             middle: random.chance(),
             cyclic: random.chance(),
             links: match random.below(7) {
