@@ -22,12 +22,12 @@ use native.Mathlib.Decide.{ℕ-discrete, decLt}
 use borrow.Author.Tests.{eq-eqb, ne-eqb, lt-ltb, le-ltb}
 use lib.Dec.{T, ltb, eqb, lit<}
 use lib.ListN.{length, getD, drop}
-use Rattle.field.specs.Field.{key}
-use Rattle.structure.specs.Structure.{most, structureSize, headOf, stored, gatheringHead, completedHead, gathered, spoiled, noneHead, deletion}
+use Rattle.structure.specs.Structure.{most, structureSize, headOf, stored, gathered, spoiled, noneHead, deletion}
 use Rattle.structure.specs.declared.Structure.{Structure}
-use Rattle.structure.proofs.Gathering.{Holds, Empty, alike-holds, alike-empty, begun, begun-head, joined, joined-head, completed, completed-head}
+use Rattle.structure.proofs.Gathering.{Holds, Empty, alike-holds, alike-empty, begun, begun-head}
 use Rattle.structure.proofs.Kept.{spoiled-none, spoiled-last, none-head, deletion-length}
-use Rattle.structure.proofs.Runs.{Fields, Lasts, Part, empty, stuck, run, spoiled-empty, spoiled-part, spoiled-whole, spoils, Took, partly, wholly, gathered-some, part-takes, open-takes, whole-next, Stays, whole-takes, rises-to}
+use Rattle.structure.proofs.Runs.{Fields, Lasts, Part, empty, stuck, run, spoiled-empty, spoiled-part, spoiled-whole, spoils, Took, partly, wholly, gathered-some, part-takes, open-takes, whole-next, Stays, whole-takes}
+use Rattle.structure.proofs.Rounds.{first-joins, joins-late, first-completes, completes-last}
 use Rattle.map.specs.Map.{ids, mapSize, structureAt, stayed, changedFrom}
 use Rattle.map.proofs.Places.{structure-length}
 use Rattle.map.proofs.Changing.{stayed-sure, stayed-alike, stayed-spoils, settled-empty, settled-spoils, settled-holds, stays, comes-in, goes-out, emptied}
@@ -403,7 +403,6 @@ module _ (a : Air) (hears : ℕ → Bool) (n e id : ℕ) (now : epoch (timed a) 
     sure-takes : (c links : ℕ) (s : List ℕ) → 0 < c → c ≤ length zs → i ≡ cond (eqb c (length zs)) 0 c → (i ≡ c → l ≡ links)
         → headOf s .late ≡ 0 → Holds s c zs 0 links → (count : ℕ) (gone u : Bool) → count ≡ c
         → Next a hears (suc n) e id (suc i) (count + 1) l gone u (gathered s t l)
-    unfolding completedHead gatheringHead
     sure-takes c links s pos le at linked la h count gone u ec = go (ℕ-discrete c (length zs))
       where
         f : Fields zs
@@ -412,27 +411,14 @@ module _ (a : Air) (hears : ℕ → Bool) (n e id : ℕ) (now : epoch (timed a) 
         go : Dec (c ≡ length zs) → Next a hears (suc n) e id (suc i) (count + 1) l gone u (gathered s t l)
         go (yes q) =
             let z : i ≡ 0 = at ∙ ap (λ (b : Bool). cond b 0 c) (eq-eqb c (length zs) q) in
-            let is : t ≡ getD zs 0 0 = ap (λ (j : ℕ). getD zs j 0) z in
-            let down = falls z (ℕ-discrete (c - 1) 0) in
-            let room : c ≤ most = omega (arith, k .few, q) in
-            full l hl (omega arith) (inr (ap (λ (x : Structure). x .last) (completed-head s zs c t l links h pos room is down) ∙ ap suc (sym z)))
-            (subst (λ (x : ℕ). Holds (gathered s t l) x zs 1 l) q (completed s zs c t l links h pos room is down))
-          where
-            falls : i ≡ 0 → Dec (c - 1 ≡ 0) → key t ≤ key (getD zs (c - 1) 0)
-            falls z (yes r) = omega (arith, ap (λ (j : ℕ). key (getD zs j 0)) (z ∙ sym r))
-            falls z (no r) = omega (arith, rises-to zs f i (c - 1) (omega (arith, z, r)) (omega (arith, q, pos)))
+            full l hl (omega arith) (inr (completes-last zs f i hi l s c links pos h q z)) (first-completes zs f i hi l s c links pos h q z)
         go (no q) =
             let z : i ≡ c = at ∙ ap (λ (b : Bool). cond b 0 c) (ne-eqb c (length zs) q) in
-            let up = rises-to zs f (c - 1) i (omega (arith, z, pos)) hi in
-            let h' = subst (λ (x : ℕ). Holds s c zs 0 x) (sym (linked z)) h in
-            let room : c < most = omega (arith, k .few, le, q) in
-            let is : t ≡ getD zs c 0 = ap (λ (j : ℕ). getD zs j 0) z in
-            sure (c + 1) (omega arith) (omega (arith, le, q)) (ap (λ (x : ℕ). x + 1) ec) (next-one z) hl
-            (ap (λ (x : Structure). x .late) (joined-head s zs c t l h' pos room small is up) ∙ la)
-            (joined s zs c t l h' pos room small is up)
+            sure (suc i) (omega arith) (omega (arith, hi)) (ap (λ (x : ℕ). x + 1) ec ∙ one-on z) refl hl
+            (joins-late zs f i hi l s c links pos h z (linked z) ∙ la) (first-joins zs f i hi l s c links pos h z (linked z))
           where
-            next-one : i ≡ c → suc i ≡ c + 1
-            next-one z = omega (arith, z)
+            one-on : i ≡ c → c + 1 ≡ suc i
+            one-on z = omega (arith, z)
 
     -- the first of which nothing was missed
     sure-first : (count due : ℕ) (s : List ℕ) (gone : Bool) → headOf s .fields ≡ 0 → headOf s .whole ≡ 0 → count ≡ 0 → due ≡ 0 → (due ≡ 0 → i ≡ 0)
