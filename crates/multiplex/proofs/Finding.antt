@@ -25,7 +25,7 @@ use Rattle.multiplex.specs.Broadcast as broadcast
 use Rattle.multiplex.specs.Heard.{ours}
 use Rattle.multiplex.specs.Air.{Air, timed, newIn, oldIn, later, lastOld, lastNew, linkOf, linksNew, newTo, goneTo, inForce, coming, same, Said, nothing, described, deleted, Orderly}
 use Rattle.multiplex.specs.Sound.{kept, missedBefore, anyBefore, Word, unheard, absent, there, comingTo}
-use Rattle.multiplex.specs.Finding.{Near, roundsTo, newRoundsTo, whollyBefore, news, overChange, readyBefore, readyTo, Rightly, Finds, every, Followed, ShowsInForce}
+use Rattle.multiplex.specs.Finding.{Near, aloneBefore, found, roundsTo, newRoundsTo, whollyBefore, news, overChange, readyBefore, readyTo, Rightly, Finds, every, Followed, ShowsInForce}
 use Rattle.multiplex.proofs.Distances.{epoch-step}
 use Rattle.multiplex.proofs.Knowing.{Deleting, Next, none, delete, piece, sure, Settled, stays-so, told, ends}
 use Rattle.multiplex.proofs.Knowing as knowing
@@ -260,7 +260,7 @@ module _ (a : Air) (f : Followed a) where
       go : readyBefore a every id t ≡ true
           → cond (change (timed a) (suc t)) (crossed (readyTo a every id t) (whollyBefore a every t)) (readyTo a every id t) ≡ true
       go r =
-          let ready : readyTo a every id t ≡ true = ap (λ (b : Bool). b || leb 3 (roundsTo a every id t)) r in
+          let ready : readyTo a every id t ≡ true = ap (λ (b : Bool). b || found (aloneBefore a every t) (roundsTo a every id t)) r in
           (λ i. cond (change (timed a) (suc t)) (crossed (ready i) (wholly-begun t i)) (ready i)) ∙ by (change (timed a) (suc t)) (begun (timed a) t) refl refl
         where
           by : (x b : Bool) → change (timed a) (suc t) ≡ x → begun (timed a) t ≡ b → cond x (crossed true b) true ≡ true
@@ -269,7 +269,7 @@ module _ (a : Air) (f : Followed a) where
           by true false c e = f .round t id hid c e
 
   ready-always : (id : ℕ) → id < ids → (t : ℕ) → readyTo a every id t ≡ true
-  ready-always id hid t = ap (λ (b : Bool). b || leb 3 (roundsTo a every id t)) (always id hid t)
+  ready-always id hid t = ap (λ (b : Bool). b || found (aloneBefore a every t) (roundsTo a every id t)) (always id hid t)
 
 pub shows-in-force : ShowsInForce ours
 shows-in-force = record {

@@ -14,7 +14,7 @@ use Prim.Native.Nat.{ℕ, zero, suc, _+_, _-_, _<_}
 use native.Mathlib.Omega.{arith}
 use native.Mathlib.Decide.{ℕ-discrete}
 use borrow.Author.Tests.{eq-eqb, ne-eqb}
-use lib.Dec.{T, leb, ltb, eqb, lit<}
+use lib.Dec.{T, ltb, eqb, lit<}
 use lib.ListN.{length, getD}
 use Rattle.field.specs.Field.{panning}
 use Rattle.structure.specs.Structure.{structureSize, headOf, gathered, absence, deletion, certainly}
@@ -27,7 +27,7 @@ use Rattle.map.proofs.Places.{structure-length, structure-same, structure-other
 use Rattle.multiplex.specs.Broadcast.{countAt, change, epoch, begun}
 use Rattle.multiplex.specs.Air.{Carries, new, old, gone, vectors, Air, timed, carriedAs, fieldOn, newIn, oldIn, goneIn, later, lastOld, lastNew, linkOf, linksOld, linksNew, one, newBefore, newTo, goneBefore, goneTo, inForce, coming, InTurn, nothing, Orderly}
 use Rattle.multiplex.specs.Sound.{inRow, announces, lists, denies, Word, unheard, absent, there, over, presentIn, comingIn, comingBefore, comingTo, presentBefore, presentTo}
-use Rattle.multiplex.specs.Finding.{first, roundsBefore, roundsTo, newRoundsBefore, newRoundsTo, whollyBefore, readyBefore, readyTo}
+use Rattle.multiplex.specs.Finding.{first, found, aloneBefore, roundsBefore, roundsTo, newRoundsBefore, newRoundsTo, whollyBefore, readyBefore, readyTo}
 use Rattle.multiplex.proofs.Rounding.{Turns, turns-plain, turns-gone, turns-old, Came, unbegun, came-plain, came-new}
 use Rattle.multiplex.proofs.Words.{Words, Sure, sure-as, words-as, words-force, words-dropped, words-told, words-ends, some-old, some-new}
 use Rattle.multiplex.proofs.Knowing.{Front, some, all, Next, delete, deletion-deleting, front-on, front-old, next-on, next-new}
@@ -61,7 +61,7 @@ pub record Known (a : Air) (hears : ℕ → Bool) (t : ℕ) (m : List ℕ) (u : 
   pub words : (id : ℕ) → id < ids → Words (presentTo a hears id t) (comingTo a hears id t) (structureAt id 0 m) (structureAt id 1 m)
   pub sure : (id : ℕ) → id < ids → Sure (inForce a t id) (coming a t id) (structureAt id 0 m) (structureAt id 1 m)
   pub wholly : u ≡ whollyBefore a hears t
-  pub turns : (id : ℕ) → id < ids → Turns (readyTo a hears id t) (roundsTo a hears id t) (inForce a t id) (oldLast a id t) (oldLink a id t) (structureAt id 0 m)
+  pub turns : (id : ℕ) → id < ids → Turns (readyTo a hears id t) (aloneBefore a hears t) (roundsTo a hears id t) (inForce a t id) (oldLast a id t) (oldLink a id t) (structureAt id 0 m)
   pub came : (id : ℕ) → id < ids → Came (newRoundsTo a hears id t) (coming a t id) (newLast a id t) (linkLast a id t) (structureAt id 1 m)
 
 pub record Before (a : Air) (hears : ℕ → Bool) (t : ℕ) (m : List ℕ) (u : Bool) : Type 0 where
@@ -74,7 +74,7 @@ pub record Before (a : Air) (hears : ℕ → Bool) (t : ℕ) (m : List ℕ) (u :
   pub sure : (id : ℕ) → id < ids → Sure (inForce a t id) (coming a t id) (structureAt id 0 m) (structureAt id 1 m)
   pub wholly : u ≡ whollyBefore a hears t
   pub turns : (id : ℕ) → id < ids
-      → Turns (readyBefore a hears id t) (roundsBefore a hears id t) (inForce a t id) (lastOld a id t) (linksOld a id t) (structureAt id 0 m)
+      → Turns (readyBefore a hears id t) (aloneBefore a hears t) (roundsBefore a hears id t) (inForce a t id) (lastOld a id t) (linksOld a id t) (structureAt id 0 m)
   pub came : (id : ℕ) → id < ids → Came (newRoundsBefore a hears id t) (coming a t id) (lastNew a id t) (linksNew a id t) (structureAt id 1 m)
 
 pub front-as : (a : Air) (hears : ℕ → Bool) (n e id due : ℕ) (s : List ℕ) (e' due' : ℕ) → e ≡ e' → due ≡ due'
@@ -119,11 +119,11 @@ none-begun a hears id (suc t) z = go (hears t) (change (timed a) (suc t)) (newIn
     go true false (suc n) z r = absurd (omega (arith, z, ap (λ (b : Bool). newBefore a id t + cond b 0 1) (ne-eqb (suc n) 0 (λ q. omega (arith, q)))))
 
 -- a frame that carries none of its fields
-turns-none : (ready : Bool) (b : ℕ) (xs : List ℕ) (due l : ℕ) (F : List ℕ) (n v : ℕ) → n ≡ 0 → Turns ready b xs due l F
-    → Turns (ready || leb 3 (b + first n)) (b + first n) xs (later n due) (cond (eqb n 0) l v) F
+turns-none : (ready alone : Bool) (b : ℕ) (xs : List ℕ) (due l : ℕ) (F : List ℕ) (n v : ℕ) → n ≡ 0 → Turns ready alone b xs due l F
+    → Turns (ready || found alone (b + first n)) alone (b + first n) xs (later n due) (cond (eqb n 0) l v) F
 unfolding first later
-turns-none ready b xs due l F n v z w =
-    subst (λ (k : ℕ). Turns (ready || leb 3 (b + first k)) (b + first k) xs (later k due) (cond (eqb k 0) l v) F) (sym z) (turns-plain ready b xs due l F w)
+turns-none ready alone b xs due l F n v z w =
+    subst (λ (k : ℕ). Turns (ready || found alone (b + first k)) alone (b + first k) xs (later k due) (cond (eqb k 0) l v) F) (sym z) (turns-plain ready alone b xs due l F w)
 
 came-none : (c : ℕ) (zs : List ℕ) (due l : ℕ) (A : List ℕ) (n v : ℕ) → n ≡ 0 → Came c zs due l A → Came (c + first n) zs (later n due) (cond (eqb n 0) l v) A
 unfolding first later
@@ -184,7 +184,7 @@ module _ (a : Air) (w : Orderly a) (hears : ℕ → Bool) (t : ℕ) (m : List �
 
   abbrev TurnsAt : Carries → ℕ → List ℕ → Type 0
   TurnsAt c id F =
-      Turns (readyBefore a hears id t || leb 3 (roundsBefore a hears id t + first (oldIn id c))) (roundsBefore a hears id t + first (oldIn id c))
+      Turns (readyBefore a hears id t || found (aloneBefore a hears t) (roundsBefore a hears id t + first (oldIn id c))) (aloneBefore a hears t) (roundsBefore a hears id t + first (oldIn id c))
       (inForce a t id) (later (oldIn id c) (lastOld a id t)) (cond (eqb (oldIn id c) 0) (linksOld a id t) (linkOf c)) F
 
   abbrev CameAt : Carries → ℕ → List ℕ → Type 0
@@ -263,7 +263,7 @@ module _ (a : Air) (w : Orderly a) (hears : ℕ → Bool) (t : ℕ) (m : List �
   turns-off : (c : Carries) (id : ℕ) → id < ids → (F : List ℕ) → oldIn id c ≡ 0 → structureAt id 0 m ≡ F → TurnsAt c id F
   turns-off c id hid F z is =
       subst (TurnsAt c id) is
-      (turns-none (readyBefore a hears id t) (roundsBefore a hears id t) (inForce a t id) (lastOld a id t) (linksOld a id t) (structureAt id 0 m)
+      (turns-none (readyBefore a hears id t) (aloneBefore a hears t) (roundsBefore a hears id t) (inForce a t id) (lastOld a id t) (linksOld a id t) (structureAt id 0 m)
       (oldIn id c) (linkOf c) z (h .turns id hid))
 
   came-off : (c : Carries) (id : ℕ) → id < ids → (A : List ℕ) → newIn id c ≡ 0 → structureAt id 1 m ≡ A → CameAt c id A
@@ -369,12 +369,12 @@ module _ (a : Air) (w : Orderly a) (hears : ℕ → Bool) (t : ℕ) (m : List �
       turns-here : (hk : k < ids) → TurnsAt (old k i l) k (gather k 0 (getD (inForce a t k) i 0) l)
       turns-here hk =
           let yes-k : suc i ≡ oldIn k (old k i l) = sym (ap (λ (b : Bool). cond b (suc i) 0) (eq-eqb k k refl)) in
-          subst (λ (x : ℕ). Turns (readyBefore a hears k t || leb 3 (roundsBefore a hears k t + first x)) (roundsBefore a hears k t + first x) (inForce a t k)
+          subst (λ (x : ℕ). Turns (readyBefore a hears k t || found (aloneBefore a hears t) (roundsBefore a hears k t + first x)) (aloneBefore a hears t) (roundsBefore a hears k t + first x) (inForce a t k)
           (later x (lastOld a k t)) (cond (eqb x 0) (linksOld a k t) l) (gather k 0 (getD (inForce a t k) i 0) l)) yes-k
-          (subst (λ (b : Bool). Turns (readyBefore a hears k t || leb 3 (roundsBefore a hears k t + first (suc i))) (roundsBefore a hears k t + first (suc i)) (inForce a t k)
+          (subst (λ (b : Bool). Turns (readyBefore a hears k t || found (aloneBefore a hears t) (roundsBefore a hears k t + first (suc i))) (aloneBefore a hears t) (roundsBefore a hears k t + first (suc i)) (inForce a t k)
           (suc i) (cond b (linksOld a k t) l) (gather k 0 (getD (inForce a t k) i 0) l)) (sym (ne-eqb (suc i) 0 (λ z. omega (arith, z))))
           (turns-old (inForce a t k) (w .linked now k hk) i (law .1 .0) l (omega (arith, law .1 .1 .0)) (lastOld a k t) (linksOld a k t) (law .1 .1 .1)
-          a hears t now k refl (λ j. w .linked j k hk) (readyBefore a hears k t) (roundsBefore a hears k t) (structureAt k 0 m) (h .front k hk) (h .turns k hk)))
+          a hears t now k refl (λ j. w .linked j k hk) (readyBefore a hears k t) (aloneBefore a hears t) (roundsBefore a hears k t) (structureAt k 0 m) (h .front k hk) (h .turns k hk)))
 
       heard-old : (hk : k < ids) → length (gather k 0 (getD (inForce a t k) i 0) l) ≡ structureSize
           → WordsAt (old k i l) k (structureAt k 0 (withStructure k 0 (gather k 0 (getD (inForce a t k) i 0) l) m))
@@ -421,7 +421,7 @@ module _ (a : Air) (w : Orderly a) (hears : ℕ → Bool) (t : ℕ) (m : List �
         turns = λ id hid. pick id k
             (λ e. subst (λ (j : ℕ). TurnsAt (gone 0 k tdms l) j (structureAt j 0 (withStructure k 0 absence m))) (sym e)
             (subst (TurnsAt (gone 0 k tdms l) k) (sym (put-at k 0 hk (lit< tt) _ ls))
-            (turns-gone (readyBefore a hears k t) (roundsBefore a hears k t) (inForce a t k) (lastOld a k t) (linksOld a k t) absence none absence-empty)))
+            (turns-gone (readyBefore a hears k t) (aloneBefore a hears t) (roundsBefore a hears k t) (inForce a t k) (lastOld a k t) (linksOld a k t) absence none absence-empty)))
             (λ e. turns-off (gone 0 k tdms l) id hid _ refl (sym (put-off k 0 hk (lit< tt) _ ls id 0 (lit< tt) (λ p q. e p))));
         came = λ id hid. came-off (gone 0 k tdms l) id hid _ refl (sym (put-off k 0 hk (lit< tt) _ ls id 1 (lit< tt) (λ p q. omega (arith, q))));
       }

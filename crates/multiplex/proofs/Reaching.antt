@@ -28,7 +28,7 @@ use Rattle.map.proofs.Changing.{blank-empty, part-blank, gap-length, gap-struct
 use Rattle.multiplex.specs.Broadcast.{change, epoch, begun, Linked}
 use Rattle.multiplex.specs.Broadcast as broadcast
 use Rattle.multiplex.specs.Air.{Air, timed, newIn, oldIn, later, same, lastOld, lastNew, linkOf, linksOld, linksNew, newBefore, newTo, goneBefore, goneTo, inForce, coming, Said, nothing, described, deleted, Orderly}
-use Rattle.multiplex.specs.Finding.{roundsBefore, roundsTo, newRoundsBefore, newRoundsTo, whollyBefore, news, overChange, readyBefore, readyTo}
+use Rattle.multiplex.specs.Finding.{aloneBefore, roundsBefore, roundsTo, newRoundsBefore, newRoundsTo, whollyBefore, news, overChange, readyBefore, readyTo}
 use Rattle.multiplex.specs.Sound.{anyBefore, Word, unheard, absent, there, over, presentIn, comingIn, comingBefore, comingTo, presentBefore, presentTo}
 use Rattle.multiplex.proofs.Distances.{epoch-step, epoch-mono}
 use Rattle.multiplex.proofs.Knowing.{Front, some, all, Next, none, delete, piece, sure, full, Silent, Past, Settled, stays-so, told, ends, front-gap, next-gap, front-unsure, front-sure}
@@ -70,11 +70,12 @@ module _ (a : Air) (hears : ℕ → Bool) (t n : ℕ) (gap : Gap hears t n) wher
 
 -- ---- from when on it is right
 
-turns-as : {r r' : Bool} {b b' : ℕ} {xs xs' : List ℕ} {due due' l l' : ℕ} {F : List ℕ} → r ≡ r' → b ≡ b' → xs ≡ xs' → due ≡ due' → l ≡ l' → Turns r b xs due l F → Turns r' b' xs' due' l' F
-turns-as {r} {r'} {b} {b'} {xs} {xs'} {due} {due'} {l} {l'} {F} er eb ex ed el w =
-    subst (λ (x : Bool). Turns x b' xs' due' l' F) er
-    (subst (λ (x : ℕ). Turns r x xs' due' l' F) eb
-    (subst (λ (x : List ℕ). Turns r b x due' l' F) ex (subst (λ (x : ℕ). Turns r b xs x l' F) ed (subst (λ (x : ℕ). Turns r b xs due x F) el w))))
+turns-as : {r r' o o' : Bool} {b b' : ℕ} {xs xs' : List ℕ} {due due' l l' : ℕ} {F : List ℕ} → r ≡ r' → o ≡ o' → b ≡ b' → xs ≡ xs' → due ≡ due' → l ≡ l' → Turns r o b xs due l F → Turns r' o' b' xs' due' l' F
+turns-as {r} {r'} {o} {o'} {b} {b'} {xs} {xs'} {due} {due'} {l} {l'} {F} er eo eb ex ed el w =
+    subst (λ (x : Bool). Turns x o' b' xs' due' l' F) er
+    (subst (λ (x : Bool). Turns r x b' xs' due' l' F) eo
+    (subst (λ (x : ℕ). Turns r o x xs' due' l' F) eb
+    (subst (λ (x : List ℕ). Turns r o b x due' l' F) ex (subst (λ (x : ℕ). Turns r o b xs x l' F) ed (subst (λ (x : ℕ). Turns r o b xs due x F) el w)))))
 
 came-as : {c c' : ℕ} {zs zs' : List ℕ} {due due' l l' : ℕ} {A : List ℕ} → c ≡ c' → zs ≡ zs' → due ≡ due' → l ≡ l' → Came c zs due l A → Came c' zs' due' l' A
 came-as {c} {c'} {zs} {zs'} {due} {due'} {l} {l'} {A} ec ez ed el w =
@@ -90,6 +91,7 @@ record Lost (a : Air) (hears : ℕ → Bool) (n : ℕ) : Type 0 where
   ready : (id : ℕ) → readyBefore a hears id n ≡ false
   rounds : (id : ℕ) → roundsBefore a hears id n ≡ 0
   announced : (id : ℕ) → newRoundsBefore a hears id n ≡ 0
+  alone : aloneBefore a hears n ≡ false
 
 off-cond : {A : Type 0} (x y : A) (b : Bool) → b ≡ false → cond b x y ≡ y
 off-cond x y true e = absurd (subst T e tt)
@@ -115,7 +117,7 @@ any-heard hears t (suc v) l h = go (ℕ-discrete t v) (any-heard hears t v)
     go (no e) r = ap (λ (b : Bool). hears v || b) (r (omega (arith, l, e)) h) ∙ or-yes (hears v)
 
 lost-at : (a : Air) (hears : ℕ → Bool) (t n : ℕ) → suc t < n → Gap hears t n → hears t ≡ true → Lost a hears n
-unfolding whollyBefore readyBefore roundsBefore newRoundsBefore
+unfolding whollyBefore aloneBefore readyBefore roundsBefore newRoundsBefore
 lost-at a hears t zero l gap h = absurd (omega arith)
 lost-at a hears t (suc n) l gap h =
     let off : hears n ≡ false = unheard-at (hears n) refl in
@@ -125,6 +127,7 @@ lost-at a hears t (suc n) l gap h =
       ready = λ id. off-cond (heardReady a hears id n) (cond (anyBefore hears n) false (not (broadcast.some (inForce a (suc n) id)))) (hears n) off ∙ ap (λ (b : Bool). cond b false (not (broadcast.some (inForce a (suc n) id)))) any;
       rounds = λ id. off-cond (cond (change (timed a) (suc n)) 0 (roundsTo a hears id n)) 0 (hears n) off;
       announced = λ id. off-cond (cond (change (timed a) (suc n)) 0 (newRoundsTo a hears id n)) 0 (hears n) off;
+      alone = λ i. cond (off i) (not (change (timed a) (suc n)) && aloneBefore a hears n) (not (any i));
     }
   where
     unheard-at : (b : Bool) → hears n ≡ b → hears n ≡ false
@@ -159,6 +162,12 @@ module _ (a : Air) (w : Orderly a) (hears : ℕ → Bool) (t : ℕ) (m : List �
   ready-next id =
       ap (λ (x : Bool). cond x (cond (change (timed a) (suc t)) (crossed id) (readyTo a hears id t)) (cond (anyBefore hears t) false (not (broadcast.some (inForce a (suc t) id))))) (k .heard)
 
+  alone-next : (b : Bool) → change (timed a) (suc t) ≡ b → aloneBefore a hears (suc t) ≡ (not b && aloneBefore a hears t)
+  unfolding aloneBefore
+  alone-next b c =
+      ap (λ (x : Bool). cond x (not (change (timed a) (suc t)) && aloneBefore a hears t) (not (anyBefore hears t))) (k .heard)
+      ∙ ap (λ (x : Bool). not x && aloneBefore a hears t) c
+
   rounds-next : (id : ℕ) → roundsBefore a hears id (suc t) ≡ cond (change (timed a) (suc t)) 0 (roundsTo a hears id t)
   unfolding roundsBefore
   rounds-next id = ap (λ (x : Bool). cond x (cond (change (timed a) (suc t)) 0 (roundsTo a hears id t)) 0) (k .heard)
@@ -186,7 +195,7 @@ module _ (a : Air) (w : Orderly a) (hears : ℕ → Bool) (t : ℕ) (m : List �
             words-as (k .words id hid) (sym (g .1)) (sym (g .0)) refl refl;
         sure = λ id hid. subst (λ (x : ℕ). Sure (a .config x id) (a .config (suc x) id) (structureAt id 0 m) (structureAt id 1 m)) (sym on) (k .sure id hid);
         wholly = k .wholly ∙ sym (wholly-next false c);
-        turns = λ id hid. turns-as (sym (ready-next id ∙ ap (λ (b : Bool). cond b (crossed id) (readyTo a hears id t)) c)) (sym (rounds-next id ∙ ap (λ (b : Bool). cond b 0 (roundsTo a hears id t)) c))
+        turns = λ id hid. turns-as (sym (ready-next id ∙ ap (λ (b : Bool). cond b (crossed id) (readyTo a hears id t)) c)) (sym (alone-next false c)) (sym (rounds-next id ∙ ap (λ (b : Bool). cond b 0 (roundsTo a hears id t)) c))
             (ap (λ (x : ℕ). a .config x id) (sym on))
             (sym (ap (λ (b : Bool). cond b (later (oldIn id (a .carries t)) (lastOld a id t)) 0) (same-eq _ _ (ap (λ (x : ℕ). a .config x id) (sym on))))) refl (k .turns id hid);
         came = λ id hid. came-as (sym (new-next id ∙ ap (λ (b : Bool). cond b 0 (newRoundsTo a hears id t)) c)) (ap (λ (x : ℕ). a .config (suc x) id) (sym on))
@@ -290,6 +299,7 @@ module _ (a : Air) (w : Orderly a) (hears : ℕ → Bool) (t : ℕ) (m : List �
           rightly = λ e. subst (λ (x : ℕ). Right (a .config x id) (lastOld a id (suc t)) (structureAt id 0 (changedFrom ids 0 u m))) (sym on)
               (right-change c id hid u refl (sym (ready-next id ∙ ap (λ (b : Bool). cond b (crossed id) (readyTo a hears id t)) c) ∙ e));
           round = unbegun (rounds-next id ∙ ap (λ (b : Bool). cond b 0 (roundsTo a hears id t)) c);
+          only = λ z. absurd (subst T (sym z ∙ alone-next true c) tt);
         };
         came = λ id hid. none-came (new-next id ∙ ap (λ (b : Bool). cond b 0 (newRoundsTo a hears id t)) c);
       }
@@ -328,8 +338,8 @@ module _ (a : Air) (w : Orderly a) (hears : ℕ → Bool) (t : ℕ) (m : List �
     no : {A : Type 0} → false ≡ true → A
     no z = absurd (subst T (sym z) tt)
 
-    lost-turns : (id : ℕ) {xs F : List ℕ} {due l : ℕ} → Turns (readyBefore a hears id n) (roundsBefore a hears id n) xs due l F
-    lost-turns id = record { rightly = λ z. no (sym (lost .ready id) ∙ z); round = unbegun (lost .rounds id) }
+    lost-turns : (id : ℕ) {xs F : List ℕ} {due l : ℕ} → Turns (readyBefore a hears id n) (aloneBefore a hears n) (roundsBefore a hears id n) xs due l F
+    lost-turns id = record { rightly = λ z. no (sym (lost .ready id) ∙ z); round = unbegun (lost .rounds id); only = λ z. no (sym (lost .alone) ∙ z) }
 
     pub far-same : epoch (timed a) n ≡ e → Before a hears n gaps false
     far-same on = record {
@@ -488,6 +498,7 @@ first-before a hears t quiet = record {
   turns = λ id hid. record {
     rightly = λ z. rounding.absent (none-is (inForce a t id) (sym (first-at a hears t quiet .ready id) ∙ z)) (blank-structure id 0 hid (lit< tt));
     round = unbegun (first-at a hears t quiet .rounds id);
+    only = λ z. rounding.open-yet (first-at a hears t quiet .rounds id) (blank-structure id 0 hid (lit< tt) .whole);
   };
   came = λ id hid. none-came (first-at a hears t quiet .announced id);
 }

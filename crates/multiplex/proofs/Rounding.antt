@@ -3,7 +3,8 @@
 --   Right xs due F          the structure in force, rightly held
 --   Round b xs due l F      by b beginnings: nothing is known; it is right; after one, something unfinished or another list that agrees so far; after
 --                           two, a run from the first field on
---   Turns                   both; turns-old: a present field; turns-plain: any other; third-right
+--   Alone b xs due l F      the same where nothing was heard before this configuration
+--   Turns                   all of it; turns-old: a present field; turns-plain: any other; third-right, second-right
 --   Came c zs due l A       of the announced one: after one beginning a run from the first field on, or all of it
 --   came-new, came-plain, came-full
 --   right-sure, right-over  a change
@@ -29,7 +30,7 @@ use Rattle.map.proofs.Places.{structure-length}
 use Rattle.map.proofs.Changing.{stayed-alike, stayed-last, settled-empty, settled-holds, settled-last, stays, comes-in, goes-out}
 use Rattle.multiplex.specs.Broadcast.{some, Linked}
 use Rattle.multiplex.specs.Air.{Air, turn, same}
-use Rattle.multiplex.specs.Finding.{first}
+use Rattle.multiplex.specs.Finding.{first, found}
 use Rattle.multiplex.proofs.Knowing.{linked-fields, Front, all, Next, none, delete, piece, sure, part-head, Settled, stays-so, told, ends}
 use Rattle.multiplex.proofs.Knowing as knowing
 
@@ -44,9 +45,16 @@ pub data Round (b : ℕ) (xs : List ℕ) (due l : ℕ) (F : List ℕ) : Type 0 w
   wrong : b ≡ 1 → 0 < due → due ≤ length xs → Wrong F xs due → Round b xs due l F
   again : b ≡ 2 → 0 < due → due ≤ length xs → Holds F due xs 0 l → Round b xs due l F
 
-pub record Turns (ready : Bool) (b : ℕ) (xs : List ℕ) (due l : ℕ) (F : List ℕ) : Type 0 where
+-- the same in the configuration of the start: no other list can be held
+pub data Alone (b : ℕ) (xs : List ℕ) (due l : ℕ) (F : List ℕ) : Type 0 where
+  open-yet : b ≡ 0 → headOf F .whole ≡ 0 → Alone b xs due l F
+  running : b ≡ 1 → 0 < due → due ≤ length xs → Holds F due xs 0 l → Alone b xs due l F
+  rightly : Right xs due F → Alone b xs due l F
+
+pub record Turns (ready alone : Bool) (b : ℕ) (xs : List ℕ) (due l : ℕ) (F : List ℕ) : Type 0 where
   pub rightly : ready ≡ true → Right xs due F
   pub round : Round b xs due l F
+  pub only : alone ≡ true → Alone b xs due l F
 
 clash : {A : Type 0} → true ≡ false → A
 clash e = absurd (subst T e tt)
@@ -59,22 +67,38 @@ third-right b xs due l F (unfinished z w) e = absurd (omega (arith, z, leb-true 
 third-right b xs due l F (wrong z p q w) e = absurd (omega (arith, z, leb-true 3 b e))
 third-right b xs due l F (again z p q h) e = absurd (omega (arith, z, leb-true 3 b e))
 
-either : (ready : Bool) (b : ℕ) (xs : List ℕ) (due l : ℕ) (F : List ℕ) → (ready ≡ true → Right xs due F) → Round b xs due l F → Turns (ready || leb 3 b) b xs due l F
-either true b xs due l F r o = record { rightly = λ e. r refl; round = o }
-either false b xs due l F r o = record { rightly = λ e. third-right b xs due l F o e; round = o }
+-- the second, in the configuration of the start
+second-right : (b : ℕ) (xs : List ℕ) (due l : ℕ) (F : List ℕ) → Alone b xs due l F → leb 2 b ≡ true → Right xs due F
+second-right b xs due l F (open-yet z w) e = absurd (omega (arith, z, leb-true 2 b e))
+second-right b xs due l F (running z p q h) e = absurd (omega (arith, z, leb-true 2 b e))
+second-right b xs due l F (rightly r) e = r
+
+either : (ready alone : Bool) (b : ℕ) (xs : List ℕ) (due l : ℕ) (F : List ℕ) → (ready ≡ true → Right xs due F) → Round b xs due l F → (alone ≡ true → Alone b xs due l F)
+    → Turns (ready || found alone b) alone b xs due l F
+unfolding found
+either true alone b xs due l F r o s = record { rightly = λ e. r refl; round = o; only = s }
+either false alone b xs due l F r o s = record { rightly = go (leb 3 b) refl; round = o; only = s }
+  where
+    go : (x : Bool) → leb 3 b ≡ x → (leb 3 b || (alone && leb 2 b)) ≡ true → Right xs due F
+    go true z e = third-right b xs due l F o z
+    go false z e =
+        let y : (alone && leb 2 b) ≡ true = sym (ap (λ (x : Bool). x || (alone && leb 2 b)) z) ∙ e in
+        second-right b xs due l F (s (and-left alone _ y)) (and-right alone _ y)
 
 -- ---- a frame that carries none of its present fields
 
-pub turns-plain : (ready : Bool) (b : ℕ) (xs : List ℕ) (due l : ℕ) (F : List ℕ) → Turns ready b xs due l F → Turns (ready || leb 3 (b + 0)) (b + 0) xs due l F
-turns-plain ready b xs due l F w =
-    either ready (b + 0) xs due l F (w .rightly) (subst (λ (n : ℕ). Round n xs due l F) (plain b) (w .round))
+pub turns-plain : (ready alone : Bool) (b : ℕ) (xs : List ℕ) (due l : ℕ) (F : List ℕ) → Turns ready alone b xs due l F
+    → Turns (ready || found alone (b + 0)) alone (b + 0) xs due l F
+turns-plain ready alone b xs due l F w =
+    either ready alone (b + 0) xs due l F (w .rightly) (subst (λ (n : ℕ). Round n xs due l F) (plain b) (w .round))
+    (λ e. subst (λ (n : ℕ). Alone n xs due l F) (plain b) (w .only e))
   where
     plain : (n : ℕ) → n ≡ n + 0
     plain n = omega arith
 
 -- all ones: it is not there
-pub turns-gone : (ready : Bool) (b : ℕ) (xs : List ℕ) (due l : ℕ) (F : List ℕ) → xs ≡ [] → Empty F → Turns (ready || leb 3 (b + 0)) (b + 0) xs due l F
-turns-gone ready b xs due l F z e = record { rightly = λ _. absent z e; round = right (absent z e) }
+pub turns-gone : (ready alone : Bool) (b : ℕ) (xs : List ℕ) (due l : ℕ) (F : List ℕ) → xs ≡ [] → Empty F → Turns (ready || found alone (b + 0)) alone (b + 0) xs due l F
+turns-gone ready alone b xs due l F z e = record { rightly = λ _. absent z e; round = right (absent z e); only = λ _. rightly (absent z e) }
 
 -- ---- a present field
 
@@ -207,10 +231,29 @@ module _ (xs : List ℕ) (k : Linked xs) (i : ℕ) (hi : i < length xs) (l : ℕ
         again (ap₂ _+_ z (first-none i q)) (omega arith) (omega (arith, hi))
         (first-joins xs f i hi l F due links p h (goes-at p q) (same-links p (goes-at p q)))
 
-    pub turns-old : (ready : Bool) (b : ℕ) (F : List ℕ) → Front a hears n e id due F → Turns ready b xs due links F
-        → Turns (ready || leb 3 (b + first (suc i))) (b + first (suc i)) xs (suc i) l (gathered F t l)
-    turns-old ready b F fr w =
-        either ready (b + first (suc i)) xs (suc i) l (gathered F t l) (λ e. right-old F (w .rightly e)) (round-old b F fr (w .round) (ℕ-discrete i 0))
+    -- in the configuration of the start
+    alone-took : (s : List ℕ) → Took s xs (suc i) l → Dec (i ≡ 0) → Alone (0 + first (suc i)) xs (suc i) l s
+    alone-took s (wholly h la) d = rightly (present l hl (omega (arith, hi)) la h)
+    alone-took s (partly j n p q d h) (yes z) =
+        running (ap (λ (x : ℕ). 0 + x) (first-one i z)) (omega arith) (omega (arith, hi)) (one-held s j n z p d h)
+    alone-took s (partly j n p q d h) (no z) = open-yet (ap (λ (x : ℕ). 0 + x) (first-none i z)) (h .whole)
+
+    alone-old : (b : ℕ) (F : List ℕ) → Front a hears n e id due F → Alone b xs due links F → Dec (i ≡ 0) → Alone (b + first (suc i)) xs (suc i) l (gathered F t l)
+    alone-old b F fr (open-yet z w) d =
+        subst (λ (x : ℕ). Alone (x + first (suc i)) xs (suc i) l (gathered F t l)) (sym z)
+        (alone-took (gathered F t l) (part-takes xs f i hi l hl F due follows (part-of F fr w)) d)
+    alone-old b F fr (running z p r h) (yes q) =
+        rightly (present l hl (omega (arith, hi)) (inr (completes-last xs f i hi l F due links p h (ends-at p q) q)) (first-completes xs f i hi l F due links p h (ends-at p q) q))
+    alone-old b F fr (running z p r h) (no q) =
+        running (ap₂ _+_ z (first-none i q)) (omega arith) (omega (arith, hi))
+        (first-joins xs f i hi l F due links p h (goes-at p q) (same-links p (goes-at p q)))
+    alone-old b F fr (rightly r) d = rightly (right-old F r)
+
+    pub turns-old : (ready alone : Bool) (b : ℕ) (F : List ℕ) → Front a hears n e id due F → Turns ready alone b xs due links F
+        → Turns (ready || found alone (b + first (suc i))) alone (b + first (suc i)) xs (suc i) l (gathered F t l)
+    turns-old ready alone b F fr w =
+        either ready alone (b + first (suc i)) xs (suc i) l (gathered F t l) (λ e. right-old F (w .rightly e)) (round-old b F fr (w .round) (ℕ-discrete i 0))
+        (λ e. alone-old b F fr (w .only e) (ℕ-discrete i 0))
 
 -- ---- the announced structure
 

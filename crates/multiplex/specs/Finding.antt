@@ -6,6 +6,8 @@
 --                          frame missed since
 --   newRoundsBefore, newRoundsTo    the same of its coming structure
 --   whollyBefore           every frame of the running configuration was heard so far, and the one before its first, if any was before
+--   aloneBefore            every frame that was heard is of the running configuration, and none was missed since the first of them
+--   found alone n          so many beginnings are enough
 --   news                   something was said of the component's change in the running configuration
 --   readyBefore, readyTo   it must be shown rightly
 --   Finds M
@@ -55,6 +57,13 @@ whollyBefore a hears zero = change (timed a) zero
 whollyBefore a hears (suc t) =
     cond (hears t) (change (timed a) (suc t) || whollyBefore a hears t) (cond (anyBefore hears t) false (change (timed a) (suc t)))
 
+unfoldable pub aloneBefore : Air → (ℕ → Bool) → ℕ → Bool
+aloneBefore a hears zero = true
+aloneBefore a hears (suc t) = cond (hears t) (not (change (timed a) (suc t)) && aloneBefore a hears t) (not (anyBefore hears t))
+
+unfoldable pub found : Bool → ℕ → Bool
+found alone n = leb 3 n || (alone && leb 2 n)
+
 unfoldable pub news : Air → ℕ → ℕ → Bool
 news a id t = ltb 0 (newTo a id t) || goneTo a id t
 
@@ -69,17 +78,17 @@ overChange there ready a hears id t = leb 2 (newRoundsTo a hears id t)
 
 -- A start finds nothing, which is right of a component that there is not. From then on: it stays right from frame to frame; at a change behind a
 -- configuration that was wholly heard, it is right if it was so before or the change was announced; and from the third beginning of a
--- repetition within one configuration on, whatever was heard or missed before.
+-- repetition within one configuration on, whatever was heard or missed before, or from the second in the configuration of the start.
 unfoldable pub readyBefore : Air → (ℕ → Bool) → ℕ → ℕ → Bool
 readyBefore a hears id zero = not (some (inForce a zero id))
 readyBefore a hears id (suc t) =
-    let ready = readyBefore a hears id t || leb 3 (roundsTo a hears id t) in
+    let ready = readyBefore a hears id t || found (aloneBefore a hears t) (roundsTo a hears id t) in
     cond (hears t)
     (cond (change (timed a) (suc t)) (cond (whollyBefore a hears t) (ready || news a id t) (overChange (comingTo a hears id t) ready a hears id t)) ready)
     (cond (anyBefore hears t) false (not (some (inForce a (suc t) id))))
 
 abbrev pub readyTo : Air → (ℕ → Bool) → ℕ → ℕ → Bool
-readyTo a hears id t = readyBefore a hears id t || leb 3 (roundsTo a hears id t)
+readyTo a hears id t = readyBefore a hears id t || found (aloneBefore a hears t) (roundsTo a hears id t)
 
 pub record Rightly (M : Machine) (a : Air) (hears : ℕ → Bool) (t u id : ℕ) : Type 0 where
   pub number : M .number (kept M a hears (suc t)) id (countAt (timed a) u) ≡ 0

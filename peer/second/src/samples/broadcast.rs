@@ -162,14 +162,14 @@ impl Broadcast {
             _ => old,
         };
         let full = self.next.len() >= style.most;
-        let (id, ones, list) = match (self.present.get(&id), random.below(9)) {
+        let (id, ones, list) = match (self.present.get(&id), random.below(10)) {
             (_, 0) => (id, 1, vec![]),
             // There is no room for one that comes, so another goes.
             (None, _) if full => (old, 1, vec![]),
             (Some(list), 1) => (id, random.below(2), list.clone()),
             (Some(list), 2 | 3) if style.alters() => (id, 0, altered(random, list)),
-            (Some(list), 4 | 5) => (id, 0, reduced(random, list)),
-            (_, 6) => (id, 1 + random.below(2), style.list(random)),
+            (Some(list), 4..=6) => (id, 0, reduced(random, list)),
+            (_, 7) => (id, 1 + random.below(2), style.list(random)),
             _ => (id, 0, style.list(random)),
         };
         let taken = self.speakers.iter().any(|speaker| speaker.id == id);

@@ -39,6 +39,8 @@ pub struct Seen {
     pub stale: usize,
     pub unfinished: usize,
     pub third: usize,
+    /// Of these, where a list that had been whole and wrong was begun anew.
+    pub healed: usize,
     pub second: usize,
     pub kept: usize,
     pub kept_over_change: usize,
@@ -95,14 +97,16 @@ impl Laws {
     pub fn hear(&mut self, frame: &Frame, seen: &mut Seen) {
         self.change(frame);
         let about = about(frame.sent);
-        let whole = self.values.show(about, frame.count).length > 0;
+        let before = self.values.show(about, frame.count);
         let number = take(&mut self.map, &frame.field);
         self.values = Map::decode(&self.map).expect("a good map");
         if number != DONE {
             seen.broken.push(("F", about, number.to_string()));
         }
         self.past.hear(frame);
-        self.stories[usize::from(about)].hear(frame, whole);
+        let wrong = before.length > 0 && !self.is_right(&before, truth(frame, about, 0));
+        let story = &mut self.stories[usize::from(about)];
+        story.hear(frame, before.length > 0, wrong);
         seen.frames += 1;
         self.check(frame, seen);
         self.look_back(frame);
@@ -134,6 +138,8 @@ impl Laws {
                 self.check_ahead(frame, id, ahead, seen);
             }
         }
+        let story = &self.stories[usize::from(about(frame.sent))];
+        seen.healed += usize::from(story.healed(frame));
         for ahead in 0..=128 {
             self.check_ahead(frame, about(frame.sent), ahead, seen);
         }

@@ -43,9 +43,9 @@ impl Ear {
         let habit = match habit % 8 {
             0 => Habit::HearsAll,
             1 => Habit::About,
-            2 | 3 => Habit::OneAbout(0),
-            4 => Habit::One(lost),
-            5 => Habit::NoNews(true),
+            2 => Habit::OneAbout(0),
+            3 => Habit::One(lost),
+            4 | 5 => Habit::NoNews(true),
             _ => Habit::Some(lost),
         };
         Ear {
@@ -132,6 +132,7 @@ fn the_laws_hold() {
     assert!(seen.stale > 10_000, "{seen:?}");
     assert!(seen.unfinished > 1_000_000, "{seen:?}");
     assert!(seen.third > 10_000, "{seen:?}");
+    assert!(seen.healed > 20, "{seen:?}");
     assert!(seen.second > 5_000, "{seen:?}");
     assert!(seen.kept > 100_000, "{seen:?}");
     assert!(seen.kept_over_change > 500, "{seen:?}");

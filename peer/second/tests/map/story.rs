@@ -78,6 +78,8 @@ pub struct Story {
     went: bool,
     /// How often a repetition began since a frame was missed or the configuration began.
     pub beginnings: usize,
+    /// Whether the map held a whole list at the first of these that was wrong.
+    wrong: bool,
     /// Whether the map held no whole list at one of these beginnings, and whether another came behind that.
     bare: bool,
     pub second: bool,
@@ -104,12 +106,13 @@ impl Story {
 
     pub fn miss(&mut self) {
         self.beginnings = 0;
+        self.wrong = false;
         self.bare = false;
         self.second = false;
     }
 
-    /// A field of it was heard; before, the map held a whole list of it, or not.
-    pub fn hear(&mut self, frame: &Frame, whole: bool) {
+    /// A field of it was heard; before, the map held a whole list of it, or not, and a wrong one.
+    pub fn hear(&mut self, frame: &Frame, whole: bool, wrong: bool) {
         match frame.sent {
             Sent::New(..) => {
                 self.announced = true;
@@ -124,7 +127,10 @@ impl Story {
                 self.there = false;
                 self.open.clear();
             }
-            Sent::Old(id, place) => self.describe(frame.present[&id][place], place, whole),
+            Sent::Old(id, place) => {
+                self.wrong |= wrong && place == 0 && self.beginnings == 0;
+                self.describe(frame.present[&id][place], place, whole);
+            }
             Sent::Panning => {}
         }
     }
@@ -137,6 +143,11 @@ impl Story {
             self.second |= self.bare;
             self.bare |= !whole;
         }
+    }
+
+    /// Whether this is the third beginning, and at the first a whole list was wrong.
+    pub fn healed(&self, frame: &Frame) -> bool {
+        matches!(frame.sent, Sent::Old(_, 0)) && self.beginnings == 3 && self.wrong
     }
 
     /// Whether these may be taken for its fields in a frame up to the next change, or behind it, where they truly are others.
