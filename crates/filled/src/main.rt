@@ -1,4 +1,5 @@
-// A map of 128 components, on the calls: a further one is refused, and one goes and one comes in either order.
+// A map of 128 components, on the calls: a further one is refused where all of them are certain, and taken in where they are not; one
+// goes and one comes in either order.
 //
 // sets     the components in force, and those announced
 use libc::STDOUT_FILENO;
