@@ -2,6 +2,8 @@
 // been deleted unheard.
 use field::Field;
 use hearing::call;
+use hearing::script::idle;
+use hearing::script::run;
 use libc::STDOUT_FILENO;
 use trial::text;
 
@@ -65,17 +67,6 @@ fn fill(map: &mut [u8], first: u8, flag: u8) -> u32 {
     taken
 }
 
-// So many frames with fields of no component.
-fn idle(map: &mut [u8], first: u8, frames: u8) {
-    let mut count = first;
-    let mut k: u8 = 0;
-    while k < frames {
-        call::taken(map, call::panning(count));
-        count = std::num::wrapping_add_u8(count, 1);
-        k += 1;
-    }
-}
-
 // The change puts all 128 in force for certain, and one more is refused. In another block of the last frame it is not looked at.
 fn further(mut map: [u8; 36356]) {
     let before = map;
@@ -111,7 +102,8 @@ fn either_order(map: [u8; 36356]) {
 fn changed(map: &mut [u8]) {
     listed(map, 2);
     call::told(b"201 in 133", map, some(133, 0, 201));
-    idle(map, 133, 125);
+    idle(map, 133, 255);
+    run(map, 255, &[0, 0, 0]);
     listed(map, 2);
     call::told(b"201 in 2", map, some(2, 0, 201));
 }
@@ -119,7 +111,7 @@ fn changed(map: &mut [u8]) {
 // 127 frames missed, and a change among them: what is in force is not certain any more, and 127 others are taken in. 255 in force are
 // more than there may be, so deletions were missed. Nothing is known of the one number that is left, 129.
 fn missed(map: &mut [u8]) {
-    idle(map, 131, 1);
+    idle(map, 131, 132);
     text::line(b"taken", fill(map, 3, 0) as u64);
     listed(map, 129);
 }
