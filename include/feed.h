@@ -186,13 +186,14 @@ uint8_t feed_map_take(uint8_t *map, size_t map_len, const uint8_t *field, size_t
  * field in rising order; where *len is 0 there is no such component, or it is not known. The part is good until the map is next changed.
  * *announced is 1 where something new was said of the component since the last change, and then *frames is in how many frames behind
  * the last field's the change comes, 1 to 128; both are given with 46, too.
- * *unknown is 1 where the map has not heard enough to say that there is no such component: nothing came of it in this configuration, not
- * even that it is deleted, and fewer than 255 frames were heard in a row since the start or the last missed one. That so many are
- * enough, a little over ten seconds, is a rule of the house: the standard does not say how often a component has to be sent.
+ * *unknown is 1 where *len is 0 and the map has not heard enough to say that there is no such component. It has where all ones came of
+ * it: without the flag, in that frame's configuration; with the flag, in the one before, if every frame of that was heard, to the last.
+ * And it has after 255 frames in a row since the start or the last missed one, a little over ten seconds: that these are enough is a
+ * rule of the house, as the standard does not say how often a component has to be sent.
  * Refused, in this order: 20, 34, 46 (fields were heard, but it is not known that these are all: that is known when the first of them
  * comes again, and of announced ones at the change, if every frame of the configuration before it was heard and they were not begun
- * anew on the way, so that none of them came before the first one; a frame missed on the way has the gathering begin anew). With 20
- * and 34 every value is 0, with 46 *at and *len are.
+ * anew on the way, since what came before may belong to them; a frame missed on the way has the gathering begin anew). With 20 and 34
+ * every value is 0, with 46 *at, *len and *unknown are.
  */
 uint8_t feed_map_show(const uint8_t *map, size_t map_len, uint8_t id, uint8_t count, size_t *at, size_t *len, uint8_t *announced,
                       uint8_t *frames, uint8_t *unknown);
