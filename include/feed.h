@@ -49,7 +49,7 @@
 #define FEED_LAST_ADDRESS 1022
 
 /* A map, in bytes; a field of TDM control; the marks of a list, one for each component. */
-#define FEED_MAP 34819
+#define FEED_MAP 36356
 #define FEED_MAP_FIELD 10
 #define FEED_MAP_LIST 256
 /* All ones: an undefined line, an undefined clock period. The component number that announces panning vectors. */
@@ -171,33 +171,57 @@ uint8_t feed_map_start(uint8_t *map, size_t map_len);
  * this one's, by their counts: up to 127 frames may be missed in a row. A field with the last one's count, all eight bits of it, is one
  * of the same frame's five blocks: it changes nothing. Panning vectors only move the count. A list of fields that is being gathered
  * while a frame is missed, or over a change of whose configuration not every frame was heard, is begun anew: no part of a structure is
- * ever shown as the whole.
+ * ever shown as the whole. So is a whole one by a field that does not come in turn: its fields come one behind the other, the first
+ * behind the last, and a field that is left out, or that it has not, means that the structure is another one.
  * Refused, in this order, and then the map stays as it was: 20, 34, 44 (first after last, or last alone all ones; panning vectors
- * never), 45 (a further component where its set, old or new, has 128).
+ * never), 45 (a further component: with the flag where 128 others are announced; without it where 128 others are in force for certain,
+ * that is, a field of each was heard in the running configuration, or a change before which every frame was heard put it in force).
  */
 uint8_t feed_map_take(uint8_t *map, size_t map_len, const uint8_t *field, size_t field_len);
 
 /*
  * What is known of a component in the frame with a count, which is taken as the next frame with it modulo 128, from the last field's
- * frame on, up to 128 frames later: the last count itself asks for the frame that has ended, the next one for the frame that runs, further
- * ones for what is announced. With 0 the structure's fields are the part of the map from *at on, *len bytes long, eight bytes a field in rising order;
- * where *len is 0 nothing was heard of the component since the start, or all ones were heard of it last: a map that was started a moment
- * ago does not know yet which components there are. The part is good until the map is next changed.
+ * frame on, up to 128 frames later: the last count itself asks for the frame that has ended, the next one for the frame that runs,
+ * further ones for what is announced. With 0 the structure's fields are the part of the map from *at on, *len bytes long, eight bytes a
+ * field in rising order; where *len is 0 there is no such component, or it is not known. The part is good until the map is next changed.
  * *announced is 1 where something new was said of the component since the last change, and then *frames is in how many frames behind
  * the last field's the change comes, 1 to 128; both are given with 46, too.
+ * *unknown is 1 where *len is 0 and the map has not heard enough to say that there is no such component. It has where all ones came of
+ * it: without the flag, in that frame's configuration; with the flag, in the one before, if every frame of that was heard, to the last.
+ * And it has after 255 frames in a row since the start or the last missed one, a little over ten seconds: that these are enough is a
+ * rule of the house, as the standard does not say how often a component has to be sent.
  * Refused, in this order: 20, 34, 46 (fields were heard, but it is not known that these are all: that is known when the first of them
- * comes again, and of announced ones at the change, if every frame of the configuration before it was heard; a frame missed on the
- * way has the gathering begin anew). With 20 and 34 every value is 0, with 46 *at and *len are.
+ * comes again, and of announced ones at the change, if every frame of the configuration before it was heard and they were not begun
+ * anew on the way, since what came before may belong to them; a frame missed on the way has the gathering begin anew). With 20 and 34
+ * every value is 0, with 46 *at, *len and *unknown are.
  */
 uint8_t feed_map_show(const uint8_t *map, size_t map_len, uint8_t id, uint8_t count, size_t *at, size_t *len, uint8_t *announced,
-                      uint8_t *frames);
+                      uint8_t *frames, uint8_t *unknown);
 
 /*
  * A mark for each component in the frame with a count, as feed_map_show has it: out[id] is 1 where its structure is whole, 2 where it
- * is unfinished, 0 where nothing was heard of it or all ones were heard last. out_len is 256.
+ * is unfinished, 0 where there is none, 3 where the map has not heard enough to say that there is none. out_len is 256.
  * Refused, in this order, and then out stays as it was: 20, 34.
  */
 uint8_t feed_map_list(const uint8_t *map, size_t map_len, uint8_t count, uint8_t *out, size_t out_len);
+
+/*
+ * The fields that were heard so far of a component's structure in the frame with a count, where feed_map_show still answers 46, too:
+ * asked for a frame behind the next change, it tells where a component moves to from the first field of its announcement on. They are
+ * the part of the map from *at on, *len bytes long, at most eight fields; *whole is 1 where they are known to be all. *len is 0 where
+ * none was heard, or none since the gathering was begun anew.
+ * Refused, in this order, and then every value is 0: 20, 34.
+ */
+uint8_t feed_map_heard(const uint8_t *map, size_t map_len, uint8_t id, uint8_t count, size_t *at, size_t *len, uint8_t *whole);
+
+/*
+ * How far what was heard reaches. *row is how many frames were heard in a row since the start or the last missed one, up to 255, from
+ * where on *unknown above is 0; *unbroken is 1 where every frame of the running configuration was heard, up to the last one.
+ * *components is how many components are in force in the frame with a count, whole or unfinished: a multiplex never has more than 128,
+ * so that more than 128 mean that deletions were missed, and some that are shown are gone.
+ * Refused, in this order, and then every value is 0: 20, 34.
+ */
+uint8_t feed_map_known(const uint8_t *map, size_t map_len, uint8_t count, uint8_t *row, uint8_t *unbroken, size_t *components);
 
 /*
  * A field, taken apart.

@@ -36,7 +36,7 @@ pub fn print() {
     row(&FTXT_ROW);
     row(&DELETION_ROW);
     io::write_all(STDOUT_FILENO, b"the transition of figure C.2\n");
-    let mut map = [7u8; 34819];
+    let mut map = [7u8; 36356];
     text::line(b"start", map::start(&mut map) as u64);
     text::line(b"refused", transition(&mut map) as u64);
 }
@@ -136,13 +136,17 @@ fn transition(map: &mut [u8]) -> u32 {
     refused
 }
 
-// What is known of the two, for a frame and for the next: count, number, bytes, whether it is announced, and in how many frames.
+// What is known of the two, for a frame and for the next: count, number, bytes, whether it is announced, and in how many frames, and
+// whether nothing is known. Frames are heard from the middle of the configuration on: before the change nothing is known of 32, and
+// behind it only that 33 was to be deleted, as something more may have been said of it before. The first line of 32 is heard with the
+// first field that announces it: count, number, bytes, whether they are known to be all, and the line.
 fn told(map: &[u8], count: u8) {
     match count {
         118 | 126 | 128 | 129 | 130 => {
             text::line(b"behind", count as u64);
             both(map, count);
             both(map, std::num::wrapping_add_u8(count, 1));
+            call::heard(b"  32 heard for", map, 32, 130);
         }
         _ => {}
     }

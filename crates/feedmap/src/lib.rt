@@ -2,7 +2,7 @@
 // through what is lent to it. Every call is answered, whatever it is given.
 ghost use mathlib.Core.Path.{_≡_};
 ghost use Rattle.field.specs.Field.{readNumber, readField, writeNumber, writtenAfter, packNumber, packed, unpackNumber, unpacked};
-ghost use Rattle.map.specs.Calls.{startAnswer, startAfter, takeAnswer, takeAfter, shown, listAnswer, listAfter};
+ghost use Rattle.map.specs.Calls.{startAnswer, startAfter, takeAnswer, takeAfter, shown, listAnswer, listAfter, heard, known};
 ghost use Rattle.feedmap.specs.Made.{fieldMade, tdmsMade};
 use field::Field;
 use field::Tdms;
@@ -25,7 +25,7 @@ pub extern "C" fn feed_map_take(map: &mut [u8], field: &[u8]) -> u8
     map::take(map, field)
 }
 
-// 20, 34, 46; with 0 the place and the length of the fields in the map.
+// 20, 34, 46; with 0 the place and the length of the fields in the map, and whether it is not known yet that there is none.
 #[no_mangle]
 pub extern "C" fn feed_map_show(
     map: &[u8],
@@ -35,18 +35,21 @@ pub extern "C" fn feed_map_show(
     len: &mut usize,
     announced: &mut u8,
     frames: &mut u8,
+    unknown: &mut u8,
 ) -> u8
     ensures { λ r. ⌜ r ≡ shown (now (map .entry)) id count .number ⌝ }
     ensures { λ _. ⌜ now (at .exit) ≡ shown (now (map .entry)) id count .at ⌝ }
     ensures { λ _. ⌜ now (len .exit) ≡ shown (now (map .entry)) id count .len ⌝ }
     ensures { λ _. ⌜ now (announced .exit) ≡ shown (now (map .entry)) id count .announced ⌝ }
     ensures { λ _. ⌜ now (frames .exit) ≡ shown (now (map .entry)) id count .frames ⌝ }
+    ensures { λ _. ⌜ now (unknown .exit) ≡ shown (now (map .entry)) id count .unknown ⌝ }
 {
     let answer = map::show(map, id, count);
     *at = answer.at;
     *len = answer.len;
     *announced = answer.announced;
     *frames = answer.frames;
+    *unknown = answer.unknown;
     answer.number
 }
 
@@ -57,6 +60,50 @@ pub extern "C" fn feed_map_list(map: &[u8], count: u8, out: &mut [u8]) -> u8
     ensures { λ _. ⌜ now (out .exit) ≡ listAfter (now (map .entry)) count (now (out .entry)) ⌝ }
 {
     map::list(map, count, out)
+}
+
+// 20, 34; with 0 the place and the length of the fields that were heard, and whether they are known to be all.
+#[no_mangle]
+pub extern "C" fn feed_map_heard(
+    map: &[u8],
+    id: u8,
+    count: u8,
+    at: &mut usize,
+    len: &mut usize,
+    whole: &mut u8,
+) -> u8
+    ensures { λ r. ⌜ r ≡ heard (now (map .entry)) id count .number ⌝ }
+    ensures { λ _. ⌜ now (at .exit) ≡ heard (now (map .entry)) id count .at ⌝ }
+    ensures { λ _. ⌜ now (len .exit) ≡ heard (now (map .entry)) id count .len ⌝ }
+    ensures { λ _. ⌜ now (whole .exit) ≡ heard (now (map .entry)) id count .whole ⌝ }
+{
+    let gathered = map::heard(map, id, count);
+    *at = gathered.at;
+    *len = gathered.len;
+    *whole = gathered.whole;
+    gathered.number
+}
+
+// 20, 34; with 0 the frames that were heard in a row, whether those of the running configuration were all heard, and how many
+// components are in force.
+#[no_mangle]
+pub extern "C" fn feed_map_known(
+    map: &[u8],
+    count: u8,
+    row: &mut u8,
+    unbroken: &mut u8,
+    components: &mut usize,
+) -> u8
+    ensures { λ r. ⌜ r ≡ known (now (map .entry)) count .number ⌝ }
+    ensures { λ _. ⌜ now (row .exit) ≡ known (now (map .entry)) count .row ⌝ }
+    ensures { λ _. ⌜ now (unbroken .exit) ≡ known (now (map .entry)) count .unbroken ⌝ }
+    ensures { λ _. ⌜ now (components .exit) ≡ known (now (map .entry)) count .components ⌝ }
+{
+    let reach = map::known(map, count);
+    *row = reach.row;
+    *unbroken = reach.unbroken;
+    *components = reach.components;
+    reach.number
 }
 
 // 20, and then every value is 0.

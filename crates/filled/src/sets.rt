@@ -1,16 +1,24 @@
-// 128 components in force, as many as there may be: 45 for a further one, unless another is to be deleted.
+// 128 components, as many as there may be: 45 for a further one where 128 others are certain, and only there, since others may have
+// been deleted unheard.
 use field::Field;
 use hearing::call;
+use hearing::script::idle;
+use hearing::script::run;
 use libc::STDOUT_FILENO;
 use trial::text;
 
 pub fn print() {
-    io::write_all(STDOUT_FILENO, b"128 components in force\n");
-    let mut map = [0u8; 34819];
-    text::line(b"taken", fill(&mut map) as u64);
+    io::write_all(STDOUT_FILENO, b"128 components announced\n");
+    let mut map = [0u8; 36356];
+    text::line(b"taken", fill(&mut map, 2, 1) as u64);
+    listed(&map, 129);
+    listed(&map, 130);
     further(map);
+    set_back(map);
+    call::told(b"5 in 130", &mut map, some(130, 0, 5));
+    call::told(b"200 in 131", &mut map, some(131, 0, 200));
     either_order(map);
-    only_deleted(map);
+    missed(&mut map);
 }
 
 // One field of a component.
@@ -35,81 +43,106 @@ fn gone(count: u8) -> Field {
     }
 }
 
-// The components 0 to 127, each in the frame with its own count: how many are taken in.
-fn fill(map: &mut [u8]) -> u32 {
+// The component that comes in the frame with a count. Announced are 0 to 127, with counts from 2 on; of those that come later the first
+// is 128, with count 3. 129 is no component's number, but panning's.
+fn component(count: u8, flag: u8) -> u8 {
+    if flag == 1 {
+        std::num::wrapping_sub_u8(count, 2)
+    } else if count == 3 {
+        128
+    } else {
+        std::num::wrapping_add_u8(count, 126)
+    }
+}
+
+// One component in each frame up to that with count 129: how many are taken in.
+fn fill(map: &mut [u8], first: u8, flag: u8) -> u32 {
     let mut taken: u32 = 0;
-    let mut k: u8 = 0;
-    while k < 128 {
-        let number = call::taken(map, some(k, 0, k));
+    let mut count = first;
+    while count < 130 {
+        let number = call::taken(map, some(count, flag, component(count, flag)));
         taken = std::num::wrapping_add_u32(taken, call::one_if(number == 0));
-        k += 1;
+        count += 1;
     }
     taken
 }
 
-// Refused in the next frame; in another block of the last one it is not looked at, and one of the 128 is none too many.
-fn further(mut map: [u8; 34819]) {
+// The change puts all 128 in force for certain, and one more is refused. In another block of the last frame it is not looked at.
+fn further(mut map: [u8; 36356]) {
     let before = map;
-    call::told(b"200 in 128", &mut map, some(128, 0, 200));
-    call::told(b"200 in 127", &mut map, some(127, 0, 200));
+    call::told(b"200 in 129", &mut map, some(129, 0, 200));
+    call::told(b"200 in 130", &mut map, some(130, 0, 200));
     text::line(b"as it was", call::same(&map, &before));
-    call::told(b"5 in 128", &mut map, some(128, 0, 5));
 }
 
-// One is announced and another is announced to be deleted, and the other way round. Behind the change there are 128 again.
-fn either_order(map: [u8; 34819]) {
+// A configuration has 128 frames, so that a 129th cannot be announced in it; in a map whose last count is set back it can. One that is
+// to be deleted is not counted.
+fn set_back(mut map: [u8; 36356]) {
+    map[36352] = 100;
+    call::told(b"200 announced in 101", &mut map, some(101, 1, 200));
+    call::told(b"5 deleted in 101", &mut map, gone(101));
+    call::told(b"200 announced in 102", &mut map, some(102, 1, 200));
+}
+
+// One is announced and another is announced to be deleted, and the other way round. Until the change there are 128 for certain, and
+// behind it only the one that was announced.
+fn either_order(map: [u8; 36356]) {
     let mut one = map;
-    call::told(b"5 deleted in 128", &mut one, gone(128));
-    call::told(b"200 announced in 129", &mut one, some(129, 1, 200));
+    call::told(b"5 deleted in 131", &mut one, gone(131));
+    call::told(b"200 announced in 132", &mut one, some(132, 1, 200));
     let mut two = map;
-    call::told(b"200 announced in 128", &mut two, some(128, 1, 200));
-    call::told(b"5 deleted in 129", &mut two, gone(129));
+    call::told(b"200 announced in 131", &mut two, some(131, 1, 200));
+    call::told(b"5 deleted in 132", &mut two, gone(132));
     text::line(b"the same map", call::same(&one, &two));
     changed(&mut one);
-    text::line(b"the same map", call::same(&one, &two));
 }
 
+// Asked behind 132, more can come of 5 and of 200: the one is not known, the other unfinished. Behind the configuration's last frame
+// both are certain, and as 256 frames were heard in a row, none of the others is there.
 fn changed(map: &mut [u8]) {
-    call::told(b"201 in 130", map, some(130, 0, 201));
-    call::told(b"200 in 130", map, some(130, 0, 200));
-    listed(map);
+    listed(map, 2);
+    call::told(b"201 in 133", map, some(133, 0, 201));
+    idle(map, 133, 255);
+    run(map, 255, &[0, 0, 0]);
+    listed(map, 2);
+    call::told(b"201 in 2", map, some(2, 0, 201));
 }
 
-// With the deletion alone there are 127 behind the change, and the frame that brings it may bring one more.
-fn only_deleted(mut map: [u8; 34819]) {
-    call::told(b"5 deleted in 128", &mut map, gone(128));
-    call::told(b"201 in 129", &mut map, some(129, 0, 201));
-    call::told(b"panning in 129", &mut map, call::panning(129));
-    call::told(b"201 in 130", &mut map, some(130, 0, 201));
-    listed(&map);
+// 127 frames missed, and a change among them: what is in force is not certain any more, and 127 others are taken in. 255 in force are
+// more than there may be, so deletions were missed. Nothing is known of the one number that is left, 129.
+fn missed(map: &mut [u8]) {
+    idle(map, 131, 132);
+    text::line(b"taken", fill(map, 3, 0) as u64);
+    listed(map, 129);
 }
 
-// Marks in the frame with the change: 2 for those heard once.
-fn listed(map: &[u8]) {
+// How many components have each mark in the frame with a count, and how many are in force.
+fn listed(map: &[u8], count: u8) {
     let mut out = [9u8; 256];
-    text::line(b"list", map::list(map, 130, &mut out) as u64);
-    text::line(b"  marked", marked(&out) as u64);
-    marks(&out);
+    let number = map::list(map, count, &mut out);
+    call::numbers(
+        b"list: count, number, none, whole, unfinished, not known",
+        &[
+            count as u64,
+            number as u64,
+            marked(&out, 0) as u64,
+            marked(&out, 1) as u64,
+            marked(&out, 2) as u64,
+            marked(&out, 3) as u64,
+        ],
+    );
+    call::known(
+        b"  known: count, number, row, unbroken, components",
+        map,
+        count,
+    );
 }
 
-fn marks(out: &[u8]) {
-    if 201 < out.len() {
-        call::numbers(
-            b"  4, 5, 200, 201",
-            &[wide(out[4]), wide(out[5]), wide(out[200]), wide(out[201])],
-        );
-    }
-}
-
-fn wide(mark: u8) -> u64 {
-    mark as u64
-}
-
-fn marked(out: &[u8]) -> u32 {
+fn marked(out: &[u8], mark: u8) -> u32 {
     let mut marked: u32 = 0;
     let mut k: usize = 0;
     while k < out.len() {
-        marked = std::num::wrapping_add_u32(marked, call::one_if(out[k] != 0));
+        marked = std::num::wrapping_add_u32(marked, call::one_if(out[k] == mark));
         k += 1;
     }
     marked

@@ -55,6 +55,37 @@ pub fn shown(label: &[u8], map: &[u8], id: u8, count: u8) {
             shown.len as u64,
             shown.announced as u64,
             shown.frames as u64,
+            shown.unknown as u64,
+        ],
+    );
+}
+
+// What was heard of a component: number, bytes, whether they are known to be all, and the first line of the first field.
+pub fn heard(label: &[u8], map: &[u8], id: u8, count: u8) {
+    let heard = map::heard(map, id, count);
+    numbers(
+        label,
+        &[
+            count as u64,
+            heard.number as u64,
+            heard.len as u64,
+            heard.whole as u64,
+            first_line(map, heard.at, heard.len),
+        ],
+    );
+}
+
+// How far what was heard reaches: number, frames in a row, whether the configuration was heard from its beginning, and components.
+pub fn known(label: &[u8], map: &[u8], count: u8) {
+    let known = map::known(map, count);
+    numbers(
+        label,
+        &[
+            count as u64,
+            known.number as u64,
+            known.row as u64,
+            known.unbroken as u64,
+            known.components as u64,
         ],
     );
 }
@@ -67,10 +98,14 @@ pub fn fields_of(map: &[u8], id: u8, count: u8) -> u64 {
 // The first line of its first field; 0 where it is not there, and no component asked for here begins at line 0.
 pub fn line_of(map: &[u8], id: u8, count: u8) -> u64 {
     let shown = map::show(map, id, count);
-    if shown.len == 0 {
+    first_line(map, shown.at, shown.len)
+}
+
+fn first_line(map: &[u8], at: usize, len: usize) -> u64 {
+    if len == 0 {
         return 0;
     }
-    field_at(map, shown.at, 0) % 1024
+    field_at(map, at, 0) % 1024
 }
 
 // Field k of those that are shown from a place on; 0 where the map ends before.

@@ -14,6 +14,8 @@ pub fn print() {
     every_length();
     io::write_all(STDOUT_FILENO, b"maps that are not good\n");
     bad_maps();
+    io::write_all(STDOUT_FILENO, b"maps that are good\n");
+    good_maps();
     io::write_all(STDOUT_FILENO, b"linked fields\n");
     linked(1);
     linked(8);
@@ -48,7 +50,7 @@ fn announced(count: u8, k: u8) -> Field {
 }
 
 fn changes(first: u8) {
-    let mut map = [0u8; 34819];
+    let mut map = [0u8; 36356];
     let mut k: u8 = 0;
     while k < 7 {
         let count = std::num::wrapping_add_u8(first, k);
@@ -71,7 +73,7 @@ fn around(map: &[u8], count: u8, number: u8) {
 
 // 44, while a change is due: it does not come. Then pairs that are equal or all ones, which pass, and bring it.
 fn bad_pairs() {
-    let mut map = [0u8; 34819];
+    let mut map = [0u8; 36356];
     announce(&mut map);
     let before = map;
     pairs(&mut map, 0, 6);
@@ -159,9 +161,9 @@ fn even(x: u8) -> u8 {
 
 fn every_length() {
     io::write_all(STDOUT_FILENO, b"lengths\n");
-    wrong_length(&mut [7u8; 34818]);
-    wrong_length(&mut [7u8; 34820]);
-    lengths(&mut [0u8; 34819]);
+    wrong_length(&mut [7u8; 36355]);
+    wrong_length(&mut [7u8; 36357]);
+    lengths(&mut [0u8; 36356]);
 }
 
 // A byte too few, or one too many: 20, and nothing is touched.
@@ -171,16 +173,17 @@ fn wrong_length(map: &mut [u8]) {
     text::line(b"  as it was", call::all(map, 7));
 }
 
-// Take, show and list; a list that is refused leaves the output as it was.
+// Take, show, heard and known; and list, which leaves the output as it was where it is refused.
 fn calls(map: &mut [u8]) {
     let take = map::take(map, &[0u8; 10]);
     let show = map::show(map, 7, 0).number;
-    let mut out = [9u8; 256];
-    let list = map::list(map, 0, &mut out);
+    let heard = map::heard(map, 7, 0).number;
+    let known = map::known(map, 0).number;
     call::numbers(
-        b"  take, show, list, untouched",
-        &[take as u64, show as u64, list as u64, call::all(&out, 9)],
+        b"  take, show, heard, known",
+        &[take as u64, show as u64, heard as u64, known as u64],
     );
+    list(map, &mut [9u8; 256]);
 }
 
 // Fields and lists of other lengths than 10 and 256, and of these.
@@ -204,19 +207,30 @@ fn take(label: &[u8], map: &mut [u8], field: &[u8]) {
 
 fn list(map: &[u8], out: &mut [u8]) {
     let number = map::list(map, 0, out);
-    call::numbers(b"list, untouched", &[number as u64, call::all(out, 9)]);
+    call::numbers(b"  list, untouched", &[number as u64, call::all(out, 9)]);
 }
 
-// 34: more than nine fields; whole with none; deleted in force; heard, and missed, neither 0 nor 1.
+// 34: more than nine fields; whole with none; LINKS, late and certain neither 0 nor 1; deleted in force; heard, and unbroken, neither 0
+// nor 1.
 fn bad_maps() {
-    bad_map(0, 10);
-    bad_map(1, 1);
-    bad_map(3, 1);
-    bad_map(34817, 2);
-    bad_map(34818, 2);
+    one_byte(0, 10);
+    one_byte(1, 1);
+    one_byte(2, 2);
+    one_byte(3, 1);
+    one_byte(4, 2);
+    one_byte(6, 2);
+    one_byte(36353, 2);
+    one_byte(36354, 2);
 }
 
-fn bad_map(at: usize, value: u8) {
+// Any byte passes as the field that came last, as the last count and as the frames in a row.
+fn good_maps() {
+    one_byte(5, 255);
+    one_byte(36352, 255);
+    one_byte(36355, 255);
+}
+
+fn one_byte(at: usize, value: u8) {
     let mut map = spoilt(at, value);
     let before = map;
     text::line(b"byte", at as u64);
@@ -225,8 +239,8 @@ fn bad_map(at: usize, value: u8) {
 }
 
 // A map as it starts but for one byte.
-fn spoilt(at: usize, value: u8) -> [u8; 34819] {
-    let mut map = [0u8; 34819];
+fn spoilt(at: usize, value: u8) -> [u8; 36356] {
+    let mut map = [0u8; 36356];
     put(&mut map, at, value);
     map
 }
@@ -242,7 +256,7 @@ fn put(map: &mut [u8], at: usize, value: u8) {
 fn linked(fields: u8)
     requires { ⌜ 0 < fields ⌝ }
 {
-    let mut map = [0u8; 34819];
+    let mut map = [0u8; 36356];
     let mut k: u32 = 0;
     while k <= 2 * fields as u32 {
         let number = call::taken(&mut map, part(k, fields));

@@ -11,7 +11,7 @@ const FRAMES: u32 = 768;
 
 pub fn print() {
     io::write_all(STDOUT_FILENO, b"three wraps of the frame count\n");
-    let mut map = [7u8; 34819];
+    let mut map = [7u8; 36356];
     text::line(b"start", map::start(&mut map) as u64);
     run(&mut map);
 }
@@ -90,11 +90,13 @@ fn wrong_at(map: &[u8], count: u8, config: u32) -> u32 {
     wrong
 }
 
-// A component is shown as a configuration has it.
+// A component is shown as a configuration has it. The first one is heard from its second frame on, so that of what was not deleted yet
+// it is not known that it is not there; of the others every frame is heard, and what they do not have was deleted.
 fn right(map: &[u8], comp: u8, count: u8, config: u32) -> bool {
     let shown = map::show(map, plan::id(comp), count);
+    let known = (config == 0) | (shown.unknown == 0);
     let many = shown.len == 8 * plan::fields(comp, config) as usize;
-    (shown.number == 0) & (many & held(map, shown.at, comp, config))
+    (shown.number == 0) & (known & (many & held(map, shown.at, comp, config)))
 }
 
 // Its fields stand from a place on.
@@ -110,7 +112,8 @@ fn held(map: &[u8], at: usize, comp: u8, config: u32) -> bool {
 }
 
 // Frames around the first three changes, and the last one: the configuration that has begun; whether a move of component 1 is
-// announced, and in how many frames it comes; what is there, in this frame and in the next.
+// announced, and in how many frames it comes; frames in a row, whether all of the configuration were heard, and how many components
+// are in force; what is there, in this frame and in the next.
 fn told(map: &[u8], f: u32, frame: Frame) {
     match f {
         0 | 1 | 64 | 125 | 126 | 127 | 254 | 255 | 382 | 383 | 767 => {
@@ -123,6 +126,11 @@ fn told(map: &[u8], f: u32, frame: Frame) {
                     shown.announced as u64,
                     shown.frames as u64,
                 ],
+            );
+            call::known(
+                b"  known: count, number, row, unbroken, components",
+                map,
+                frame.count,
             );
             there(map, frame.count);
             there(map, next_count(frame));

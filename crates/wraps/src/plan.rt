@@ -115,10 +115,16 @@ fn new_field(frame: Frame) -> Field {
     }
 }
 
-// What is in force, each field four times, in another order; what is not in force is deleted again.
+// The last component's fields by turns with the others', and of each component "in increasing order".
+fn mixed(n: u8) -> u8 {
+    if n % 2 == 0 { 8 + n / 2 } else { n / 2 }
+}
+
+// What is in force, each field four times; what is not in force is deleted again. From the fourth turn on, so that a configuration
+// begins in the middle of the last component's fields.
 fn old_field(frame: Frame) -> Field {
-    let turn = frame.since / 2;
-    let pair = pair_at(((turn as u32 * 7 + 3) % 16) as u8);
+    let turn = frame.since / 2 + 3;
+    let pair = pair_at(mixed(turn % 16));
     let config = frame.config as u32;
     let tdms = if pair.k < fields(pair.comp, config) {
         tdms(pair.comp, config, pair.k)
@@ -130,6 +136,6 @@ fn old_field(frame: Frame) -> Field {
         flag: 0,
         id: id(pair.comp),
         tdms,
-        links: turn % 2,
+        links: turn / 16 % 2,
     }
 }

@@ -9,7 +9,7 @@ show-requires : tie.Need-show-requires
 show-requires c κs = search needs
 
 returns : tie.Need-returns
-returns c = (ap (λ (x : Shown). x .number) (c .show .ensures), (ap (λ (x : Shown). x .at) (c .show .ensures), (ap (λ (x : Shown). x .len) (c .show .ensures), (ap (λ (x : Shown). x .announced) (c .show .ensures), ap (λ (x : Shown). x .frames) (c .show .ensures)))))
+returns c = (ap (λ (x : Shown). x .number) (c .show .ensures), (ap (λ (x : Shown). x .at) (c .show .ensures), (ap (λ (x : Shown). x .len) (c .show .ensures), (ap (λ (x : Shown). x .announced) (c .show .ensures), (ap (λ (x : Shown). x .frames) (c .show .ensures), ap (λ (x : Shown). x .unknown) (c .show .ensures))))))
 
 pub feed-map-show-spec : {M : Type 1} → statement M
 feed-map-show-spec = tie.close (tie.spec show-requires returns)

@@ -1,7 +1,7 @@
 -- `filled::sets::fill` is safe and ends: the map stays as long as it was.
 -- Assumes nothing.
 use mathlib.Core.Path.{_≡_, refl}
-use Prim.Native.Nat.{_≤_, _-_}
+use Prim.Native.Nat.{_-_}
 use native.Mathlib.Omega.{arith}
 use lib.ListN.{length}
 use borrow.Author.Needs.{needs}
@@ -9,13 +9,16 @@ use Rattle.filled.proofs.sets.fill.Statement.{statement}
 use Rattle.filled.proofs.sets.fill.Tie as tie
 
 abbrev Inv-loop : tie.InvT-loop
-Inv-loop map₀ taken₀ k₀ map taken k = (k ≤ 128) × (length map ≡ length map₀)
+Inv-loop map₀ first flag taken₀ count₀ map taken count = length map ≡ length map₀
 
 abbrev μ-loop : tie.MeasureT-loop
-μ-loop map₀ taken₀ k₀ map taken k = 128 - k
+μ-loop map₀ first flag taken₀ count₀ map taken count = 130 - count
 
 loop-holds : tie.Need-loop-holds Inv-loop μ-loop
-loop-holds c = (omega arith, refl)
+loop-holds c = refl
+
+component-requires : tie.Need-component-requires Inv-loop μ-loop
+component-requires c κs = search needs
 
 some-requires : tie.Need-some-requires Inv-loop μ-loop
 some-requires c κs = search needs
@@ -29,8 +32,8 @@ one-if-requires c κs = search needs
 wrapping-add-u32-requires : tie.Need-wrapping-add-u32-requires Inv-loop μ-loop
 wrapping-add-u32-requires c κs = search needs
 
-add-k : tie.Need-add-k Inv-loop μ-loop
-add-k c = omega arith
+add-count : tie.Need-add-count Inv-loop μ-loop
+add-count c = omega arith
 
 loop-less : tie.Need-loop-less Inv-loop μ-loop
 loop-less c = omega arith
@@ -51,11 +54,12 @@ fill-spec =
     Inv-loop
     μ-loop
     loop-holds
+    component-requires
     some-requires
     taken-requires
     one-if-requires
     wrapping-add-u32-requires
-    add-k
+    add-count
     loop-less
     loop-again
     same-length

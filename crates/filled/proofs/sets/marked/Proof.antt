@@ -8,10 +8,10 @@ use Rattle.filled.proofs.sets.marked.Statement.{statement}
 use Rattle.filled.proofs.sets.marked.Tie as tie
 
 abbrev Inv-loop : tie.InvT-loop
-Inv-loop out marked₀ k₀ marked k = k ≤ length out
+Inv-loop out mark marked₀ k₀ marked k = k ≤ length out
 
 abbrev μ-loop : tie.MeasureT-loop
-μ-loop out marked₀ k₀ marked k = length out - k
+μ-loop out mark marked₀ k₀ marked k = length out - k
 
 loop-holds : tie.Need-loop-holds Inv-loop μ-loop
 loop-holds c = omega arith

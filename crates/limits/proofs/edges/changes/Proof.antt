@@ -9,7 +9,7 @@ use Rattle.limits.proofs.edges.changes.Statement.{statement}
 use Rattle.limits.proofs.edges.changes.Tie as tie
 
 abbrev Inv-loop : tie.InvT-loop
-Inv-loop first map₀ k₀ map k = (k ≤ 7) × (length map ≡ 34819)
+Inv-loop first map₀ k₀ map k = (k ≤ 7) × (length map ≡ 36356)
 
 abbrev μ-loop : tie.MeasureT-loop
 μ-loop first map₀ k₀ map k = 7 - k

@@ -9,7 +9,7 @@ use Rattle.limits.proofs.edges.linked.Statement.{statement}
 use Rattle.limits.proofs.edges.linked.Tie as tie
 
 abbrev Inv-loop : tie.InvT-loop
-Inv-loop fields map₀ k₀ map k = (k ≤ 2 * fields + 1) × (length map ≡ 34819)
+Inv-loop fields map₀ k₀ map k = (k ≤ 2 * fields + 1) × (length map ≡ 36356)
 
 abbrev μ-loop : tie.MeasureT-loop
 μ-loop fields map₀ k₀ map k = 2 * fields + 1 - k

@@ -1,12 +1,12 @@
--- `parts::rows::run` is safe and ends: the map stays as long as it was.
+-- `hearing::script::run` is safe and ends: the map stays as long as it was.
 -- Assumes nothing.
 use mathlib.Core.Path.{_≡_, refl}
 use Prim.Native.Nat.{_-_}
 use native.Mathlib.Omega.{arith}
 use lib.ListN.{length}
 use borrow.Author.Needs.{needs}
-use Rattle.parts.proofs.rows.run.Statement.{statement}
-use Rattle.parts.proofs.rows.run.Tie as tie
+use Rattle.hearing.proofs.script.run.Statement.{statement}
+use Rattle.hearing.proofs.script.run.Tie as tie
 
 abbrev Inv-loop : tie.InvT-loop
 Inv-loop map₀ first frames count₀ k₀ map count k = length map ≡ length map₀

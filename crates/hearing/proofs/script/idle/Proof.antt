@@ -1,12 +1,12 @@
--- `parts::rows::idle` is safe and ends: the map stays as long as it was.
+-- `hearing::script::idle` is safe and ends: the map stays as long as it was.
 -- Assumes nothing.
 use mathlib.Core.Path.{_≡_, refl}
 use Prim.Native.Nat.{_-_}
 use native.Mathlib.Omega.{arith}
 use lib.ListN.{length}
 use borrow.Author.Needs.{needs}
-use Rattle.parts.proofs.rows.idle.Statement.{statement}
-use Rattle.parts.proofs.rows.idle.Tie as tie
+use Rattle.hearing.proofs.script.idle.Statement.{statement}
+use Rattle.hearing.proofs.script.idle.Tie as tie
 
 abbrev Inv-loop : tie.InvT-loop
 Inv-loop map₀ first end count₀ map count = length map ≡ length map₀
