@@ -10,14 +10,16 @@
 //! - G: that there is no such component is held only where all ones said so, or behind 255 frames in a row.
 //!
 //! B to E are of structures that have room in a map. B and C rest on LINKS, which is the same within a repetition; and C is of any two
-//! beginnings, one behind the other. More is looked at: that there are no fields is shown only if none came last; what was heard of a
-//! list that is not whole is of the structure; and list and known say what show says.
+//! beginnings, one behind the other. More is looked at: from when on it must be right by `finding.rs`; that there are no fields is shown
+//! only if none came last; what is said to be announced was, and when it comes; what was heard of a list that is not whole is of the
+//! structure; and list and known say what show says.
 
+use crate::finding::Finding;
 use crate::story::{Past, Story};
 use second::map::{known, list, start, take, Heard, Map, Shown, IDS, MAP, PANNING};
 use second::numbers::{DONE, UNFINISHED};
 use second::samples::broadcast::{Frame, Sent};
-use second::samples::style::Links;
+use second::samples::style::{Links, Style};
 
 /// What it is for a configuration to be heard, in D and E, and in what known says.
 #[derive(Clone, Copy, Debug, PartialEq, Eq)]
@@ -45,6 +47,7 @@ pub struct Seen {
     pub kept: usize,
     pub kept_over_change: usize,
     pub announced: usize,
+    pub found: usize,
     pub gone: usize,
     pub unknown: usize,
     pub parts: usize,
@@ -59,29 +62,25 @@ pub struct Laws {
     map: Vec<u8>,
     values: Map,
     reading: Reading,
-    links: Links,
+    style: Style,
     stories: Vec<Story>,
     past: Past,
+    finding: Finding,
 }
 
 impl Laws {
-    pub fn new(reading: Reading, links: Links) -> Laws {
+    /// The listener is switched on before this frame, in the middle of a configuration or not.
+    pub fn new(reading: Reading, style: Style, frame: &Frame) -> Laws {
         let mut map = vec![0xA5; MAP];
         assert_eq!(start(&mut map), DONE);
         Laws {
             values: Map::decode(&map).expect("a good map"),
             map,
             reading,
-            links,
+            style,
             stories: vec![Story::default(); IDS],
             past: Past::default(),
-        }
-    }
-
-    /// The listener is switched on before this frame, in the middle of a configuration or not.
-    pub fn begin(&mut self, frame: &Frame) {
-        for (id, story) in (0..=255).zip(&mut self.stories) {
-            story.change(frame.present.get(&id), &self.past);
+            finding: Finding::new(frame),
         }
     }
 
@@ -90,6 +89,7 @@ impl Laws {
         self.change(frame);
         self.past.miss();
         self.stories.iter_mut().for_each(Story::miss);
+        self.finding.behind_missed(frame);
         self.look_back(frame);
     }
 
@@ -98,17 +98,22 @@ impl Laws {
         self.change(frame);
         let about = about(frame.sent);
         let before = self.values.show(about, frame.count);
+        let whole = before.length > 0;
+        let wrong = whole && !self.is_right(&before, truth(frame, about, 0));
         let number = take(&mut self.map, &frame.field);
         self.values = Map::decode(&self.map).expect("a good map");
         if number != DONE {
             seen.broken.push(("F", about, number.to_string()));
         }
-        self.past.hear(frame);
-        let wrong = before.length > 0 && !self.is_right(&before, truth(frame, about, 0));
-        let story = &mut self.stories[usize::from(about)];
-        story.hear(frame, before.length > 0, wrong);
+        if self.past.hear(frame) {
+            for (id, story) in (0..=255).zip(&mut self.stories) {
+                story.begin(frame.present.get(&id));
+            }
+        }
+        self.stories[usize::from(about)].hear(frame, whole, wrong);
         seen.frames += 1;
         self.check(frame, seen);
+        self.find(frame, seen);
         self.look_back(frame);
     }
 
@@ -116,7 +121,33 @@ impl Laws {
     fn change(&mut self, frame: &Frame) {
         if frame.first {
             self.past.change();
-            self.begin(frame);
+            for (id, story) in (0..=255).zip(&mut self.stories) {
+                story.change(frame.present.get(&id), &self.past);
+            }
+        }
+    }
+
+    /// From when on it must be right, in the frame that was heard and in the next.
+    fn find(&mut self, frame: &Frame, seen: &mut Seen) {
+        self.finding.hear(frame);
+        self.check_found(frame, 0, seen);
+        self.finding.behind_heard(frame);
+        self.check_found(frame, 1, seen);
+    }
+
+    fn check_found(&self, frame: &Frame, ahead: u8, seen: &mut Seen) {
+        // What it is stated of.
+        if self.style.long || self.style.links == Links::Anyhow {
+            return;
+        }
+        for id in (0..=255).filter(|&id| self.finding.is_ready(id)) {
+            let (count, here) = (frame.count.wrapping_add(ahead), truth(frame, id, ahead));
+            let shown = self.values.show(id, count);
+            seen.found += usize::from(!here.is_empty());
+            if !self.is_right(&shown, here) {
+                seen.broken
+                    .push(("Finds", id, format!("{shown:?} {ahead}")));
+            }
         }
     }
 
@@ -161,7 +192,7 @@ impl Laws {
             seen.broken.push(("E", id, format!("ahead, {next:?}")));
         }
         let kept = story.right && self.keeps(story, frame);
-        let apart = self.links != Links::Anyhow;
+        let apart = self.style.links != Links::Anyhow;
         let laws = [
             ("B", apart && story.beginnings >= 3, &mut seen.third),
             ("C", apart && story.second, &mut seen.second),
@@ -225,7 +256,9 @@ impl Laws {
         let wrong = held && gone && !here.is_empty() && (!behind || story.announced);
         let odd = it.unknown && (!silent || self.past.row >= 255);
         let blank = silent && story.is_there(behind);
-        if wrong || odd || blank || it.announced != story.announced {
+        let frames = if story.announced { frame.to_change } else { 0 };
+        let announced = (it.announced, it.frames) == (story.announced, frames);
+        if wrong || odd || blank || !announced {
             seen.broken.push(("marks", id, format!("{it:?} {ahead}")));
         }
         seen.shown += usize::from(it.length > 0);

@@ -2,7 +2,9 @@
 
 mod broadcasts;
 mod fields;
+mod finding;
 mod frames;
+mod healing;
 mod laws;
 mod limits;
 mod listener;

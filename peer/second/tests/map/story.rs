@@ -47,12 +47,15 @@ impl Past {
         };
     }
 
-    pub fn hear(&mut self, frame: &Frame) {
+    /// Whether this is the first that is heard at all.
+    pub fn hear(&mut self, frame: &Frame) -> bool {
+        let begins = !self.heard;
         self.heard = true;
         self.row += 1;
         self.now.frames += 1;
         self.now.heard += 1;
         self.now.first |= frame.first;
+        begins
     }
 
     pub fn miss(&mut self) {
@@ -88,6 +91,11 @@ pub struct Story {
 }
 
 impl Story {
+    /// The first frame is heard, where this is the structure.
+    pub fn begin(&mut self, list: Option<&Vec<u64>>) {
+        self.open = list.cloned().into_iter().collect();
+    }
+
     /// A configuration begins in which this is the structure.
     pub fn change(&mut self, list: Option<&Vec<u64>>, past: &Past) {
         self.told = self.announced && past.before.all();

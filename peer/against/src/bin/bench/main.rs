@@ -3,6 +3,7 @@
 
 mod codec2;
 mod inputs;
+mod maps;
 mod programs;
 mod rival;
 mod rounds;
@@ -29,6 +30,7 @@ fn main() {
     }
     groups("write group, plain", false);
     groups("write group, protected", true);
+    maps::measure();
     codec2::measure();
     programs::measure();
 }
