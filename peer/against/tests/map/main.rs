@@ -102,6 +102,14 @@ fn broadcasts_from_the_middle_on() {
     assert!(unfinished > 100, "{unfinished}");
 }
 
+/// A list that becomes known.
+const KNOWN: [(u8, bool, u32); 4] = [
+    (121, false, 11),
+    (122, false, 21),
+    (123, false, 31),
+    (124, false, 11),
+];
+
 /// A part is not shown as the whole: each row is (count, flag, line) of component 7, heard one after the other, and what is shown in
 /// the last frame. The frames that a row leaves out are of no matter where it says so, and otherwise missed.
 #[test]
@@ -116,9 +124,7 @@ fn parts() {
     }
     let missed = [(124, true, 11), (129, true, 11), (130, false, 11)];
     assert_eq!(heard(&missed, 2..124).show(7, 130), 46);
-    let known =
-        [121, 122, 123, 124].map(|count| (count, false, [11, 21, 31, 11][count as usize - 121]));
-    assert_eq!(heard(&known, 0..0).show(7, 124), 0);
+    assert_eq!(heard(&KNOWN, 0..0).show(7, 124), 0);
     let again = [
         (125, true, 21),
         (126, true, 31),
@@ -126,25 +132,34 @@ fn parts() {
         (130, false, 31),
         (131, false, 11),
     ];
-    assert_eq!(heard(&[&known[..], &again].concat(), 0..0).show(7, 131), 46);
+    assert_eq!(heard(&[&KNOWN[..], &again].concat(), 0..0).show(7, 131), 46);
     // 127 frames are missed, and the change is seen.
     for (last, next) in [(1, 129), (129, 1)] {
         assert_eq!(heard(&[(last, true, 11)], 0..0).show(7, next), 46);
         let mut both = heard(&[(last, true, 11), (next, true, 11)], 0..0);
         assert_eq!(both.show(7, next), 46);
     }
-    // An announcement that begins in the middle, of which all frames are heard.
+}
+
+/// The same of announcements of which all frames are heard, and that do not begin with their first field at last.
+#[test]
+fn late_announcements() {
+    // It begins in the middle.
     let middle = [(125, true, 21), (126, true, 31), (127, true, 11)];
     assert_eq!(heard(&middle, 2..125).show(7, 130), 46);
-    // Nine fields that go into a second repetition.
+    // Nine fields go into a second repetition.
     let nine: Vec<_> = (2..20).map(|k| (k, true, u32::from(k - 2) % 9)).collect();
     for length in 9..18 {
         let mut both = heard(&nine[..length], 0..0);
         idle(&mut both, nine[length].0..131);
         assert_eq!(both.show(7, 130), 46, "{length}");
     }
-    // A whole list that shrank unheard: the third beginning of a repetition shows it.
-    let mut both = heard(&known, 0..0);
+}
+
+/// A whole list that shrank unheard: the third beginning of a repetition shows it.
+#[test]
+fn a_list_that_shrank() {
+    let mut both = heard(&KNOWN, 0..0);
     for (count, line, number) in [
         (132, 11, 0),
         (133, 31, 46),

@@ -6,34 +6,52 @@ use second::map::{FIELD, MAP};
 use second::samples::broadcast::Broadcast;
 use second::samples::difference;
 
-/// From annex C: a structure that comes, and a component that goes.
+/// From annex C: a component that goes, and a structure that comes.
+const DELETION: [u8; FIELD] = [0x75, 0x43, 0xFE, 0xFF, 0xFF, 0xFF, 0xFF, 0xFF, 0xFF, 0x7F];
+const STRUCTURE: [u8; FIELD] = [0x76, 0x41, 0x16, 0xA8, 0xA0, 0xA8, 0xA6, 0xCA, 0xB1, 0x50];
+const EXPECTED: Structure = Structure {
+    first_lines: (11, 21),
+    second_lines: (325, 333),
+    clock_periods: (229, 1291),
+};
+
+fn annex_c_heard() -> Map {
+    let mut map = Map::new();
+    assert_eq!(map.take(&DELETION), Ok(()));
+    assert_eq!(map.take(&STRUCTURE), Ok(()));
+    map
+}
+
+fn reach(row: u8, unbroken: bool, components: usize) -> Reach {
+    Reach {
+        row,
+        unbroken,
+        components,
+    }
+}
+
 #[test]
 fn annex_c() {
-    let deletion = [0x75, 0x43, 0xFE, 0xFF, 0xFF, 0xFF, 0xFF, 0xFF, 0xFF, 0x7F];
-    let structure = [0x76, 0x41, 0x16, 0xA8, 0xA0, 0xA8, 0xA6, 0xCA, 0xB1, 0x50];
-    let expected = Structure {
-        first_lines: (11, 21),
-        second_lines: (325, 333),
-        clock_periods: (229, 1291),
-    };
-    let mut map = Map::new();
-    assert_eq!(map.take(&deletion), Ok(()));
-    assert_eq!(map.take(&structure), Ok(()));
-    assert_eq!(map.take(&structure[1..]), Err(Refusal(20)));
+    let mut map = annex_c_heard();
+    assert_eq!(map.take(&STRUCTURE[1..]), Err(Refusal(20)));
     assert_eq!(map.change_in(0x20), Some(12));
     assert_eq!(map.change_in(0x22), None);
     // Of what is in force nothing was heard yet; of what comes, a part.
     assert_eq!(map.component(0x20, 118), Ok(None));
     assert_eq!(map.component(0x20, 130), Err(Refusal(46)));
-    assert_eq!(map.heard(0x20, 130), Ok((vec![expected], false)));
-    let reach = |row, unbroken, components| Reach {
-        row,
-        unbroken,
-        components,
-    };
+    assert_eq!(map.heard(0x20, 130), Ok((vec![EXPECTED], false)));
     assert_eq!(map.reach(118), reach(2, false, 0));
     assert_eq!(map.reach(130), reach(2, false, 1));
-    // In count 126 it comes again, and is known to be whole; the other frames are of no matter here.
+    assert_eq!(
+        Refusal(46).to_string(),
+        "the structure is not known to be whole (46)"
+    );
+}
+
+/// In count 126 the structure comes again, and is known to be whole; the other frames are of no matter here.
+#[test]
+fn annex_c_to_the_change() {
+    let mut map = annex_c_heard();
     let (_, tdms) = pack([11, 21, 325, 333, 229, 1291]);
     for count in 119..131 {
         let mut field = [0; FIELD];
@@ -44,18 +62,14 @@ fn annex_c() {
         assert_eq!(written, 0);
         assert_eq!(map.take(&field), Ok(()));
     }
-    assert_eq!(map.component(0x20, 130), Ok(Some(vec![expected])));
-    assert_eq!(map.heard(0x20, 130), Ok((vec![expected], true)));
+    assert_eq!(map.component(0x20, 130), Ok(Some(vec![EXPECTED])));
+    assert_eq!(map.heard(0x20, 130), Ok((vec![EXPECTED], true)));
     assert_eq!(map.components(130), [0x20]);
     assert_eq!(map.reach(130), reach(14, true, 1));
     let mut kept = *map.bytes();
     assert!(Map::from_bytes(&kept).is_ok());
     kept[MAP - 2] = 2;
     assert_eq!(Map::from_bytes(&kept).err(), Some(Refusal(34)));
-    assert_eq!(
-        Refusal(46).to_string(),
-        "the structure is not known to be whole (46)"
-    );
 }
 
 /// It says what the calls under it say.

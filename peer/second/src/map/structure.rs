@@ -243,15 +243,12 @@ impl Component {
     pub fn change(&mut self, all_heard: bool) {
         if self.is_announced() {
             self.in_force = self.announced.behind_change(all_heard);
-            if self.announced.deleted {
-                self.in_force.rooms = [0; ROOMS];
-            }
-            self.announced = Structure::default();
             self.in_force.spoil();
         } else {
             self.in_force.last = 0;
             self.in_force.certain = false;
         }
+        self.announced = Structure::default();
         // The broadcaster may have cut a repetition off: a list that is not whole does not go on, wherever it came from.
         if !all_heard {
             self.in_force.spoil();

@@ -164,8 +164,7 @@ impl Laws {
         for id in 0..=255 {
             self.check_now(frame, id, seen);
             let any = id.wrapping_mul(31).wrapping_add(frame.count) % 129;
-            let change = frame.to_change;
-            for ahead in [0, 1, change - 1, change, 128, any] {
+            for ahead in [0, frame.to_change, 128, any] {
                 self.check_ahead(frame, id, ahead, seen);
             }
         }

@@ -155,6 +155,11 @@ fn nine_announced_fields_twice() {
         assert_eq!(listener.next(7), said(46, ""), "{part}");
         listener.idle_to(131);
         assert_eq!(listener.now(7), said(46, ""), "{part}");
+        // Nor do the fields without the flag make it so.
+        for letter in "abcdefghia".chars() {
+            listener.hears(0, 7, &letter.to_string(), 0);
+            assert_eq!(listener.now(7), said(46, ""), "{part}");
+        }
     }
 }
 

@@ -7,8 +7,8 @@ use second::samples::style::{Order, Style};
 use second::xorshift::Xorshift;
 use std::collections::BTreeMap;
 
-/// A little more than six wraps of the count, of which up to two pass before the first frame is heard.
-const FRAMES: usize = 6 * 256 + 9;
+/// A little more than five wraps of the count, of which up to one passes before the listener is switched on.
+const FRAMES: usize = 5 * 256 + 9;
 /// Components at most: few come round often, and 128 are a full multiplex.
 const MOST: [usize; 8] = [1, 1, 2, 3, 5, 20, 128, 128];
 
@@ -103,7 +103,7 @@ fn follow(reading: Reading, number: usize, seen: &mut Seen) -> String {
     let mut broadcast = Broadcast::with(random.next(), random.below(256) as u8, style);
     let mut ear = Ear::new(random.next(), habit);
     // The listener is switched on before it hears anything.
-    let on = random.below(512);
+    let on = random.below(256);
     let first = on + [0, random.below(200)][random.below(2)];
     for _ in 0..on {
         broadcast.frame();

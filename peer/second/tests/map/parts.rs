@@ -144,9 +144,12 @@ fn announced_from_the_middle_on() {
         assert_eq!(listener.count, change);
         assert_eq!(listener.marks(), [1, 1]);
         assert_eq!(listener.next(7), said(46, ""));
-        heard(&mut listener, ".");
-        assert_eq!(listener.now(7), said(46, ""));
-        heard(&mut listener, "abca");
+        // What came into force is no part that the next field could make whole.
+        for letter in [".", "a", "b", "c"] {
+            heard(&mut listener, letter);
+            assert_eq!(listener.now(7), said(46, ""));
+        }
+        heard(&mut listener, "a");
         assert_eq!(listener.now(7), said(0, "abc"));
     }
 }
