@@ -77,7 +77,7 @@ either : (ready alone : Bool) (b : ℕ) (xs : List ℕ) (due l : ℕ) (F : List 
     → Turns (ready || found alone b) alone b xs due l F
 unfolding found
 either true alone b xs due l F r o s = record { rightly = λ e. r refl; round = o; only = s }
-either false alone b xs due l F r o s = record { rightly = go (leb 3 b) refl; round = o; only = s }
+either false alone b xs due l F r o s = record { rightly = go _ refl; round = o; only = s }
   where
     go : (x : Bool) → leb 3 b ≡ x → (leb 3 b || (alone && leb 2 b)) ≡ true → Right xs due F
     go true z e = third-right b xs due l F o z
