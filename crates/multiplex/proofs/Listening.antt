@@ -27,7 +27,7 @@ use Rattle.map.proofs.Places.{structure-length, structure-same, structure-other
 use Rattle.multiplex.specs.Broadcast.{countAt, change, epoch, begun}
 use Rattle.multiplex.specs.Air.{Carries, new, old, gone, vectors, Air, timed, carriedAs, fieldOn, newIn, oldIn, goneIn, later, lastOld, lastNew, linkOf, linksOld, linksNew, one, newBefore, newTo, goneBefore, goneTo, inForce, coming, InTurn, nothing, Orderly}
 use Rattle.multiplex.specs.Sound.{inRow, announces, lists, denies, Word, unheard, absent, there, over, presentIn, comingIn, comingBefore, comingTo, presentBefore, presentTo}
-use Rattle.multiplex.specs.Finding.{first, found, aloneBefore, roundsBefore, roundsTo, newRoundsBefore, newRoundsTo, whollyBefore, readyBefore, readyTo}
+use Rattle.multiplex.specs.Finding.{first, found, absentBy, absentBefore, absentTo, aloneBefore, roundsBefore, roundsTo, newRoundsBefore, newRoundsTo, whollyBefore, readyBefore, readyTo}
 use Rattle.multiplex.proofs.Rounding.{Turns, turns-plain, turns-gone, turns-old, Came, unbegun, came-plain, came-new}
 use Rattle.multiplex.proofs.Words.{Words, Sure, sure-as, words-as, words-force, words-dropped, words-told, words-ends, some-old, some-new}
 use Rattle.multiplex.proofs.Knowing.{Front, some, all, Next, delete, deletion-deleting, front-on, front-old, next-on, next-new}
@@ -59,7 +59,7 @@ pub record Known (a : Air) (hears : ℕ → Bool) (t : ℕ) (m : List ℕ) (u : 
       → Next a hears (suc t) (epoch (timed a) t) id (newLast a id t) (newTo a id t) (linkLast a id t) (goneTo a id t) u (structureAt id 1 m)
   pub heard : hears t ≡ true
   pub words : (id : ℕ) → id < ids → Words (presentTo a hears id t) (comingTo a hears id t) (structureAt id 0 m) (structureAt id 1 m)
-  pub sure : (id : ℕ) → id < ids → Sure (inForce a t id) (coming a t id) (structureAt id 0 m) (structureAt id 1 m)
+  pub sure : (id : ℕ) → id < ids → Sure (absentTo a hears id t) (inForce a t id) (coming a t id) (structureAt id 0 m) (structureAt id 1 m)
   pub wholly : u ≡ whollyBefore a hears t
   pub turns : (id : ℕ) → id < ids → Turns (readyTo a hears id t) (aloneBefore a hears t) (roundsTo a hears id t) (inForce a t id) (oldLast a id t) (oldLink a id t) (structureAt id 0 m)
   pub came : (id : ℕ) → id < ids → Came (newRoundsTo a hears id t) (coming a t id) (newLast a id t) (linkLast a id t) (structureAt id 1 m)
@@ -71,7 +71,7 @@ pub record Before (a : Air) (hears : ℕ → Bool) (t : ℕ) (m : List ℕ) (u :
   pub next : (id : ℕ) → id < ids
       → Next a hears t (epoch (timed a) t) id (lastNew a id t) (newBefore a id t) (linksNew a id t) (goneBefore a id t) u (structureAt id 1 m)
   pub words : (id : ℕ) → id < ids → Words (presentBefore a hears id t) (comingBefore a hears id t) (structureAt id 0 m) (structureAt id 1 m)
-  pub sure : (id : ℕ) → id < ids → Sure (inForce a t id) (coming a t id) (structureAt id 0 m) (structureAt id 1 m)
+  pub sure : (id : ℕ) → id < ids → Sure (absentBefore a hears id t) (inForce a t id) (coming a t id) (structureAt id 0 m) (structureAt id 1 m)
   pub wholly : u ≡ whollyBefore a hears t
   pub turns : (id : ℕ) → id < ids
       → Turns (readyBefore a hears id t) (aloneBefore a hears t) (roundsBefore a hears id t) (inForce a t id) (lastOld a id t) (linksOld a id t) (structureAt id 0 m)
@@ -200,7 +200,7 @@ module _ (a : Air) (w : Orderly a) (hears : ℕ → Bool) (t : ℕ) (m : List �
         → Next a hears (suc t) now id (later (newIn id c) (lastNew a id t)) (newBefore a id t + one (newIn id c))
         (cond (eqb (newIn id c) 0) (linksNew a id t) (linkOf c)) (goneBefore a id t || goneIn id c) u (structureAt id 1 x)
     pub words : (id : ℕ) → id < ids → WordsAt c id (structureAt id 0 x) (structureAt id 1 x)
-    pub sure : (id : ℕ) → id < ids → Sure (inForce a t id) (coming a t id) (structureAt id 0 x) (structureAt id 1 x)
+    pub sure : (id : ℕ) → id < ids → Sure (absentBy (presentIn id c) (absentBefore a hears id t)) (inForce a t id) (coming a t id) (structureAt id 0 x) (structureAt id 1 x)
     pub turns : (id : ℕ) → id < ids → TurnsAt c id (structureAt id 0 x)
     pub came : (id : ℕ) → id < ids → CameAt c id (structureAt id 1 x)
 
@@ -243,22 +243,34 @@ module _ (a : Air) (w : Orderly a) (hears : ℕ → Bool) (t : ℕ) (m : List �
       go (no e) = g e
 
   -- of one structure of one component
-  module _ (k : ℕ) (hk : k < ids) (s : List ℕ) (ls : length s ≡ structureSize) where
-    sure-force : (certainly (headOf s) ≡ true → 0 < length (inForce a t k)) → (id : ℕ) → id < ids
-        → Sure (inForce a t id) (coming a t id) (structureAt id 0 (withStructure k 0 s m)) (structureAt id 1 (withStructure k 0 s m))
-    sure-force c id hid = pick id k
-        (λ e. subst (λ (j : ℕ). Sure (inForce a t j) (coming a t j) (structureAt j 0 (withStructure k 0 s m)) (structureAt j 1 (withStructure k 0 s m))) (sym e)
-        (sure-as (sym (put-at k 0 hk (lit< tt) s ls)) (sym (put-off k 0 hk (lit< tt) s ls k 1 (lit< tt) (λ p q. omega (arith, q))))
-        (record { front = c; next = h .sure k hk .next })))
-        (λ e. sure-as (sym (put-off k 0 hk (lit< tt) s ls id 0 (lit< tt) (λ p q. e p))) (sym (put-off k 0 hk (lit< tt) s ls id 1 (lit< tt) (λ p q. e p))) (h .sure id hid))
+  abbrev SureAt : Carries → ℕ → List ℕ → List ℕ → Type 0
+  SureAt c id F A = Sure (absentBy (presentIn id c) (absentBefore a hears id t)) (inForce a t id) (coming a t id) F A
 
-    sure-coming : (0 < headOf s .fields → 0 < length (coming a t k)) → (id : ℕ) → id < ids
-        → Sure (inForce a t id) (coming a t id) (structureAt id 0 (withStructure k 1 s m)) (structureAt id 1 (withStructure k 1 s m))
-    sure-coming c id hid = pick id k
-        (λ e. subst (λ (j : ℕ). Sure (inForce a t j) (coming a t j) (structureAt j 0 (withStructure k 1 s m)) (structureAt j 1 (withStructure k 1 s m))) (sym e)
+  sure-by : (c : Carries) (id : ℕ) (F A : List ℕ) → presentIn id c ≡ unheard → Sure (absentBefore a hears id t) (inForce a t id) (coming a t id) F A → SureAt c id F A
+  unfolding absentBy
+  sure-by c id F A z w =
+      subst (λ (v : Word). Sure (absentBy v (absentBefore a hears id t)) (inForce a t id) (coming a t id) F A) (sym z) w
+
+  module _ (k : ℕ) (hk : k < ids) (s : List ℕ) (ls : length s ≡ structureSize) (c : Carries) where
+    sure-force : ((id : ℕ) → (id ≡ k → ⊥) → presentIn id c ≡ unheard) → (certainly (headOf s) ≡ true → 0 < length (inForce a t k))
+        → (headOf s .fields ≡ 0 → (headOf s .certain ≡ 0 → ⊥) → absentBy (presentIn k c) (absentBefore a hears k t) ≡ true) → (id : ℕ) → id < ids
+        → SureAt c id (structureAt id 0 (withStructure k 0 s m)) (structureAt id 1 (withStructure k 0 s m))
+    sure-force off x y id hid = pick id k
+        (λ e. subst (λ (j : ℕ). SureAt c j (structureAt j 0 (withStructure k 0 s m)) (structureAt j 1 (withStructure k 0 s m))) (sym e)
+        (sure-as (sym (put-at k 0 hk (lit< tt) s ls)) (sym (put-off k 0 hk (lit< tt) s ls k 1 (lit< tt) (λ p q. omega (arith, q))))
+        (record { front = x; next = h .sure k hk .next; gone = y })))
+        (λ e. sure-by c id _ _ (off id e)
+        (sure-as (sym (put-off k 0 hk (lit< tt) s ls id 0 (lit< tt) (λ p q. e p))) (sym (put-off k 0 hk (lit< tt) s ls id 1 (lit< tt) (λ p q. e p))) (h .sure id hid)))
+
+    sure-coming : ((id : ℕ) → presentIn id c ≡ unheard) → (0 < headOf s .fields → 0 < length (coming a t k)) → (id : ℕ) → id < ids
+        → SureAt c id (structureAt id 0 (withStructure k 1 s m)) (structureAt id 1 (withStructure k 1 s m))
+    sure-coming off x id hid = pick id k
+        (λ e. subst (λ (j : ℕ). SureAt c j (structureAt j 0 (withStructure k 1 s m)) (structureAt j 1 (withStructure k 1 s m))) (sym e)
+        (sure-by c k _ _ (off k)
         (sure-as (sym (put-off k 1 hk (lit< tt) s ls k 0 (lit< tt) (λ p q. omega (arith, q)))) (sym (put-at k 1 hk (lit< tt) s ls))
-        (record { front = h .sure k hk .front; next = c })))
-        (λ e. sure-as (sym (put-off k 1 hk (lit< tt) s ls id 0 (lit< tt) (λ p q. e p))) (sym (put-off k 1 hk (lit< tt) s ls id 1 (lit< tt) (λ p q. e p))) (h .sure id hid))
+        (record { front = h .sure k hk .front; next = x; gone = h .sure k hk .gone }))))
+        (λ e. sure-by c id _ _ (off id)
+        (sure-as (sym (put-off k 1 hk (lit< tt) s ls id 0 (lit< tt) (λ p q. e p))) (sym (put-off k 1 hk (lit< tt) s ls id 1 (lit< tt) (λ p q. e p))) (h .sure id hid)))
 
   turns-off : (c : Carries) (id : ℕ) → id < ids → (F : List ℕ) → oldIn id c ≡ 0 → structureAt id 0 m ≡ F → TurnsAt c id F
   turns-off c id hid F z is =
@@ -296,7 +308,7 @@ module _ (a : Air) (w : Orderly a) (hears : ℕ → Bool) (t : ℕ) (m : List �
         words = λ id hid. pick id k
             (λ e. subst (λ (j : ℕ). WordsAt (new k i l) j (structureAt j 0 (withStructure k 1 s m)) (structureAt j 1 (withStructure k 1 s m))) (sym e) (heard-new hk ls))
             (λ e. words-off k 1 hk (lit< tt) s ls (new k i l) id hid e refl (ap (λ (b : Bool). cond b there unheard) (ne-eqb k id (λ q. e (sym q)))));
-        sure = sure-coming k hk s ls (λ _. omega (arith, law .1 .0));
+        sure = sure-coming k hk s ls (new k i l) (λ id. refl) (λ _. omega (arith, law .1 .0));
         turns = λ id hid. turns-off (new k i l) id hid _ refl (sym (put-off k 1 hk (lit< tt) s ls id 0 (lit< tt) (λ p q. omega (arith, q))));
         came = λ id hid. pick id k
             (λ e. subst (λ (j : ℕ). CameAt (new k i l) j (structureAt j 1 (withStructure k 1 s m))) (sym e) (subst (CameAt (new k i l) k) (sym (put-at k 1 hk (lit< tt) s ls)) (came-here hk)))
@@ -359,7 +371,13 @@ module _ (a : Air) (w : Orderly a) (hears : ℕ → Bool) (t : ℕ) (m : List �
         words = λ id hid. pick id k
             (λ e. subst (λ (j : ℕ). WordsAt (old k i l) j (structureAt j 0 (withStructure k 0 s m)) (structureAt j 1 (withStructure k 0 s m))) (sym e) (heard-old hk ls))
             (λ e. words-off k 0 hk (lit< tt) s ls (old k i l) id hid e (ap (λ (b : Bool). cond b there unheard) (ne-eqb k id (λ q. e (sym q)))) refl);
-        sure = sure-force k hk s ls (λ _. omega (arith, law .1 .0));
+        sure = sure-force k hk s ls (old k i l) (λ id e. ap (λ (b : Bool). cond b there unheard) (ne-eqb k id (λ q. e (sym q)))) (λ _. omega (arith, law .1 .0))
+            (λ z c. absurd (omega (
+              arith,
+              z,
+              some-old a hears t now k _ (structureAt k 0 m) (getD (inForce a t k) i 0) l (h .front k hk)
+                  (omega (arith, w .linked now k hk .fit i (law .1 .0) .width)),
+            )));
         turns = λ id hid. pick id k
             (λ e. subst (λ (j : ℕ). TurnsAt (old k i l) j (structureAt j 0 (withStructure k 0 s m))) (sym e) (subst (TurnsAt (old k i l) k) (sym (put-at k 0 hk (lit< tt) s ls)) (turns-here hk)))
             (λ e. turns-off (old k i l) id hid _ (ap (λ (b : Bool). cond b (suc i) 0) (ne-eqb k id (λ q. e (sym q)))) (sym (put-off k 0 hk (lit< tt) s ls id 0 (lit< tt) (λ p q. e p))));
@@ -398,7 +416,7 @@ module _ (a : Air) (w : Orderly a) (hears : ℕ → Bool) (t : ℕ) (m : List �
 
   -- all ones: at once, or by the next change
   taken-gone : (k tdms l : ℕ) → a .carries t ≡ gone 0 k tdms l → k < ids → inForce a t k ≡ [] → Taken (gone 0 k tdms l) (withStructure k 0 absence m)
-  unfolding denies newIn oldIn goneIn linkOf later over presentIn comingIn first
+  unfolding denies newIn oldIn goneIn linkOf later over presentIn comingIn first absentBy
   taken-gone k tdms l is hk none =
       let ls = absence-length in
       record {
@@ -413,11 +431,12 @@ module _ (a : Air) (w : Orderly a) (hears : ℕ → Bool) (t : ℕ) (m : List �
             (next-plain a hears t id (gone 0 k tdms l) is u (structureAt id 1 m) refl refl (h .next id hid));
         words = λ id hid. pick id k
             (λ e. subst (λ (j : ℕ). WordsAt (gone 0 k tdms l) j (structureAt j 0 (withStructure k 0 absence m)) (structureAt j 1 (withStructure k 0 absence m))) (sym e)
-            (words-as (words-dropped _ _ _ _ absence (h .words k hk))
+            (words-as (words-dropped _ _ _ _ absence (h .words k hk) (absence-empty .fields))
             (sym (ap (λ (b : Bool). over (cond b absent unheard) (presentBefore a hears k t)) (eq-eqb k k refl))) refl
             (sym (put-at k 0 hk (lit< tt) _ ls)) (sym (put-off k 0 hk (lit< tt) _ ls k 1 (lit< tt) (λ p q. omega (arith, q))))))
             (λ e. words-off k 0 hk (lit< tt) _ ls (gone 0 k tdms l) id hid e (ap (λ (b : Bool). cond b absent unheard) (ne-eqb k id (λ q. e (sym q)))) refl);
-        sure = sure-force k hk absence ls (λ c. clash (sym c ∙ absence-certainly));
+        sure = sure-force k hk absence ls (gone 0 k tdms l) (λ id e. ap (λ (b : Bool). cond b absent unheard) (ne-eqb k id (λ q. e (sym q)))) (λ c. clash (sym c ∙ absence-certainly))
+            (λ z c. ap (λ (b : Bool). absentBy (cond b absent unheard) (absentBefore a hears k t)) (eq-eqb k k refl));
         turns = λ id hid. pick id k
             (λ e. subst (λ (j : ℕ). TurnsAt (gone 0 k tdms l) j (structureAt j 0 (withStructure k 0 absence m))) (sym e)
             (subst (TurnsAt (gone 0 k tdms l) k) (sym (put-at k 0 hk (lit< tt) _ ls))
@@ -446,7 +465,7 @@ module _ (a : Air) (w : Orderly a) (hears : ℕ → Bool) (t : ℕ) (m : List �
             (sym (ap (λ (b : Bool). over (cond b absent unheard) (comingBefore a hears k t)) (eq-eqb k k refl)))
             (sym (put-off k 1 hk (lit< tt) _ deletion-length k 0 (lit< tt) (λ p q. omega (arith, q)))) (sym (put-at k 1 hk (lit< tt) _ deletion-length))))
             (λ e. words-off k 1 hk (lit< tt) _ deletion-length (gone 1 k tdms l) id hid e refl (ap (λ (b : Bool). cond b absent unheard) (ne-eqb k id (λ q. e (sym q)))));
-        sure = sure-coming k hk deletion deletion-length (λ p. absurd (omega (arith, p, deletion-deleting .fields)));
+        sure = sure-coming k hk deletion deletion-length (gone 1 k tdms l) (λ id. refl) (λ p. absurd (omega (arith, p, deletion-deleting .fields)));
         turns = λ id hid. turns-off (gone 1 k tdms l) id hid _ refl (sym (put-off k 1 hk (lit< tt) _ deletion-length id 0 (lit< tt) (λ p q. omega (arith, q))));
         came = λ id hid. pick id k
             (λ e. subst (λ (j : ℕ). CameAt (gone 1 k tdms l) j (structureAt j 1 (withStructure k 1 deletion m))) (sym e)
@@ -471,7 +490,7 @@ module _ (a : Air) (w : Orderly a) (hears : ℕ → Bool) (t : ℕ) (m : List �
     front = λ id hid. front-plain a hears t id (vectors flag tdms l) is (structureAt id 0 m) refl (λ xs. refl) (h .front id hid);
     next = λ id hid. next-plain a hears t id (vectors flag tdms l) is u (structureAt id 1 m) refl refl (h .next id hid);
     words = h .words;
-    sure = h .sure;
+    sure = λ id hid. sure-by (vectors flag tdms l) id _ _ refl (h .sure id hid);
     turns = λ id hid. turns-off (vectors flag tdms l) id hid _ refl refl;
     came = λ id hid. came-off (vectors flag tdms l) id hid _ refl refl;
   }
@@ -502,6 +521,10 @@ module _ (a : Air) (w : Orderly a) (hears : ℕ → Bool) (t : ℕ) (m : List �
   taken-as (gone (suc (suc f)) k tdms l) is law = absurd (omega (arith, law .1 .1 .1 .1 .1 .1 .flags))
   taken-as (vectors flag tdms l) is law = taken-vectors flag tdms l is
 
+  sure-heard : hears t ≡ true → (id : ℕ) {F A : List ℕ} → SureAt (a .carries t) id F A → Sure (absentTo a hears id t) (inForce a t id) (coming a t id) F A
+  sure-heard heard id {F} {A} w =
+      subst (λ (b : Bool). Sure (absentBy (cond b (presentIn id (a .carries t)) unheard) (absentBefore a hears id t)) (inForce a t id) (coming a t id) F A) (sym heard) w
+
   pub field-known : hears t ≡ true → (f : Frames) → f ≡ record { last = countAt (timed a) t; heard = 1; unbroken = cond u 1 0; row = capped (inRow hears t) }
       → Known a hears t (withFrames f (takenIn (fieldOn a t) m)) u
   unfolding fieldOn
@@ -519,7 +542,7 @@ module _ (a : Air) (w : Orderly a) (hears : ℕ → Bool) (t : ℕ) (m : List �
             (sym (ap (λ (b : Bool). over (cond b (presentIn id (a .carries t)) unheard) (presentBefore a hears id t)) heard))
             (sym (ap (λ (b : Bool). over (cond b (comingIn id (a .carries t)) unheard) (comingBefore a hears id t)) heard))
             (sym (structures-kept x (k .size) f id 0 hid (lit< tt))) (sym (structures-kept x (k .size) f id 1 hid (lit< tt)));
-        sure = λ id hid. sure-as (sym (structures-kept x (k .size) f id 0 hid (lit< tt))) (sym (structures-kept x (k .size) f id 1 hid (lit< tt))) (k .sure id hid);
+        sure = λ id hid. sure-heard heard id (sure-as (sym (structures-kept x (k .size) f id 0 hid (lit< tt))) (sym (structures-kept x (k .size) f id 1 hid (lit< tt))) (k .sure id hid));
         wholly = h .wholly;
         turns = λ id hid. subst (TurnsAt (a .carries t) id) (sym (structures-kept x (k .size) f id 0 hid (lit< tt))) (k .turns id hid);
         came = λ id hid. subst (CameAt (a .carries t) id) (sym (structures-kept x (k .size) f id 1 hid (lit< tt))) (k .came id hid);

@@ -28,7 +28,7 @@ use Rattle.map.proofs.Changing.{blank-empty, part-blank, gap-length, gap-struct
 use Rattle.multiplex.specs.Broadcast.{change, epoch, begun, Linked}
 use Rattle.multiplex.specs.Broadcast as broadcast
 use Rattle.multiplex.specs.Air.{Air, timed, newIn, oldIn, later, same, lastOld, lastNew, linkOf, linksOld, linksNew, newBefore, newTo, goneBefore, goneTo, inForce, coming, Said, nothing, described, deleted, Orderly}
-use Rattle.multiplex.specs.Finding.{aloneBefore, roundsBefore, roundsTo, newRoundsBefore, newRoundsTo, whollyBefore, news, overChange, readyBefore, readyTo}
+use Rattle.multiplex.specs.Finding.{isAbsent, absentBy, absentBefore, absentTo, aloneBefore, roundsBefore, roundsTo, newRoundsBefore, newRoundsTo, whollyBefore, news, overChange, readyBefore, readyTo}
 use Rattle.multiplex.specs.Sound.{anyBefore, Word, unheard, absent, there, over, presentIn, comingIn, comingBefore, comingTo, presentBefore, presentTo}
 use Rattle.multiplex.proofs.Distances.{epoch-step, epoch-mono}
 use Rattle.multiplex.proofs.Knowing.{Front, some, all, Next, none, delete, piece, sure, full, Silent, Past, Settled, stays-so, told, ends, front-gap, next-gap, front-unsure, front-sure}
@@ -103,6 +103,33 @@ heardReady a hears id n =
     cond (change (timed a) (suc n))
     (cond (whollyBefore a hears n) (readyTo a hears id n || news a id n) (overChange (comingTo a hears id n) (readyTo a hears id n) a hears id n)) (readyTo a hears id n)
 
+-- nothing is certain behind a change that is not sure
+unsure-any : {g : Bool} {xs zs F A : List ℕ} → Sure false xs zs F A → Sure g xs zs F A
+unsure-any w = record { front = w .front; next = w .next; gone = λ z c. absurd (subst T (sym (w .gone z c)) tt) }
+
+-- that it is not there stays heard, over frames that were missed within a configuration
+absent-kept : (a : Air) (hears : ℕ → Bool) (id t n : ℕ) → t < n → Gap hears t n → epoch (timed a) n ≡ epoch (timed a) t → absentBefore a hears id n ≡ absentTo a hears id t
+unfolding absentBefore absentBy
+absent-kept a hears id t zero l gap on = absurd (omega arith)
+absent-kept a hears id t (suc n) l gap on = go (change (timed a) (suc n)) refl (ℕ-discrete t n) (absent-kept a hears id t n)
+  where
+    go : (b : Bool) → change (timed a) (suc n) ≡ b → Dec (t ≡ n)
+        → (t < n → Gap hears t n → epoch (timed a) n ≡ epoch (timed a) t → absentBefore a hears id n ≡ absentTo a hears id t)
+        → cond (change (timed a) (suc n)) (hears n && (whollyBefore a hears n && isAbsent (comingTo a hears id n))) (absentTo a hears id n) ≡ absentTo a hears id t
+    go true c d r = absurd (omega (arith, on, epoch-step (timed a) n true c, epoch-mono (timed a) t n (omega (arith, l))))
+    go false c (yes e) r =
+        ap (λ (b : Bool). cond b (hears n && (whollyBefore a hears n && isAbsent (comingTo a hears id n))) (absentTo a hears id n)) c
+        ∙ ap (λ (v : ℕ). absentTo a hears id v) (sym e)
+    go false c (no e) r =
+        ap (λ (b : Bool). cond b (hears n && (whollyBefore a hears n && isAbsent (comingTo a hears id n))) (absentTo a hears id n)) c
+        ∙ ap (λ (b : Bool). absentBy (cond b (presentIn id (a .carries n)) unheard) (absentBefore a hears id n)) (off (hears n) refl)
+        ∙ r (omega (arith, l, e)) (λ v hv hh. gap v (omega (arith, hv)) hh)
+        (omega (arith, on, epoch-step (timed a) n false c))
+      where
+        off : (b : Bool) → hears n ≡ b → hears n ≡ false
+        off true q = absurd (omega (arith, l, e, gap n (omega arith) q))
+        off false q = q
+
 any-heard : (hears : ℕ → Bool) (t v : ℕ) → t < v → hears t ≡ true → anyBefore hears v ≡ true
 unfolding anyBefore
 any-heard hears t zero l h = absurd (omega arith)
@@ -168,6 +195,13 @@ module _ (a : Air) (w : Orderly a) (hears : ℕ → Bool) (t : ℕ) (m : List �
       ap (λ (x : Bool). cond x (not (change (timed a) (suc t)) && aloneBefore a hears t) (not (anyBefore hears t))) (k .heard)
       ∙ ap (λ (x : Bool). not x && aloneBefore a hears t) c
 
+  absent-next : (id : ℕ) (b : Bool) → change (timed a) (suc t) ≡ b
+      → absentBefore a hears id (suc t) ≡ cond b (whollyBefore a hears t && isAbsent (comingTo a hears id t)) (absentTo a hears id t)
+  unfolding absentBefore
+  absent-next id b c =
+      ap (λ (x : Bool). cond x (hears t && (whollyBefore a hears t && isAbsent (comingTo a hears id t))) (absentTo a hears id t)) c
+      ∙ ap (λ (x : Bool). cond b (x && (whollyBefore a hears t && isAbsent (comingTo a hears id t))) (absentTo a hears id t)) (k .heard)
+
   rounds-next : (id : ℕ) → roundsBefore a hears id (suc t) ≡ cond (change (timed a) (suc t)) 0 (roundsTo a hears id t)
   unfolding roundsBefore
   rounds-next id = ap (λ (x : Bool). cond x (cond (change (timed a) (suc t)) 0 (roundsTo a hears id t)) 0) (k .heard)
@@ -193,7 +227,8 @@ module _ (a : Air) (w : Orderly a) (hears : ℕ → Bool) (t : ℕ) (m : List �
         words = λ id hid.
             let g = goes (suc t) (omega arith) (λ v hv hh. hv) id .before on in
             words-as (k .words id hid) (sym (g .1)) (sym (g .0)) refl refl;
-        sure = λ id hid. subst (λ (x : ℕ). Sure (a .config x id) (a .config (suc x) id) (structureAt id 0 m) (structureAt id 1 m)) (sym on) (k .sure id hid);
+        sure = λ id hid. subst (λ (x : ℕ). Sure (absentBefore a hears id (suc t)) (a .config x id) (a .config (suc x) id) (structureAt id 0 m) (structureAt id 1 m)) (sym on)
+            (subst (λ (g : Bool). Sure g (inForce a t id) (coming a t id) (structureAt id 0 m) (structureAt id 1 m)) (sym (absent-next id false c)) (k .sure id hid));
         wholly = k .wholly ∙ sym (wholly-next false c);
         turns = λ id hid. turns-as (sym (ready-next id ∙ ap (λ (b : Bool). cond b (crossed id) (readyTo a hears id t)) c)) (sym (alone-next false c)) (sym (rounds-next id ∙ ap (λ (b : Bool). cond b 0 (roundsTo a hears id t)) c))
             (ap (λ (x : ℕ). a .config x id) (sym on))
@@ -292,8 +327,11 @@ module _ (a : Air) (w : Orderly a) (hears : ℕ → Bool) (t : ℕ) (m : List �
             let g = goes (suc t) (omega arith) (λ v hv hh. hv) id .behind on in
             words-as (words-change u m (k .size) id hid _ _ (k .words id hid)) (sym (g .1)) (sym (g .0)) refl refl;
         sure = λ id hid.
-            subst (λ (x : ℕ). Sure (a .config x id) (a .config (suc x) id) (structureAt id 0 (changedFrom ids 0 u m)) (structureAt id 1 (changedFrom ids 0 u m))) (sym on)
-            (sure-change u m (k .size) id hid _ _ _ (k .sure id hid));
+            subst (λ (x : ℕ). Sure (absentBefore a hears id (suc t)) (a .config x id) (a .config (suc x) id) (structureAt id 0 (changedFrom ids 0 u m)) (structureAt id 1 (changedFrom ids 0 u m)))
+            (sym on)
+            (subst (λ (g : Bool). Sure g (coming a t id) (a .config (suc (suc e)) id) (structureAt id 0 (changedFrom ids 0 u m)) (structureAt id 1 (changedFrom ids 0 u m)))
+            (sym (absent-next id true c ∙ ap (λ (b : Bool). b && isAbsent (comingTo a hears id t)) (sym (k .wholly))))
+            (sure-change u m (k .size) id hid _ _ (k .words id hid) (absentTo a hears id t) _ _ _ (k .sure id hid)));
         wholly = sym (wholly-next true c);
         turns = λ id hid. record {
           rightly = λ e. subst (λ (x : ℕ). Right (a .config x id) (lastOld a id (suc t)) (structureAt id 0 (changedFrom ids 0 u m))) (sym on)
@@ -326,10 +364,10 @@ module _ (a : Air) (w : Orderly a) (hears : ℕ → Bool) (t : ℕ) (m : List �
         words-as (words-gap _ _ _ _ (structure-length m (k .size) id 0 hid (lit< tt)) (structure-length m (k .size) id 1 hid (lit< tt)) (k .words id hid)) refl refl
         (sym (gap-structure m (k .size) id 0 hid (lit< tt))) (sym (gap-structure m (k .size) id 1 hid (lit< tt)))
 
-    gap-sure : (id : ℕ) → id < ids → Sure (inForce a t id) (coming a t id) (structureAt id 0 gaps) (structureAt id 1 gaps)
+    gap-sure : (id : ℕ) → id < ids → Sure (absentTo a hears id t) (inForce a t id) (coming a t id) (structureAt id 0 gaps) (structureAt id 1 gaps)
     gap-sure id hid =
         sure-as (sym (gap-structure m (k .size) id 0 hid (lit< tt))) (sym (gap-structure m (k .size) id 1 hid (lit< tt)))
-        (sure-gap _ _ _ _ (structure-length m (k .size) id 0 hid (lit< tt)) (structure-length m (k .size) id 1 hid (lit< tt)) (k .sure id hid))
+        (sure-gap (absentTo a hears id t) _ _ _ _ (structure-length m (k .size) id 0 hid (lit< tt)) (structure-length m (k .size) id 1 hid (lit< tt)) (k .sure id hid))
 
     -- the frame before was missed
     lost : Lost a hears n
@@ -352,7 +390,8 @@ module _ (a : Air) (w : Orderly a) (hears : ℕ → Bool) (t : ℕ) (m : List �
       words = λ id hid.
           let g = goes n later-on gap id .before on in
           words-as (gap-words id hid) (sym (g .1)) (sym (g .0)) refl refl;
-      sure = λ id hid. subst (λ (x : ℕ). Sure (a .config x id) (a .config (suc x) id) (structureAt id 0 gaps) (structureAt id 1 gaps)) (sym on) (gap-sure id hid);
+      sure = λ id hid. subst (λ (x : ℕ). Sure (absentBefore a hears id n) (a .config x id) (a .config (suc x) id) (structureAt id 0 gaps) (structureAt id 1 gaps)) (sym on)
+          (subst (λ (g : Bool). Sure g (inForce a t id) (coming a t id) (structureAt id 0 gaps) (structureAt id 1 gaps)) (sym (absent-kept a hears id t n later-on gap on)) (gap-sure id hid));
       wholly = sym (lost .wholly);
       turns = λ id hid. lost-turns id;
       came = λ id hid. none-came (lost .announced id);
@@ -377,8 +416,8 @@ module _ (a : Air) (w : Orderly a) (hears : ℕ → Bool) (t : ℕ) (m : List �
               let g = goes n later-on gap id .behind on in
               words-as (words-change false gaps lg id hid _ _ (gap-words id hid)) (sym (g .1)) (sym (g .0)) refl refl;
           sure = λ id hid.
-              subst (λ (x : ℕ). Sure (a .config x id) (a .config (suc x) id) (structureAt id 0 (changedFrom ids 0 false gaps)) (structureAt id 1 (changedFrom ids 0 false gaps)))
-              (sym on) (sure-change false gaps lg id hid _ _ _ (gap-sure id hid));
+              subst (λ (x : ℕ). Sure (absentBefore a hears id n) (a .config x id) (a .config (suc x) id) (structureAt id 0 (changedFrom ids 0 false gaps)) (structureAt id 1 (changedFrom ids 0 false gaps)))
+              (sym on) (unsure-any (sure-change false gaps lg id hid _ _ (gap-words id hid) (absentTo a hears id t) _ _ _ (gap-sure id hid)));
           wholly = sym (lost .wholly);
           turns = λ id hid. lost-turns id;
           came = λ id hid. none-came (lost .announced id);
@@ -489,10 +528,13 @@ first-before a hears t quiet = record {
         gone = λ z c. absurd (c (blank-certain id hid));
         ends = λ z c. absurd (omega (arith, c, em .deleted));
         ended = λ q. absent-unheard (sym q ∙ r .1);
+        heard = λ h. absurd (omega (arith, h, blank-structure id 0 hid (lit< tt) .fields));
+        told = λ h. absurd (omega (arith, h, em .fields));
       };
   sure = λ id hid. record {
     front = λ c. absurd (omega (arith, eqb-true (headOf (structureAt id 0 (blank mapSize)) .certain) 1 (certainly-mark _ c), blank-certain id hid));
     next = λ h. absurd (omega (arith, h, blank-structure id 1 hid (lit< tt) .fields));
+    gone = λ z c. absurd (c (blank-certain id hid));
   };
   wholly = sym (first-at a hears t quiet .wholly);
   turns = λ id hid. record {

@@ -12,7 +12,7 @@
 --
 -- Assumes nothing.
 use mathlib.Core.Path.{_≡_, refl, sym, ap, ap₂, _∙_, subst}
-use mathlib.Core.Bool.{Bool, true, cond, not}
+use mathlib.Core.Bool.{Bool, true, false, cond, not}
 use mathlib.Core.List.{List}
 use Prim.Native.Nat.{ℕ, zero, suc, _≤_}
 use native.Mathlib.Omega.{arith}
@@ -31,7 +31,7 @@ use Rattle.multiplex.specs.Example.{structures, pick, told, example}
 use Rattle.multiplex.specs.Empty.{deaf, doubting, mute, refusing, firstOnly, late}
 use Rattle.multiplex.specs.Air.{vectors, Air, timed, inForce, fieldOn, oldIn, newIn, goneIn, InTurn, Orderly}
 use Rattle.multiplex.specs.Sound.{kept, missedBefore, inRow, Listener, Word, unheard, over, presentIn, comingIn, comingBefore, presentBefore, wordFor, NeverWrong}
-use Rattle.multiplex.specs.Finding.{Near, first, found, aloneBefore, roundsBefore, whollyBefore, overChange, readyBefore, readyTo, every, Finds, ShowsInForce, heardNews, Announces, Reason, gone, long, Admits}
+use Rattle.multiplex.specs.Finding.{Near, first, found, aloneBefore, roundsBefore, whollyBefore, overChange, readyBefore, readyTo, every, Finds, ShowsInForce, heardNews, absentBy, absentBefore, absentBehind, absentFor, Announces, Reason, gone, long, Admits}
 use Rattle.multiplex.proofs.Soundness.{State, silent, since-one, state-at}
 use Rattle.multiplex.proofs.Steady.{lists, steady, steady-orderly}
 use Rattle.multiplex.proofs.Denied.{unsaid}
@@ -187,18 +187,29 @@ hidden-orderly = record {
   said = λ t id hid c b. unsaid hidden id (λ v. (refl, refl)) t refl;
 }
 
-no-word : wordFor hidden every 7 0 0 ≡ unheard
-unfolding wordFor presentBefore comingBefore over presentIn comingIn hidden epoch
-no-word = refl
+not-heard : absentFor hidden every 7 0 0 ≡ false
+unfolding absentFor absentBefore absentBy absentBehind presentIn hidden epoch
+not-heard = refl
 
 pub deaf-known-not : Admits deaf → ⊥
-unfolding deaf inRow heardNews
+unfolding deaf inRow
 deaf-known-not n =
     go (n .known hidden hidden-orderly every near-every 0 0 7 refl (omega arith) (omega arith) (lit< tt) refl refl refl)
   where
     go : Reason hidden every 7 0 0 → ⊥
-    go (gone e) = subst (λ (w : Word). T (not (heardNews w))) (sym no-word ∙ e) tt
+    go (gone e) = subst T (sym e ∙ not-heard) tt
     go (long h) = omega arith
+
+-- nor is 46 said of what nobody heard of
+no-word : wordFor hidden every 7 0 0 ≡ unheard
+unfolding wordFor presentBefore comingBefore over presentIn comingIn hidden epoch
+no-word = refl
+
+pub mute-doubts-not : Admits mute → ⊥
+unfolding mute heardNews
+mute-doubts-not n =
+    subst (λ (w : Word). T (heardNews w))
+    (sym (n .doubts hidden hidden-orderly every near-every 0 0 7 refl (omega arith) (omega arith) (lit< tt) refl) ∙ no-word) tt
 
 pub doubting-not : Admits doubting → ⊥
 unfolding doubting inRow

@@ -12,7 +12,7 @@ use mathlib.Core.Logic.{_⊎_, inl, inr}
 use Prim.Native.Nat.{ℕ, suc, _+_, _-_, _%_, _≤_, _<_}
 use native.Mathlib.Omega.{arith}
 use native.Mathlib.Decide.{ℕ-discrete, decLt}
-use borrow.Author.Tests.{eq-eqb, ne-eqb, lt-ltb, le-ltb, eqb-true, leb-true}
+use borrow.Author.Tests.{eq-eqb, ne-eqb, lt-ltb, le-ltb, ltb-true, eqb-true, leb-true}
 use lib.Dec.{T, leb, ltb, eqb}
 use lib.ListN.{length}
 use Rattle.bits.proofs.Search.{and-left, and-right}
@@ -21,13 +21,13 @@ use Rattle.structure.specs.declared.Structure.{Structure}
 use Rattle.frames.specs.Counts.{ahead, until, changing, enough, allHeard}
 use Rattle.frames.specs.declared.Frames.{Frames}
 use Rattle.map.specs.Map.{ids, mapSize, structureAt, framesOf, good, announced}
-use Rattle.map.specs.Calls.{thenHead, unknown, foundOf, shownAt, shown}
+use Rattle.map.specs.Calls.{thenHead, thenNumber, unknown, foundOf, shownAt, shown}
 use Rattle.map.specs.declared.Shown.{Shown}
 use Rattle.multiplex.specs.Broadcast.{countAt, change, epoch}
 use Rattle.multiplex.specs.Heard.{ours, shownFields}
 use Rattle.multiplex.specs.Air.{Air, timed, Orderly}
 use Rattle.multiplex.specs.Sound.{kept, inRow, Word, unheard, absent, there, over, presentTo, comingTo, wordFor}
-use Rattle.multiplex.specs.Finding.{Near, NextChange, heardNews, Announces, Reason, gone, long, Admits}
+use Rattle.multiplex.specs.Finding.{Near, whollyBefore, absentTo, absentBehind, absentFor, NextChange, heardNews, Announces, Reason, gone, long, Admits}
 use Rattle.multiplex.proofs.Words.{Words}
 use Rattle.multiplex.proofs.Listening.{capped, Known}
 use Rattle.multiplex.proofs.Seeing.{shown-is, head-force, head-coming}
@@ -162,44 +162,59 @@ module _ (a : Air) (hears : ℕ → Bool) (t : ℕ) (m : List ℕ) (k : Kept a h
 
   -- nothing was announced, or not before that frame
   by-force : behind ≡ false → shown m id asked .unknown ≡ 0 → Reason a hears id t v
-  unfolding wordFor over announced heardNews
+  unfolding absentFor absentBehind announced heardNews
   by-force q e =
       let is = head-force m id asked (k .holds .size) (k .all-good) q in
       let f = none-shown (subst (λ (x : Structure). (x .whole ≡ 0) ⊎ (x .whole ≡ 1)) (sym is) (bit-front a hears (suc t) _ id _ (structureAt id 0 m) (k .holds .front id hid))) in
       go is f (known-by a hears t m k id asked hid f e)
     where
-      last : presentTo a hears id t ≡ absent → wordFor a hears id t v ≡ absent
+      last : absentTo a hears id t ≡ true → absentFor a hears id t v ≡ true
       last p = by (ltb (epoch (timed a) t) (epoch (timed a) v)) refl
         where
-          by : (b : Bool) → ltb (epoch (timed a) t) (epoch (timed a) v) ≡ b → wordFor a hears id t v ≡ absent
+          by : (b : Bool) → ltb (epoch (timed a) t) (epoch (timed a) v) ≡ b → absentFor a hears id t v ≡ true
           by true z =
-              ap (λ (b : Bool). cond b (over (comingTo a hears id t) (presentTo a hears id t)) (presentTo a hears id t)) z
+              ap (λ (b : Bool). cond b (absentBehind (comingTo a hears id t) a hears id t) (absentTo a hears id t)) z
               ∙ quiet (comingTo a hears id t) refl
             where
               unsaid : said (headOf (structureAt id 1 m)) ≡ false
               unsaid = sym (ap (λ (b : Bool). b && said (announced id m)) (changing-now a hears t m (k .unbroken) (k .holds) v lo hi ∙ z)) ∙ q
 
-              quiet : (x : Word) → comingTo a hears id t ≡ x → over x (presentTo a hears id t) ≡ absent
+              quiet : (x : Word) → comingTo a hears id t ≡ x → absentBehind x a hears id t ≡ true
               quiet unheard z = p
-              quiet absent z = refl
+              quiet absent z = absurd (subst T (sym (ap heardNews z) ∙ sym (news-is a hears t m k id asked hid) ∙ unsaid) tt)
               quiet there z = absurd (subst T (sym (ap heardNews z) ∙ sym (news-is a hears t m k id asked hid) ∙ unsaid) tt)
           by false z =
-              ap (λ (b : Bool). cond b (over (comingTo a hears id t) (presentTo a hears id t)) (presentTo a hears id t)) z ∙ p
+              ap (λ (b : Bool). cond b (absentBehind (comingTo a hears id t) a hears id t) (absentTo a hears id t)) z ∙ p
 
       go : thenHead m id asked ≡ headOf (structureAt id 0 m) → thenHead m id asked .fields ≡ 0
           → (enough (framesOf m) ≡ true) ⊎ (thenHead m id asked .certain ≡ 0 → ⊥) → Reason a hears id t v
       go is f (inl z) = long (row-long a hears t m k id asked hid z)
       go is f (inr ne) =
-          gone (last (words .gone (sym (ap (λ (x : Structure). x .fields) is) ∙ f) (λ z. ne (ap (λ (x : Structure). x .certain) is ∙ z))))
+          gone (last (k .holds .sure id hid .gone (sym (ap (λ (x : Structure). x .fields) is) ∙ f) (λ z. ne (ap (λ (x : Structure). x .certain) is ∙ z))))
 
-  by-coming : behind ≡ true → Reason a hears id t v
-  unfolding said announced wordFor over settledHead
-  by-coming q =
+  -- the last frame of a configuration that was wholly heard
+  all-heard : allHeard (framesOf m) ≡ true → (whollyBefore a hears t ≡ true) × (change (timed a) (suc t) ≡ true)
+  unfolding allHeard until ahead change countAt
+  all-heard q =
+      let is : (eqb (cond (k .unbroken) 1 0) 1 && eqb (until (countAt (timed a) t)) 1) ≡ true = sym (ap allHeard (k .holds .frames)) ∙ q in
+      let one-more : until (countAt (timed a) t) ≡ 1 = eqb-true (until (countAt (timed a) t)) 1 (and-right (eqb (cond (k .unbroken) 1 0) 1) _ is) in
+      (sym (k .holds .wholly) ∙ sym (mark (k .unbroken)) ∙ and-left (eqb (cond (k .unbroken) 1 0) 1) _ is, next-one one-more)
+    where
+      mark : (b : Bool) → eqb (cond b 1 0) 1 ≡ b
+      mark true = refl
+      mark false = refl
+
+      next-one : until (countAt (timed a) t) ≡ 1 → change (timed a) (suc t) ≡ true
+      next-one z = eq-eqb (countAt (timed a) (suc t) % 128) 2 (omega (arith, z))
+
+  by-coming : behind ≡ true → shown m id asked .unknown ≡ 0 → Reason a hears id t v
+  unfolding said announced absentFor absentBehind settledHead
+  by-coming q e =
       let su = allHeard (framesOf m) in
       let is = head-coming m id asked (k .holds .size) (k .all-good) q su refl in
       let f = none-shown (subst (λ (x : Structure). (x .whole ≡ 0) ⊎ (x .whole ≡ 1)) (sym is)
       (bit-settled su (headOf (structureAt id 1 m)) (bit-next a hears (suc t) _ id _ _ _ _ (k .unbroken) (structureAt id 1 m) (k .holds .next id hid)))) in
-      gone (last (sym (ap (λ (x : Structure). x .fields) is) ∙ f))
+      go is (sym (ap (λ (x : Structure). x .fields) is) ∙ f) (known-by a hears t m k id asked hid f e)
     where
       now : ltb (epoch (timed a) t) (epoch (timed a) v) ≡ true
       now = sym (changing-now a hears t m (k .unbroken) (k .holds) v lo hi) ∙ and-left (changing (framesOf m) asked) _ q
@@ -210,17 +225,83 @@ module _ (a : Air) (hears : ℕ → Bool) (t : ℕ) (m : List ℕ) (k : Kept a h
           (eqb-true (headOf (structureAt id 1 m) .deleted) 1
           (sym (ap (λ (n : ℕ). ltb 0 n || eqb (headOf (structureAt id 1 m) .deleted) 1) f) ∙ and-right (changing (framesOf m) asked) _ q))
 
-      last : headOf (structureAt id 1 m) .fields ≡ 0 → wordFor a hears id t v ≡ absent
-      last f =
-          ap (λ (b : Bool). cond b (over (comingTo a hears id t) (presentTo a hears id t)) (presentTo a hears id t)) now
-          ∙ ap (λ (x : Word). over x (presentTo a hears id t)) (ended f)
+      last : headOf (structureAt id 1 m) .fields ≡ 0 → allHeard (framesOf m) ≡ true → absentFor a hears id t v ≡ true
+      last f all =
+          let x = all-heard all in
+          ap (λ (b : Bool). cond b (absentBehind (comingTo a hears id t) a hears id t) (absentTo a hears id t)) now
+          ∙ ap (λ (x : Word). absentBehind x a hears id t) (ended f) ∙ ap₂ (λ (x y : Bool). x && y) (x .0) (x .1)
+
+      go : thenHead m id asked ≡ settledHead (allHeard (framesOf m)) (headOf (structureAt id 1 m)) → headOf (structureAt id 1 m) .fields ≡ 0
+          → (enough (framesOf m) ≡ true) ⊎ (thenHead m id asked .certain ≡ 0 → ⊥) → Reason a hears id t v
+      go is f (inl z) = long (row-long a hears t m k id asked hid z)
+      go is f (inr ne) = by (allHeard (framesOf m)) refl
+        where
+          by : (b : Bool) → allHeard (framesOf m) ≡ b → Reason a hears id t v
+          by true z = gone (last f z)
+          by false z =
+              absurd (ne (ap (λ (x : Structure). x .certain) is ∙ ap (λ (b : Bool). cond b (headOf (structureAt id 1 m) .certain) 0) z))
 
   pub reason : shown m id asked .unknown ≡ 0 → Reason a hears id t v
   reason e = go behind refl
     where
       go : (b : Bool) → behind ≡ b → Reason a hears id t v
-      go true q = by-coming q
+      go true q = by-coming q e
       go false q = by-force q e
+
+-- ---- 46
+
+module _ (a : Air) (hears : ℕ → Bool) (t : ℕ) (m : List ℕ) (k : Kept a hears t m) (v id : ℕ) (hid : id < ids) (lo : t ≤ v) (hi : v ≤ t + 128)
+    (unfinished : shown m id (countAt (timed a) v) .number ≡ 46) where
+  abbrev c : ℕ
+  c = countAt (timed a) v
+
+  -- the structure has fields
+  some-shown : 0 < thenHead m id c .fields
+  unfolding shownAt foundOf thenNumber
+  some-shown = go (ltb 0 (thenHead m id c .fields)) refl
+    where
+      is : thenNumber (thenHead m id c) ≡ 46
+      is = sym (ap (λ (x : Shown). x .number) (shown-is m id c (k .holds .size) (k .all-good))) ∙ unfinished
+
+      differ : (x : ℕ) → x ≡ 0 → x ≡ 46 → ⊥
+      differ x p q = omega (arith, p, q)
+
+      go : (b : Bool) → ltb 0 (thenHead m id c .fields) ≡ b → 0 < thenHead m id c .fields
+      go true e = ltb-true 0 (thenHead m id c .fields) e
+      go false e =
+          absurd (differ (thenNumber (thenHead m id c)) (ap (λ (b : Bool). cond (b && eqb (thenHead m id c .whole) 0) 46 0) e) is)
+
+  pub doubted : wordFor a hears id t v ≡ there
+  unfolding wordFor over said announced settledHead heardNews
+  doubted = go (changing (framesOf m) c && said (announced id m)) refl (ltb (epoch (timed a) t) (epoch (timed a) v)) refl
+    where
+      w : Words (presentTo a hears id t) (comingTo a hears id t) (structureAt id 0 m) (structureAt id 1 m)
+      w = k .holds .words id hid
+
+      for : (b : Bool) → ltb (epoch (timed a) t) (epoch (timed a) v) ≡ b
+          → wordFor a hears id t v ≡ cond b (over (comingTo a hears id t) (presentTo a hears id t)) (presentTo a hears id t)
+      for b z = ap (λ (b : Bool). cond b (over (comingTo a hears id t) (presentTo a hears id t)) (presentTo a hears id t)) z
+
+      force : (changing (framesOf m) c && said (announced id m)) ≡ false → presentTo a hears id t ≡ there
+      force q = w .heard (subst (λ (x : Structure). 0 < x .fields) (head-force m id c (k .holds .size) (k .all-good) q) some-shown)
+
+      come : (changing (framesOf m) c && said (announced id m)) ≡ true → comingTo a hears id t ≡ there
+      come q = w .told (subst (λ (x : Structure). 0 < x .fields) (head-coming m id c (k .holds .size) (k .all-good) q (allHeard (framesOf m)) refl) some-shown)
+
+      quiet : (x : Word) → comingTo a hears id t ≡ x → said (headOf (structureAt id 1 m)) ≡ false → presentTo a hears id t ≡ there → over x (presentTo a hears id t) ≡ there
+      quiet unheard z s p = p
+      quiet absent z s p = absurd (subst T (sym (ap heardNews z) ∙ sym (news-is a hears t m k id c hid) ∙ s) tt)
+      quiet there z s p = refl
+
+      go : (b : Bool) → (changing (framesOf m) c && said (announced id m)) ≡ b → (x : Bool) → ltb (epoch (timed a) t) (epoch (timed a) v) ≡ x → wordFor a hears id t v ≡ there
+      go true q true z = for true z ∙ ap (λ (y : Word). over y (presentTo a hears id t)) (come q)
+      go true q false z =
+          absurd (subst T (sym (and-left (changing (framesOf m) c) _ q) ∙ changing-now a hears t m (k .unbroken) (k .holds) v lo hi ∙ z) tt)
+      go false q true z =
+          for true z
+          ∙ quiet (comingTo a hears id t) refl
+          (sym (ap (λ (b : Bool). b && said (announced id m)) (changing-now a hears t m (k .unbroken) (k .holds) v lo hi ∙ z)) ∙ q) (force q)
+      go false q false z = for false z ∙ force q
 
 -- ---- the theorems
 
@@ -237,4 +318,5 @@ unfolding ours
 admits = record {
   known = λ a w hears near-by t v id ht lo hi hid number fields. reason a hears t _ (kept-at a w hears near-by t ht) v id hid lo hi number fields;
   enough = λ a w hears near-by t id count ht hid. enough-then a hears t _ (kept-at a w hears near-by t ht) id count hid;
+  doubts = λ a w hears near-by t v id ht lo hi hid number. doubted a hears t _ (kept-at a w hears near-by t ht) v id hid lo hi number;
 }

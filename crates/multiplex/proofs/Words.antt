@@ -9,7 +9,7 @@
 --
 -- Assumes nothing.
 use mathlib.Core.Path.{_≡_, refl, sym, ap, ap₂, _∙_, subst}
-use mathlib.Core.Bool.{Bool, true, false, cond, _&&_}
+use mathlib.Core.Bool.{Bool, true, false, cond, _&&_, _||_}
 use mathlib.Core.List.{List}
 use Prim.Native.Nat.{ℕ, zero, suc, _+_, _-_, _^_, _≤_, _<_}
 use native.Mathlib.Omega.{arith}
@@ -23,10 +23,11 @@ use Rattle.structure.proofs.Kept.{spoiled-none, spoiled-some, spoiled-certain}
 use Rattle.structure.proofs.Runs.{gathered-some, gathered-whole}
 use Rattle.map.specs.Map.{ids, mapSize, structureAt, stayed, settled, forced, changedFrom}
 use Rattle.map.proofs.Places.{structure-length}
-use Rattle.map.proofs.Changing.{stayed-some, stayed-certain, settled-some, stays, comes-in, force-behind, emptied}
+use Rattle.map.proofs.Changing.{stayed-some, stayed-certain, settled-some, settled-certain, stays, comes-in, goes-out, force-behind, emptied}
 use Rattle.multiplex.specs.Broadcast.{change, epoch}
 use Rattle.multiplex.specs.Air.{Air, timed}
 use Rattle.multiplex.specs.Sound.{Word, unheard, absent, there, over, presentIn, comingIn, comingBefore, comingTo, presentBefore, presentTo}
+use Rattle.multiplex.specs.Finding.{isAbsent}
 use Rattle.multiplex.proofs.Distances.{epoch-step, epoch-mono}
 use Rattle.multiplex.proofs.Knowing.{Front, some, all, Next, none, delete, piece, sure, full, part-head}
 
@@ -38,14 +39,19 @@ pub record Words (k p : Word) (F A : List ℕ) : Type 0 where
   pub gone : headOf F .fields ≡ 0 → (headOf F .certain ≡ 0 → ⊥) → k ≡ absent
   pub ends : headOf A .fields ≡ 0 → headOf A .deleted ≡ 1 → p ≡ absent
   pub ended : p ≡ absent → (headOf A .fields ≡ 0) × (headOf A .deleted ≡ 1)
+  -- and what has fields was heard
+  pub heard : 0 < headOf F .fields → k ≡ there
+  pub told : 0 < headOf A .fields → p ≡ there
 
 -- what is certain is there: xs is the structure in force, zs the coming one
-pub record Sure (xs zs F A : List ℕ) : Type 0 where
+pub record Sure (g : Bool) (xs zs F A : List ℕ) : Type 0 where
   pub front : certainly (headOf F) ≡ true → 0 < length xs
   pub next : 0 < headOf A .fields → 0 < length zs
+  -- that it is not there was heard for certain
+  pub gone : headOf F .fields ≡ 0 → (headOf F .certain ≡ 0 → ⊥) → g ≡ true
 
-pub sure-as : {xs zs F A F' A' : List ℕ} → F ≡ F' → A ≡ A' → Sure xs zs F A → Sure xs zs F' A'
-sure-as {xs} {zs} {F} {A} {F'} {A'} ef ea w = subst (λ (x : List ℕ). Sure xs zs x A') ef (subst (Sure xs zs F) ea w)
+pub sure-as : {g : Bool} {xs zs F A F' A' : List ℕ} → F ≡ F' → A ≡ A' → Sure g xs zs F A → Sure g xs zs F' A'
+sure-as {g} {xs} {zs} {F} {A} {F'} {A'} ef ea w = subst (λ (x : List ℕ). Sure g xs zs x A') ef (subst (Sure g xs zs F) ea w)
 
 -- which word it is
 pub rank : Word → ℕ
@@ -80,16 +86,25 @@ words-as {k} {p} {k'} {p'} {F} {A} {F'} {A'} w ek ep ef ea =
     (subst (λ (x : Word). Words k x F' A') ep (subst (λ (x : List ℕ). Words k p x A') ef (subst (Words k p F) ea w)))
 
 pub words-force : (k p : Word) (F A s : List ℕ) → Words k p F A → 0 < headOf s .fields → Words there p s A
-words-force k p F A s w h = record { present = λ q. h; coming = w .coming; nothing = w .nothing; gone = λ z c. absurd (omega (arith, h, z)); ends = w .ends; ended = w .ended }
+words-force k p F A s w h = record { present = λ q. h; coming = w .coming; nothing = w .nothing; gone = λ z c. absurd (omega (arith, h, z)); ends = w .ends; ended = w .ended; heard = λ _. refl; told = w .told }
 
-pub words-dropped : (k p : Word) (F A s : List ℕ) → Words k p F A → Words absent p s A
-words-dropped k p F A s w = record { present = λ q. absent-there q; coming = w .coming; nothing = w .nothing; gone = λ z c. refl; ends = w .ends; ended = w .ended }
+pub words-dropped : (k p : Word) (F A s : List ℕ) → Words k p F A → headOf s .fields ≡ 0 → Words absent p s A
+words-dropped k p F A s w f = record {
+  present = λ q. absent-there q;
+  coming = w .coming;
+  nothing = w .nothing;
+  gone = λ z c. refl;
+  ends = w .ends;
+  ended = w .ended;
+  heard = λ h. absurd (omega (arith, h, f));
+  told = w .told;
+}
 
 pub words-told : (k p : Word) (F A s : List ℕ) → Words k p F A → 0 < headOf s .fields → Words k there F s
-words-told k p F A s w h = record { present = w .present; coming = λ q. h; nothing = λ q. there-unheard q; gone = w .gone; ends = λ z c. absurd (omega (arith, h, z)); ended = λ q. absent-there (sym q) }
+words-told k p F A s w h = record { present = w .present; coming = λ q. h; nothing = λ q. there-unheard q; gone = w .gone; ends = λ z c. absurd (omega (arith, h, z)); ended = λ q. absent-there (sym q); heard = w .heard; told = λ _. refl }
 
 pub words-ends : (k p : Word) (F A s : List ℕ) → Words k p F A → headOf s .fields ≡ 0 → headOf s .deleted ≡ 1 → Words k absent F s
-words-ends k p F A s w f d = record { present = w .present; coming = λ q. absent-there q; nothing = λ q. absent-unheard q; gone = w .gone; ends = λ z c. refl; ended = λ q. (f, d) }
+words-ends k p F A s w f d = record { present = w .present; coming = λ q. absent-there q; nothing = λ q. absent-unheard q; gone = w .gone; ends = λ z c. refl; ended = λ q. (f, d); heard = w .heard; told = λ h. absurd (omega (arith, h, f)) }
 
 -- ---- frames are missed
 
@@ -123,6 +138,8 @@ words-gap k p F A lf la w = record {
   ended = λ e.
       let z = spoiled-none A la (unfinished-none A (w .ended e .0)) in
       (z .fields ∙ w .ended e .0, z .deleted ∙ w .ended e .1);
+  heard = λ h. w .heard (ltb-true 0 _ (sym (spoiled-some F lf) ∙ lt-ltb 0 _ h));
+  told = λ h. w .told (ltb-true 0 _ (sym (spoiled-some A la) ∙ lt-ltb 0 _ h));
 }
 
 -- ---- a change
@@ -154,6 +171,8 @@ module _ (sure? : Bool) (m : List ℕ) (lm : length m ≡ mapSize) (id : ℕ) (h
         gone = λ z c. absurd (c (ap (λ (s : List ℕ). headOf s .certain) is ∙ stayed-certain (structureAt id 0 m) lf sure?));
         ends = λ z c. absurd (omega (arith, c, em .deleted));
         ended = λ q. absent-unheard (sym q);
+        heard = λ h. w .heard (ltb-true 0 _ (sym (stayed-some (structureAt id 0 m) lf sure?) ∙ lt-ltb 0 _ (subst (λ (s : List ℕ). 0 < headOf s .fields) is h)));
+        told = none-then;
       }
   words-change k absent w =
       let em = emptied sure? m lm id hid in
@@ -164,6 +183,15 @@ module _ (sure? : Bool) (m : List ℕ) (lm : length m ≡ mapSize) (id : ℕ) (h
         gone = λ z c. refl;
         ends = λ z c. absurd (omega (arith, c, em .deleted));
         ended = λ q. absent-unheard (sym q);
+        heard = λ h.
+            let z = w .ended refl in
+            absurd (omega (
+              arith,
+              z .0,
+              ltb-true 0 (headOf (structureAt id 1 m) .fields) (sym (settled-some sure? (structureAt id 1 m) la)
+                  ∙ lt-ltb 0 (headOf (settled sure? (structureAt id 1 m)) .fields) (subst (λ (s : List ℕ). 0 < headOf s .fields) (goes-out sure? m lm id hid (z .1)) h)),
+            ));
+        told = none-then;
       }
   words-change k there w =
       let f = w .coming refl in
@@ -177,12 +205,19 @@ module _ (sure? : Bool) (m : List ℕ) (lm : length m ≡ mapSize) (id : ℕ) (h
         gone = λ z c. absurd (omega (arith, z, some-there));
         ends = λ z c. absurd (omega (arith, c, em .deleted));
         ended = λ q. absent-unheard (sym q);
+        heard = λ h. refl;
+        told = none-then;
       }
 
   -- what is certain behind a change a sure one has put there
-  pub sure-change : (xs zs ws : List ℕ) → Sure xs zs (structureAt id 0 m) (structureAt id 1 m) → Sure zs ws (then 0) (then 1)
-  unfolding forced certainly
-  sure-change xs zs ws w = record { front = λ c. go (said (headOf (structureAt id 1 m))) refl c; next = none-then }
+  pub sure-change : (k p : Word) → Words k p (structureAt id 0 m) (structureAt id 1 m) → (g : Bool) (xs zs ws : List ℕ)
+      → Sure g xs zs (structureAt id 0 m) (structureAt id 1 m) → Sure (sure? && isAbsent p) zs ws (then 0) (then 1)
+  unfolding forced certainly said isAbsent
+  sure-change k p v g xs zs ws w = record {
+    front = λ c. go (said (headOf (structureAt id 1 m))) refl c;
+    next = none-then;
+    gone = λ z c. ends-so (said (headOf (structureAt id 1 m))) refl z c;
+  }
     where
       is : (b : Bool) → said (headOf (structureAt id 1 m)) ≡ b → then 0 ≡ cond b (settled sure? (structureAt id 1 m)) (stayed sure? (structureAt id 0 m))
       is b e = force-behind sure? m lm id hid ∙ ap (λ (x : Bool). cond x (settled sure? (structureAt id 1 m)) (stayed sure? (structureAt id 0 m))) e
@@ -198,11 +233,34 @@ module _ (sure? : Bool) (m : List ℕ) (lm : length m ≡ mapSize) (id : ℕ) (h
             ap (λ (s : List ℕ). headOf s .certain) (is false e) ∙ stayed-certain (structureAt id 0 m) lf sure?,
           ))
 
-pub sure-gap : (xs zs F A : List ℕ) → length F ≡ structureSize → length A ≡ structureSize → Sure xs zs F A → Sure xs zs (spoiled F) (spoiled A)
+      -- an announced structure that leaves no field was to be deleted
+      deleted-so : (b : Bool) → sure? ≡ b → said (headOf (structureAt id 1 m)) ≡ true → headOf (then 0) .fields ≡ 0 → (headOf (then 0) .certain ≡ 0 → ⊥) → (b && isAbsent p) ≡ true
+      deleted-so false q e z c =
+          absurd (c (ap (λ (s : List ℕ). headOf s .certain) (is true e) ∙ settled-certain sure? (structureAt id 1 m) la ∙ ap (λ (b : Bool). cond b (headOf (structureAt id 1 m) .certain) 0) q))
+      deleted-so true q e z c =
+          let f : headOf (structureAt id 1 m) .fields ≡ 0 = none-of (ℕ-discrete (headOf (structureAt id 1 m) .fields) 0) in
+          ap isAbsent (v .ends f (eqb-true (headOf (structureAt id 1 m) .deleted) 1 (sym (ap (λ (n : ℕ). ltb 0 n || eqb (headOf (structureAt id 1 m) .deleted) 1) f) ∙ e)))
+        where
+          none-of : Dec (headOf (structureAt id 1 m) .fields ≡ 0) → headOf (structureAt id 1 m) .fields ≡ 0
+          none-of (yes y) = y
+          none-of (no y) =
+              absurd (omega (
+                arith,
+                z,
+                ltb-true 0 (headOf (then 0) .fields)
+                    (ap (λ (s : List ℕ). ltb 0 (headOf s .fields)) (is true e) ∙ settled-some sure? (structureAt id 1 m) la ∙ lt-ltb 0 (headOf (structureAt id 1 m) .fields) (omega (arith, y))),
+              ))
+
+      ends-so : (b : Bool) → said (headOf (structureAt id 1 m)) ≡ b → headOf (then 0) .fields ≡ 0 → (headOf (then 0) .certain ≡ 0 → ⊥) → (sure? && isAbsent p) ≡ true
+      ends-so true e z c = deleted-so sure? refl e z c
+      ends-so false e z c = absurd (c (ap (λ (s : List ℕ). headOf s .certain) (is false e) ∙ stayed-certain (structureAt id 0 m) lf sure?))
+
+pub sure-gap : (g : Bool) (xs zs F A : List ℕ) → length F ≡ structureSize → length A ≡ structureSize → Sure g xs zs F A → Sure g xs zs (spoiled F) (spoiled A)
 unfolding certainly
-sure-gap xs zs F A lf la w = record {
+sure-gap g xs zs F A lf la w = record {
   front = λ c. w .front (sym (λ i. eqb (spoiled-certain F lf i) 1 && spoiled-some F lf i) ∙ c);
   next = λ h. w .next (ltb-true 0 _ (sym (spoiled-some A la) ∙ lt-ltb 0 _ h));
+  gone = λ z c. w .gone (spoiled-back F lf z) (λ q. c (spoiled-certain F lf ∙ q));
 }
 
 -- ---- between two frames that are heard
