@@ -2,8 +2,8 @@
 ghost use mathlib.Core.Path.{_≡_};
 ghost use Rattle.frames.specs.Counts.{ahead, since, until, goodFrames, changing, again, skips, sureAt, rowAfter, framesAfter, enough, allHeard};
 
-// The last frame count, whether there is one, whether every frame of the running configuration was heard, and how many were heard in
-// a row since the start or the last missed one, up to 255.
+// The last frame count, whether there is one, whether every frame of the running configuration was heard (and the one before it, if the
+// map was started by then), and how many were heard in a row since the start or the last missed one, up to 255.
 pub struct Frames {
     pub last: u8,
     pub heard: u8,

@@ -11,8 +11,8 @@
 //!
 //! B to E are of structures that have room in a map. B and C rest on LINKS, which is the same within a repetition; and C is of any two
 //! beginnings, one behind the other. More is looked at: from when on it must be right by `finding.rs`; that there are no fields is shown
-//! only if none came last; what is said to be announced was, and when it comes; what was heard of a list that is not whole is of the
-//! structure; and list and known say what show says.
+//! only if none came last, and 46 only if one did; what is said to be announced was, and when it comes; what was heard of a list that is
+//! not whole is of the structure; and list and known say what show says.
 
 use crate::finding::Finding;
 use crate::story::{Past, Story};
@@ -255,9 +255,10 @@ impl Laws {
         let wrong = held && gone && !here.is_empty() && (!behind || story.announced);
         let odd = it.unknown && (!silent || self.past.row >= 255);
         let blank = silent && story.is_there(behind);
+        let doubt = it.number == UNFINISHED && !story.is_there(behind);
         let frames = if story.announced { frame.to_change } else { 0 };
         let announced = (it.announced, it.frames) == (story.announced, frames);
-        if wrong || odd || blank || !announced {
+        if wrong || odd || blank || doubt || !announced {
             seen.broken.push(("marks", id, format!("{it:?} {ahead}")));
         }
         seen.shown += usize::from(it.length > 0);
