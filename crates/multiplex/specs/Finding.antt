@@ -10,7 +10,7 @@
 --   found alone n          so many beginnings are enough
 --   news                   something was said of the component's change in the running configuration
 --   readyBefore, readyTo   it must be shown rightly
---   Finds M
+--   Rightly M, Finds M     the fields in force are shown, with number 0, wherever they must be; and every frame is taken
 --   Followed a, ShowsInForce M      the request's own case: no frame is missed, from before there was a component
 --   Announces M            what is announced is told: exactly when, and in how many frames it comes
 --   absentBefore, absentTo, absentFor    that there is no such component was heard for certain

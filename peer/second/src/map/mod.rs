@@ -39,14 +39,7 @@ fn taken(map: &[u8], field: &[u8]) -> Result<Vec<u8>, u8> {
 /// of a count, whether something is announced of it, in how many frames that comes, and whether nothing is known of it.
 pub fn show(map: &[u8], id: u8, count: u8) -> (u8, usize, usize, u8, u8, u8) {
     match Map::decode(map).map(|map| map.show(id, count)) {
-        Ok(it) => (
-            it.number,
-            it.at,
-            it.length,
-            it.announced.into(),
-            it.frames,
-            it.unknown.into(),
-        ),
+        Ok(it) => it.answers(),
         Err(number) => (number, 0, 0, 0, 0, 0),
     }
 }

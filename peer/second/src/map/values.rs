@@ -43,6 +43,20 @@ pub struct Shown {
     pub unknown: bool,
 }
 
+impl Shown {
+    /// As the call answers it: (number, place, length, announced, frames, unknown).
+    pub fn answers(self) -> (u8, usize, usize, u8, u8, u8) {
+        (
+            self.number,
+            self.at,
+            self.length,
+            self.announced.into(),
+            self.frames,
+            self.unknown.into(),
+        )
+    }
+}
+
 /// The part of a map in which the fields stand that were heard of a component, and whether they are known to be all.
 #[derive(Clone, Copy, Debug, PartialEq, Eq)]
 pub struct Heard {

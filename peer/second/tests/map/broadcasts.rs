@@ -101,16 +101,7 @@ fn check(map: &[u8], frame: &Frame, random: &mut Xorshift, seen: &mut Seen) {
     check_list(map, behind, &frame.following, enough);
     // The call says what the values say.
     let id = random.below(256) as u8;
-    let it = values.show(id, behind);
-    let expected = (
-        it.number,
-        it.at,
-        it.length,
-        it.announced.into(),
-        it.frames,
-        it.unknown.into(),
-    );
-    assert_eq!(show(map, id, behind), expected);
+    assert_eq!(show(map, id, behind), values.show(id, behind).answers());
 }
 
 /// Every component that there is, and no other. Of others it may be that nothing is known, until enough was heard.
