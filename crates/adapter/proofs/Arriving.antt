@@ -25,7 +25,7 @@ use Rattle.image.specs.Image.{spareOf}
 use Rattle.packet.specs.Received.{received}
 use Rattle.packet.specs.declared.Reading.{Reading}
 use Rattle.slot.specs.Slot.{slotSize, headOf}
-use Rattle.slot.specs.declared.Head.{Head}
+use Rattle.head.specs.declared.Head.{Head}
 use Rattle.table.specs.State.{slots, stateSize, slotAt, find}
 use Rattle.table.specs.Calls.{stateRows, endAnswer}
 use Rattle.table.proofs.States.{find-le}

@@ -32,11 +32,11 @@ use Rattle.packet.specs.Received.{typeOf, receivedNumber, received, partAs, wri
 use Rattle.packet.specs.declared.Reading.{Reading}
 use Rattle.packet.proofs.Damages.{received-sent}
 use Rattle.packet.proofs.Vectors.{shielded, shielded-sent}
-use Rattle.slot.specs.Part.{part}
+use Rattle.runs.specs.Part.{part}
 use Rattle.slot.specs.Slot.{headOf}
-use Rattle.slot.specs.Head.{newHead}
-use Rattle.slot.specs.Move.{moveOf, moveNumber}
-use Rattle.slot.specs.declared.Head.{Head}
+use Rattle.head.specs.Head.{newHead}
+use Rattle.head.specs.Move.{moveOf, moveNumber}
+use Rattle.head.specs.declared.Head.{Head}
 use Rattle.table.specs.State.{slots, slotAt, find}
 use Rattle.table.proofs.Looking.{state-34}
 use Rattle.table.proofs.Shows.{start-shows, find-place, follow-head, end-done}

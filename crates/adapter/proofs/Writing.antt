@@ -26,9 +26,9 @@ use Rattle.bits.proofs.Search.{and-right}
 use Rattle.image.proofs.Laws.{image-length}
 use Rattle.packet.specs.Received.{written}
 use Rattle.packet.specs.Damage.{dataSize, sentImage}
-use Rattle.slot.specs.Part.{part, put}
-use Rattle.slot.specs.Head.{within}
-use Rattle.slot.proofs.Laws.{part-length, put-next}
+use Rattle.runs.specs.Part.{part, put}
+use Rattle.head.specs.Head.{within}
+use Rattle.runs.proofs.Parts.{part-length, put-next}
 use Rattle.table.proofs.Looking.{outside}
 use Rattle.words.specs.Protected.{protected}
 use Rattle.adapter.specs.Calls.{groupSize, imagesSize, packetOf, groupImages, writeAnswer}

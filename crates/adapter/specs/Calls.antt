@@ -21,9 +21,9 @@ use Rattle.image.specs.Image.{headerOf, spareOf}
 use Rattle.packet.specs.Received.{received}
 use Rattle.packet.specs.Damage.{dataSize, sentImage}
 use Rattle.packet.specs.declared.Reading.{Reading}
-use Rattle.slot.specs.Part.{part}
+use Rattle.runs.specs.Part.{part}
 use Rattle.slot.specs.Slot.{headOf}
-use Rattle.slot.specs.Head.{within}
+use Rattle.head.specs.Head.{within}
 use Rattle.table.specs.State.{slots, slotAt, withSlot, find}
 use Rattle.table.specs.Calls.{stateRows}
 use Rattle.group.specs.Group.{takenNumber, takenAfter}

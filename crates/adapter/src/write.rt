@@ -2,7 +2,7 @@
 ghost use mathlib.Core.Path.{_≡_};
 ghost use Prim.Native.Nat.{_*_, _<_};
 ghost use lib.ListN.{length};
-ghost use Rattle.slot.specs.Part.{put};
+ghost use Rattle.runs.specs.Part.{put};
 ghost use Rattle.packet.specs.Damage.{dataSize, sentImage};
 ghost use Rattle.adapter.specs.Calls.{packetOf, groupImages, writeAnswer, writeAfter};
 use bare::TypeByte;
@@ -10,7 +10,6 @@ use group::Group;
 use image::Packet;
 use slot::Head;
 use slot::Slot;
-use slot::room;
 
 // 22, 23, 20: the message is not 360 bytes plain or 180 protected, or the output is not 376.
 pub fn group(address: u32, protection: u32, message: &[u8], output: &mut [u8]) -> u8
@@ -74,7 +73,7 @@ fn one(address: u32, protected: bool, message: &[u8], index: u32, output: &mut [
     };
     let at = index as usize * len;
     let image = sent(address, index, protected, &message[at..at + len]);
-    room::copy(output, index as usize * Packet::IMAGE, &image);
+    runs::copy(output, index as usize * Packet::IMAGE, &image);
 }
 
 // The image of a data packet.

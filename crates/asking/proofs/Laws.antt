@@ -14,10 +14,10 @@ use native.Mathlib.Omega.{arith}
 use borrow.Author.Tests.{le-leb, lt-leb, eq-eqb, ne-eqb}
 use lib.Dec.{leb, eqb}
 use lib.ListN.{length, take, drop}
-use Rattle.slot.specs.Part.{part}
+use Rattle.runs.specs.Part.{part}
 use Rattle.slot.specs.Slot.{slotSize, wholeAt, headOf}
-use Rattle.slot.specs.Head.{shown}
-use Rattle.slot.specs.declared.Head.{Head}
+use Rattle.head.specs.Head.{shown}
+use Rattle.head.specs.declared.Head.{Head}
 use Rattle.table.specs.State.{stateSize, slots, slotAt, find}
 use Rattle.table.specs.Calls.{leaveAnswer}
 use Rattle.table.proofs.Kept.{leave-passed}

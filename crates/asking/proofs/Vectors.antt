@@ -13,8 +13,8 @@ use native.Mathlib.Omega.{arith}
 use lib.Dec.{lit<, lit≤}
 use Rattle.bits.specs.Bits.{blank}
 use Rattle.bits.specs.Search.{first}
-use Rattle.slot.specs.Head.{newHead, shown}
-use Rattle.slot.specs.declared.Head.{Head}
+use Rattle.head.specs.Head.{newHead, shown}
+use Rattle.head.specs.declared.Head.{Head}
 use Rattle.table.specs.State.{find}
 use Rattle.table.specs.Calls.{leaveAnswer}
 use Rattle.table.proofs.Looking.{leave-22}

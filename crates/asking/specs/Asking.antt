@@ -7,10 +7,10 @@ use mathlib.Core.Bool.{cond}
 use mathlib.Core.List.{List}
 use Prim.Native.Nat.{ℕ, zero, suc, _+_, _*_}
 use lib.Dec.{eqb}
-use Rattle.slot.specs.Part.{part}
+use Rattle.runs.specs.Part.{part}
 use Rattle.slot.specs.Slot.{slotSize, wholeAt, headOf}
-use Rattle.slot.specs.Head.{shown}
-use Rattle.slot.specs.declared.Head.{Head}
+use Rattle.head.specs.Head.{shown}
+use Rattle.head.specs.declared.Head.{Head}
 use Rattle.table.specs.State.{slotAt, find}
 use Rattle.table.specs.Calls.{leaveAnswer}
 use Rattle.asking.specs.declared.Asked.{Asked}

@@ -2,7 +2,7 @@
 // number is answered.
 ghost use mathlib.Core.Path.{_≡_};
 ghost use Prim.Native.Nat.{_<_};
-ghost use Rattle.slot.specs.Head.{shown};
+ghost use Rattle.head.specs.Head.{shown};
 ghost use Rattle.asking.specs.Asking.{askedAt, asked, askPart, boardText};
 use slot::Head;
 use slot::Slot;

@@ -26,11 +26,12 @@ use Rattle.packet.specs.Received.{received}
 use Rattle.packet.specs.Damage.{dataSize, Refused}
 use Rattle.packet.specs.declared.Reading.{Reading}
 use Rattle.packet.proofs.Answers.{received-length, received-either}
-use Rattle.slot.specs.Slot.{headOf}
-use Rattle.slot.specs.Head.{droppedHead, goodHead, goodSlot}
-use Rattle.slot.specs.Move.{Move, started, held, whole, outOfStep, moveOf, movedHead}
-use Rattle.slot.specs.declared.Head.{Head}
-use Rattle.slot.proofs.Laws.{good-slot, good-dropped}
+use Rattle.slot.specs.Slot.{headOf, goodSlot}
+use Rattle.head.specs.Head.{droppedHead, goodHead}
+use Rattle.head.specs.Move.{Move, started, held, whole, outOfStep, moveOf, movedHead}
+use Rattle.head.specs.declared.Head.{Head}
+use Rattle.slot.proofs.Goods.{good-slot}
+use Rattle.head.proofs.Bounds.{good-dropped}
 use Rattle.group.specs.Group.{blockOf, slotMoved, slotDropped, takenNumber, takenAfter}
 use Rattle.group.proofs.Doing.{block-le}
 use Rattle.group.proofs.Laws.{Fits, moveOf-wants, moved-size, moved-good, moved-head, dropped-size, dropped-head}

@@ -21,11 +21,13 @@ use Rattle.bits.proofs.Rows.{refusal-none, done-passed}
 use Rattle.bits.proofs.Storing.{blank-length}
 use Rattle.bits.proofs.Search.{and-left, and-right}
 use Rattle.image.specs.Image.{spareOf}
-use Rattle.slot.specs.Part.{part}
+use Rattle.runs.specs.Part.{part}
 use Rattle.slot.specs.Slot.{headOf, withHead}
-use Rattle.slot.specs.Head.{newHead}
-use Rattle.slot.specs.declared.Head.{Head}
-use Rattle.slot.proofs.Laws.{good-new, good-load, withHead-length, head-blank}
+use Rattle.head.specs.Head.{newHead}
+use Rattle.head.specs.declared.Head.{Head}
+use Rattle.head.proofs.Bounds.{good-new}
+use Rattle.slot.proofs.Goods.{good-load, head-blank}
+use Rattle.slot.proofs.Heads.{withHead-length}
 use Rattle.table.specs.State.{stateSize, slots, slotAt, withSlot, addressAt, find, good}
 use Rattle.table.specs.Calls.{followAnswer, followAfter, leaveAnswer, leaveAfter, endAnswer, endAfter, ages}
 use Rattle.table.proofs.Looking.{Passed, state-rest}

@@ -23,12 +23,16 @@ use Rattle.bits.proofs.Rows.{done-passed, done-refused}
 use Rattle.bits.proofs.Storing.{blank-length, drop-blank}
 use Rattle.packet.specs.declared.Reading.{Reading}
 use Rattle.packet.proofs.Answers.{received-length}
-use Rattle.slot.specs.Part.{part, put}
-use Rattle.slot.specs.Slot.{roomSize, slotSize, headOf, withHead, unfinished, stored, withUnfinished, kept}
-use Rattle.slot.specs.Head.{newHead, agedHead, goodHead, free, goodSlot}
-use Rattle.slot.specs.Move.{Move, started, held, whole, outOfStep, moveOf, movedHead}
-use Rattle.slot.specs.declared.Head.{Head}
-use Rattle.slot.proofs.Laws.{part-length, unfinished-room, unfinished-put, unfinished-length, store-unfinished, store-stored, withHead-length, good-load, good-aged, good-cases, free-blank}
+use Rattle.runs.specs.Part.{part, put}
+use Rattle.slot.specs.Slot.{roomSize, slotSize, headOf, withHead, unfinished, stored, withUnfinished, kept, free, goodSlot}
+use Rattle.head.specs.Head.{newHead, agedHead, goodHead}
+use Rattle.head.specs.Move.{Move, started, held, whole, outOfStep, moveOf, movedHead}
+use Rattle.head.specs.declared.Head.{Head}
+use Rattle.runs.proofs.Parts.{part-length}
+use Rattle.slot.proofs.Laws.{unfinished-room, unfinished-put, unfinished-length}
+use Rattle.slot.proofs.Heads.{store-unfinished, store-stored, withHead-length}
+use Rattle.slot.proofs.Goods.{good-load, good-cases, free-blank}
+use Rattle.head.proofs.Bounds.{good-aged}
 use Rattle.table.specs.State.{stateSize, slots, slotAt, withSlot, find}
 use Rattle.table.specs.Calls.{startAnswer, startAfter, followAnswer, followAfter, leaveAnswer, leaveAfter, endAnswer, ages, endAfter}
 use Rattle.table.proofs.States.{good-each, slot-length, slot-same, slot-other, address-is, find-has, zero-free}

@@ -18,8 +18,8 @@ use lib.Dec.{T, eqb, lit≤, lit<}
 use lib.ListN.{getD}
 use Rattle.bits.specs.Bits.{blank}
 use Rattle.bits.proofs.Storing.{blank-length}
-use Rattle.slot.specs.Head.{shown}
-use Rattle.slot.specs.Move.{moveOf, moveNumber, movedHead}
+use Rattle.head.specs.Head.{shown}
+use Rattle.head.specs.Move.{moveOf, moveNumber, movedHead}
 use Rattle.table.specs.State.{find}
 use Rattle.table.specs.Calls.{followAnswer, followAfter, endAfter}
 use Rattle.table.proofs.Looking.{leave-27}

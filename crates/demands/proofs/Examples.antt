@@ -28,8 +28,9 @@ use Rattle.packet.specs.Damage.{sentImage}
 use Rattle.packet.specs.declared.Reading.{Reading}
 use Rattle.packet.proofs.Damages.{sent-corrected, corrected-came, sent-spare, received-sent, header-came}
 use Rattle.slot.specs.Slot.{headOf}
-use Rattle.slot.specs.declared.Head.{Head}
-use Rattle.slot.proofs.Laws.{blank-at, head-blank}
+use Rattle.head.specs.declared.Head.{Head}
+use Rattle.runs.proofs.Parts.{blank-at}
+use Rattle.slot.proofs.Goods.{head-blank}
 use Rattle.table.specs.State.{stateSize, slots, addressAt, find}
 use Rattle.table.specs.Calls.{followAnswer, endAfter}
 use Rattle.table.proofs.Looking.{Passed, follow-0}

@@ -24,11 +24,11 @@ use Rattle.bits.proofs.Rows.{further-refused, further-passed, done-refused, don
 use Rattle.packet.specs.Damage.{Refused}
 use Rattle.packet.specs.declared.Reading.{Reading}
 use Rattle.packet.proofs.Answers.{received-either}
-use Rattle.slot.specs.Part.{part}
+use Rattle.runs.specs.Part.{part}
 use Rattle.slot.specs.Slot.{headOf, unfinished, stored}
-use Rattle.slot.specs.Head.{shown}
-use Rattle.slot.specs.Move.{Move, started, held, whole, outOfStep, moveOf, moveNumber}
-use Rattle.slot.specs.declared.Head.{Head}
+use Rattle.head.specs.Head.{shown}
+use Rattle.head.specs.Move.{Move, started, held, whole, outOfStep, moveOf, moveNumber}
+use Rattle.head.specs.declared.Head.{Head}
 use Rattle.table.specs.State.{stateSize, slotAt, find}
 use Rattle.table.specs.Calls.{startAnswer, startAfter, followAnswer, followAfter, leaveAnswer, leaveAfter, endAnswer, endAfter}
 use Rattle.table.proofs.Doing.{start-passed}

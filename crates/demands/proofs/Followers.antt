@@ -21,7 +21,7 @@ use Rattle.bits.specs.Rows.{Row, row, refusal}
 use Rattle.bits.proofs.Rows.{refusal-hit, refusal-miss}
 use Rattle.bits.proofs.Search.{and-left, and-right}
 use Rattle.image.specs.Image.{spareOf}
-use Rattle.slot.specs.Head.{within}
+use Rattle.head.specs.Head.{within}
 use Rattle.slot.specs.Slot.{headOf}
 use Rattle.table.specs.State.{stateSize, slots, slotAt, addressAt, find, good}
 use Rattle.table.specs.Calls.{startAnswer, followAnswer, leaveAnswer}

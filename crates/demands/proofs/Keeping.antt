@@ -18,10 +18,12 @@ use Rattle.bits.specs.Rows.{refusal, done}
 use Rattle.bits.specs.Search.{all}
 use Rattle.bits.proofs.Rows.{done-passed}
 use Rattle.bits.proofs.Storing.{blank-length}
-use Rattle.slot.specs.Part.{part}
-use Rattle.slot.specs.Slot.{roomSize, slotSize, fourAt, headOf, withUnfinished, withStored}
-use Rattle.slot.specs.Head.{shown, free, goodHead, goodSlot}
-use Rattle.slot.proofs.Laws.{unfinished-head, unfinished-length, stored-head, stored-length, blank-free}
+use Rattle.runs.specs.Part.{part}
+use Rattle.slot.specs.Slot.{roomSize, slotSize, headOf, withUnfinished, withStored, free, goodSlot}
+use Rattle.runs.specs.Numbers.{fourAt}
+use Rattle.head.specs.Head.{shown, goodHead}
+use Rattle.slot.proofs.Laws.{unfinished-head, unfinished-length, stored-head, stored-length}
+use Rattle.slot.proofs.Goods.{blank-free}
 use Rattle.table.specs.State.{stateSize, slots, slotAt, withSlot, addressAt, find, goodAt, good}
 use Rattle.table.specs.Calls.{startAfter, followAnswer, followAfter, leaveAnswer, leaveAfter, endAfter}
 use Rattle.table.proofs.States.{slot-length, with-length, address-is, address-same, address-other, find-has}

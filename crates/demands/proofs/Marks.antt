@@ -13,8 +13,8 @@ use native.Mathlib.Omega.{arith}
 use borrow.Author.Tests.{eqb-true, eqb-false}
 use lib.Dec.{ltb, eqb}
 use lib.ListN.{replicate}
-use Rattle.slot.specs.declared.Head.{Head}
-use Rattle.slot.proofs.Laws.{Bounds}
+use Rattle.head.specs.declared.Head.{Head}
+use Rattle.head.proofs.Bounds.{Bounds}
 use Rattle.history.specs.Transcript.{Entry, answered, subframe, isWhole, anyWhole, sinceWhole, ends, before, drops, marks, marked}
 use Rattle.history.proofs.Freshness.{Tells}
 use Rattle.demands.specs.Seen.{marksBy, marksOf}

@@ -21,9 +21,9 @@ use Rattle.bits.proofs.Rows.{further-passed, further-refused}
 use Rattle.bare.specs.Bare.{headerRead, headerWritten, wordRead, wordWritten, typeRead, typeWritten}
 use Rattle.packet.specs.Received.{typeOf, usefulOf, unreadable, receivedNumber, received}
 use Rattle.slot.specs.Slot.{headOf}
-use Rattle.slot.specs.Head.{shown, within}
-use Rattle.slot.specs.Move.{started, held, whole, outOfStep, moveOf, moveNumber}
-use Rattle.slot.specs.declared.Head.{Head}
+use Rattle.head.specs.Head.{shown, within}
+use Rattle.head.specs.Move.{started, held, whole, outOfStep, moveOf, moveNumber}
+use Rattle.head.specs.declared.Head.{Head}
 use Rattle.table.specs.State.{slotAt, find}
 use Rattle.table.specs.Calls.{startAnswer, followAnswer, leaveAnswer, endAnswer}
 use Rattle.asking.specs.Asking.{askedAt, askedBy, asked}

@@ -21,11 +21,11 @@ use borrow.Author.Tests.{eq-eqb, ne-eqb, le-ltb}
 use lib.Dec.{leb, ltb, eqb}
 use lib.ListN.{length}
 use Rattle.packet.specs.declared.Reading.{Reading}
-use Rattle.slot.specs.Part.{part}
+use Rattle.runs.specs.Part.{part}
 use Rattle.slot.specs.Slot.{slotSize, wholeAt, roomSize, headOf, stored}
-use Rattle.slot.specs.Head.{shown}
-use Rattle.slot.specs.declared.Head.{Head}
-use Rattle.slot.proofs.Laws.{part-part}
+use Rattle.head.specs.Head.{shown}
+use Rattle.head.specs.declared.Head.{Head}
+use Rattle.runs.proofs.Parts.{part-part}
 use Rattle.table.specs.State.{stateSize, slotAt, withSlot, find, good}
 use Rattle.table.proofs.States.{good-each, slot-same, slot-other, with-length}
 use Rattle.table.proofs.Looking.{leave-0}

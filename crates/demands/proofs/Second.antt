@@ -27,12 +27,12 @@ use Rattle.packet.specs.Damage.{dataSize, sentImage, Corrected}
 use Rattle.packet.specs.Damage as damage
 use Rattle.packet.specs.declared.Reading.{Reading}
 use Rattle.packet.proofs.Damages.{header-came, received-corrected, sent-corrected, sent-spare}
-use Rattle.slot.specs.Part.{part}
+use Rattle.runs.specs.Part.{part}
 use Rattle.slot.specs.Slot.{headOf}
-use Rattle.slot.specs.Head.{shown}
-use Rattle.slot.specs.Move.{Move, started, held, whole, outOfStep, moveOf, moveNumber, movedHead}
-use Rattle.slot.specs.declared.Head.{Head}
-use Rattle.slot.proofs.Laws.{part-cat, part-length}
+use Rattle.head.specs.Head.{shown}
+use Rattle.head.specs.Move.{Move, started, held, whole, outOfStep, moveOf, moveNumber, movedHead}
+use Rattle.head.specs.declared.Head.{Head}
+use Rattle.runs.proofs.Parts.{part-cat, part-length}
 use Rattle.table.specs.State.{slotAt, addressAt, find}
 use Rattle.table.proofs.States.{find-has, address-is, used-one}
 use Rattle.asking.proofs.Laws.{shown-5}

@@ -18,10 +18,12 @@ use native.Mathlib.Decide.{ℕ-discrete}
 use lib.Dec.{eqb}
 use lib.ListN.{length}
 use Rattle.bits.specs.Bits.{blank}
-use Rattle.slot.specs.Slot.{headOf, withHead}
-use Rattle.slot.specs.Head.{agedHead, goodHead, goodSlot}
-use Rattle.slot.specs.declared.Head.{Head}
-use Rattle.slot.proofs.Laws.{Bounds, good-bounds, good-cases, head-blank, withHead-length}
+use Rattle.slot.specs.Slot.{headOf, withHead, goodSlot}
+use Rattle.head.specs.Head.{agedHead, goodHead}
+use Rattle.head.specs.declared.Head.{Head}
+use Rattle.head.proofs.Bounds.{Bounds, good-bounds}
+use Rattle.slot.proofs.Goods.{good-cases, head-blank}
+use Rattle.slot.proofs.Heads.{withHead-length}
 use Rattle.table.specs.State.{stateSize, slots, slotAt, withSlot, addressAt, find}
 use Rattle.table.specs.Calls.{ages}
 use Rattle.table.proofs.States.{Good, slot-length, with-length, slot-same, slot-other, address-same, address-other, address-is, find-has, find-agree, good-change}

@@ -24,12 +24,13 @@ use Rattle.packet.specs.Received.{received}
 use Rattle.packet.specs.Damage.{sentImage}
 use Rattle.packet.specs.declared.Reading.{Reading}
 use Rattle.packet.proofs.Damages.{sent-corrected, corrected-came, sent-spare, received-sent}
-use Rattle.slot.specs.Part.{put}
+use Rattle.runs.specs.Part.{put}
 use Rattle.slot.specs.Slot.{slotSize, headOf, withHead}
-use Rattle.slot.specs.Head.{shown, goodHead}
-use Rattle.slot.specs.Move.{moveOf, moveNumber, movedHead}
-use Rattle.slot.specs.declared.Head.{Head}
-use Rattle.slot.proofs.Laws.{good-load, good-store, withHead-length}
+use Rattle.head.specs.Head.{shown, goodHead}
+use Rattle.head.specs.Move.{moveOf, moveNumber, movedHead}
+use Rattle.head.specs.declared.Head.{Head}
+use Rattle.slot.proofs.Goods.{good-load, good-store}
+use Rattle.slot.proofs.Heads.{withHead-length}
 use Rattle.table.specs.State.{stateSize, slots, slotAt, withSlot, addressAt, find, good}
 use Rattle.table.specs.Calls.{followAnswer, followAfter}
 use Rattle.table.proofs.States.{each-good, slot-same, with-length, address-same, address-other, find-only, good-followed}

@@ -18,12 +18,13 @@ use lib.ListN.{length}
 use Rattle.bits.specs.Bits.{blank}
 use Rattle.bits.proofs.Rows.{done-passed}
 use Rattle.bits.proofs.Storing.{blank-length}
-use Rattle.slot.specs.Head.{shown}
-use Rattle.slot.specs.Move.{moveOf, movedHead}
+use Rattle.head.specs.Head.{shown, newHead}
+use Rattle.head.specs.Move.{moveOf, movedHead}
 use Rattle.slot.specs.Slot.{withHead}
-use Rattle.slot.specs.Head.{newHead}
-use Rattle.slot.specs.declared.Head.{Head}
-use Rattle.slot.proofs.Laws.{good-new, good-load, withHead-length}
+use Rattle.head.specs.declared.Head.{Head}
+use Rattle.head.proofs.Bounds.{good-new}
+use Rattle.slot.proofs.Goods.{good-load}
+use Rattle.slot.proofs.Heads.{withHead-length}
 use Rattle.table.specs.State.{slots, slotAt, withSlot, addressAt, find}
 use Rattle.table.specs.Calls.{followAnswer, followAfter}
 use Rattle.table.proofs.Looking.{follow-0}

@@ -19,9 +19,11 @@ use Rattle.bits.specs.Rows.{done}
 use Rattle.bits.proofs.Rows.{done-passed, done-refused, refusal-none}
 use Rattle.bits.proofs.Storing.{blank-length}
 use Rattle.slot.specs.Slot.{slotSize, headOf, withHead}
-use Rattle.slot.specs.Head.{newHead}
-use Rattle.slot.specs.declared.Head.{Head}
-use Rattle.slot.proofs.Laws.{good-new, good-load, withHead-length, head-blank}
+use Rattle.head.specs.Head.{newHead}
+use Rattle.head.specs.declared.Head.{Head}
+use Rattle.head.proofs.Bounds.{good-new}
+use Rattle.slot.proofs.Goods.{good-load, head-blank}
+use Rattle.slot.proofs.Heads.{withHead-length}
 use Rattle.table.specs.State.{stateSize, slots, slotAt, withSlot, addressAt, find, good}
 use Rattle.table.specs.Calls.{startAfter, followAnswer, followAfter, leaveAnswer, leaveAfter, endAnswer, endAfter, ages}
 use Rattle.table.proofs.Looking.{state-rest}

@@ -20,8 +20,8 @@ use Rattle.image.specs.Image.{spareOf}
 use Rattle.packet.specs.Received.{received}
 use Rattle.packet.specs.Damage.{dataSize, Refused}
 use Rattle.packet.specs.declared.Reading.{Reading}
-use Rattle.slot.specs.Move.{Move, started, held, whole, outOfStep, moveOf, moveNumber, movedHead}
-use Rattle.slot.specs.declared.Head.{Head}
+use Rattle.head.specs.Move.{Move, started, held, whole, outOfStep, moveOf, moveNumber, movedHead}
+use Rattle.head.specs.declared.Head.{Head}
 use Rattle.asking.specs.Asking.{askPart}
 use Rattle.history.specs.Followed as one
 use Rattle.history.proofs.Laws.{run-app}

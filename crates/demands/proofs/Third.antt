@@ -16,7 +16,7 @@ use borrow.Author.Tests.{eq-eqb, eqb-true, leb-true, lt-ltb}
 use lib.Dec.{T, leb, ltb, eqb}
 use Rattle.bits.specs.Rows.{row, refusal}
 use Rattle.bits.proofs.Search.{and-left, and-right}
-use Rattle.slot.specs.Head.{within, shown}
+use Rattle.head.specs.Head.{within, shown}
 use Rattle.slot.specs.Slot.{headOf}
 use Rattle.table.specs.State.{slots, slotAt, find}
 use Rattle.table.specs.Calls.{followAnswer}

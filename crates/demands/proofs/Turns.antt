@@ -14,7 +14,7 @@ use mathlib.Core.List.{List, [], _∷_, _++_}
 use Prim.Native.Nat.{ℕ, _<_}
 use lib.Dec.{lit<}
 use Rattle.bits.specs.Bits.{blank}
-use Rattle.slot.specs.Head.{shown}
+use Rattle.head.specs.Head.{shown}
 use Rattle.table.specs.Calls.{followAnswer, followAfter}
 use Rattle.asking.specs.Asking.{asked}
 use Rattle.history.specs.Followed as one

@@ -12,12 +12,14 @@ use Prim.Native.Nat.{ℕ, _+_, _*_}
 use native.Mathlib.Nat.{zero-mul, one-mul, add-mul}
 use lib.Dec.{eqb}
 use lib.ListN.{length}
-use Rattle.slot.specs.Part.{part}
+use Rattle.runs.specs.Part.{part}
 use Rattle.slot.specs.Slot.{headOf, withHead, unfinished, stored}
-use Rattle.slot.specs.Head.{newHead, droppedHead, agedHead, goodHead}
-use Rattle.slot.specs.Move.{Move, started, held, whole, outOfStep, movedHead}
-use Rattle.slot.specs.declared.Head.{Head}
-use Rattle.slot.proofs.Laws.{good-load, good-aged, store-unfinished, store-stored}
+use Rattle.head.specs.Head.{newHead, droppedHead, agedHead, goodHead}
+use Rattle.head.specs.Move.{Move, started, held, whole, outOfStep, movedHead}
+use Rattle.head.specs.declared.Head.{Head}
+use Rattle.slot.proofs.Goods.{good-load}
+use Rattle.head.proofs.Bounds.{good-aged}
+use Rattle.slot.proofs.Heads.{store-unfinished, store-stored}
 use Rattle.asking.specs.Asking.{groupLength}
 use Rattle.history.specs.Followed.{Followed, moved, joined, lastOf, dropped, aged, followed}
 use Rattle.group.specs.Group.{blockOf, slotMoved, slotDropped}

@@ -12,7 +12,7 @@ use lib.Dec.{eqb}
 use lib.ListN.{length, drop}
 use Rattle.bits.specs.Bits.{blank}
 use Rattle.slot.specs.Slot.{roomSize, headOf, unfinished, stored}
-use Rattle.slot.specs.declared.Head.{Head}
+use Rattle.head.specs.declared.Head.{Head}
 use Rattle.table.specs.State.{stateSize, slots, slotAt}
 use Rattle.asking.specs.Asking.{groupLength}
 use Rattle.group.specs.Group.{blockOf}

@@ -16,7 +16,7 @@ use Prim.Native.Nat.{ℕ, _<_}
 use lib.ListN.{length}
 use Rattle.bits.specs.Bits.{blank}
 use Rattle.slot.specs.Slot.{roomSize, headOf, unfinished, stored}
-use Rattle.slot.specs.Head.{droppedHead}
+use Rattle.head.specs.Head.{droppedHead}
 use Rattle.table.specs.State.{stateSize, slots, slotAt, find}
 use Rattle.history.specs.Sent.{In}
 use Rattle.adapter.specs.Calls.{addressOf, followed}

@@ -15,7 +15,7 @@ use lib.Dec.{eqb}
 use lib.ListN.{length}
 use Rattle.image.specs.Image.{spareOf}
 use Rattle.packet.specs.Damage.{Corrected}
-use Rattle.slot.specs.Part.{part}
+use Rattle.runs.specs.Part.{part}
 use Rattle.slot.specs.Slot.{headOf}
 use Rattle.table.specs.State.{stateSize, slots, slotAt, find, good}
 use Rattle.adapter.specs.Calls.{groupSize, imagesSize, groupImages, followed}

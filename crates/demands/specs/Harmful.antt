@@ -21,9 +21,8 @@ use lib.Dec.{ltb, eqb}
 use lib.ListN.{length, getD, set}
 use Rattle.bits.specs.Bits.{blank}
 use Rattle.bits.specs.Rows.{done}
-use Rattle.slot.specs.Slot.{roomSize, headOf, withHead, withUnfinished, withStored}
-use Rattle.slot.specs.Head.{free}
-use Rattle.slot.specs.declared.Head.{Head}
+use Rattle.slot.specs.Slot.{roomSize, headOf, withHead, withUnfinished, withStored, free}
+use Rattle.head.specs.declared.Head.{Head}
 use Rattle.table.specs.State.{slots, slotAt, withSlot, find}
 use Rattle.table.specs.Calls.{startAnswer, startAfter, followAnswer, followAfter, leaveAnswer, leaveAfter, endAnswer, endAfter}
 use Rattle.asking.specs.Asking.{asked, askPart}

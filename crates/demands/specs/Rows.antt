@@ -20,8 +20,8 @@ use Rattle.bare.specs.Bare.{headerRead, types, typeNear, among}
 use Rattle.image.specs.Image.{headerOf, spareOf}
 use Rattle.packet.specs.Received.{typeOf, usefulOf, unreadable}
 use Rattle.slot.specs.Slot.{headOf}
-use Rattle.slot.specs.Head.{within}
-use Rattle.slot.specs.declared.Head.{Head}
+use Rattle.head.specs.Head.{within}
+use Rattle.head.specs.declared.Head.{Head}
 use Rattle.table.specs.State.{slotAt, find, good}
 use Rattle.history.specs.Sent.{In}
 use Rattle.adapter.specs.Calls.{addressOf, followed}

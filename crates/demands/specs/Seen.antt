@@ -15,9 +15,9 @@ use lib.ListN.{length, take, replicate}
 use Rattle.image.specs.Image.{spareOf}
 use Rattle.packet.specs.Received.{received}
 use Rattle.packet.specs.Damage.{dataSize}
-use Rattle.slot.specs.Part.{part}
+use Rattle.runs.specs.Part.{part}
 use Rattle.slot.specs.Slot.{headOf, unfinished, stored}
-use Rattle.slot.specs.declared.Head.{Head}
+use Rattle.head.specs.declared.Head.{Head}
 use Rattle.asking.specs.Asking.{groupLength}
 use Rattle.group.specs.Group.{blockOf}
 use Rattle.history.specs.Followed.{Followed, Reason, typeUnreadable, typeReserved, typeScrambled, wordUnreadable, Event, ended}

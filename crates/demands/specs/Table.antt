@@ -15,7 +15,7 @@ use lib.Dec.{leb, ltb, eqb}
 use lib.ListN.{length}
 use Rattle.bits.specs.Rows.{refusal}
 use Rattle.image.specs.Image.{spareOf}
-use Rattle.slot.specs.Head.{within}
+use Rattle.head.specs.Head.{within}
 use Rattle.table.specs.State.{stateSize, slots, addressAt, find, good}
 use Rattle.adapter.specs.Calls.{addressOf}
 use Rattle.demands.specs.Machine.{Call, start, follow, leave, packet, subframeEnd, ask, Machine, run}

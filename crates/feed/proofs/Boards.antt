@@ -12,7 +12,7 @@ use borrow.Author.Tests.{eq-eqb, ne-eqb}
 use lib.Dec.{eqb}
 use lib.ListN.{length}
 use lib.Seq.{take-length}
-use Rattle.slot.specs.Part.{part}
+use Rattle.runs.specs.Part.{part}
 use Rattle.asking.specs.Asking.{asked, askPart, boardText}
 use Rattle.asking.specs.declared.Asked.{Asked}
 use Rattle.feed.specs.Board.{boardFrom, boardAt, boardLength}

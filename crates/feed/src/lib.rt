@@ -6,7 +6,6 @@ ghost use mathlib.Core.Path.{_≡_};
 ghost use Rattle.bare.specs.Bare.{headerRead, headerWritten, wordRead, wordWritten, typeRead, typeWritten};
 ghost use Rattle.feed.specs.Fed.{values, fed};
 use image::Packet;
-use slot::room;
 
 pub mod calls;
 
@@ -107,6 +106,6 @@ pub extern "C" fn feed_received(
     *place = reading.place;
     *index = reading.index;
     let from = reading.bytes;
-    room::copy(bytes, 0, &from);
+    runs::copy(bytes, 0, &from);
     reading.number
 }

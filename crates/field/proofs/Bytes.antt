@@ -14,8 +14,8 @@ use lib.ListN.{length, length-append}
 use lib.Pow.{shr-shr}
 use Rattle.bits.specs.Bits.{bitsOf, number, taken}
 use Rattle.bits.proofs.Runs.{Below, below-cat, bitsOf-length, bitsOf-below, number-cat, number-bits-small, taken-bits, bits-number}
-use Rattle.slot.specs.Slot.{four}
-use Rattle.field.specs.Field.{fieldBits, fieldBytes, eight}
+use Rattle.runs.specs.Numbers.{four, eight}
+use Rattle.field.specs.Field.{fieldBits, fieldBytes}
 use Rattle.field.specs.declared.Field.{Field}
 
 pub bits-length : (r : Field) → length (fieldBits r) ≡ 80

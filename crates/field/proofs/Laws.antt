@@ -12,19 +12,11 @@ use lib.ListN.{length, take, drop, getD, drop-of-length-le}
 use lib.Seq.{drop-drop}
 use Rattle.bits.specs.Bits.{number, sent}
 use Rattle.bits.proofs.Runs.{Below, digit, sent-drop, sent-below, number-at}
-use Rattle.slot.specs.Part.{put}
-use Rattle.slot.specs.Slot.{four, fourAt}
-use Rattle.slot.proofs.Laws.{put-next, four-length, fourAt-lt}
-use Rattle.field.specs.Field.{bitsAt, fieldOf, eight, eightAt}
-
--- ---- eight bytes stored
-
-pub eight-put : (at n : ℕ) (s mid after : List ℕ) → at + 8 ≤ length s → mid ≡ put at 4 (four n) s
-    → after ≡ put (at + 4) 4 (four (n / 2 ^ 32)) mid → after ≡ put at 8 (eight n) s
-unfolding eight
-eight-put at n s mid after l low high =
-    high ∙ ap (λ (x : List ℕ). put (at + 4) 4 (four (n / 2 ^ 32)) x) low
-    ∙ put-next at 4 (four n) s 4 (four (n / 2 ^ 32)) (omega arith) (four-length n)
+use Rattle.runs.specs.Part.{put}
+use Rattle.runs.specs.Numbers.{four, fourAt, eight, eightAt}
+use Rattle.runs.proofs.Parts.{put-next}
+use Rattle.runs.proofs.Numbers.{four-length, fourAt-lt}
+use Rattle.field.specs.Field.{bitsAt, fieldOf}
 
 -- ---- a field's numbers by its bytes
 

@@ -1,6 +1,5 @@
 pub mod Bytes
 pub mod Determined
-pub mod Eight
 pub mod Laws
 pub mod RoundTrip
 pub mod Rows

@@ -16,8 +16,8 @@ use lib.Seq.{take-all}
 use lib.Pow.{shr-shr}
 use Rattle.bits.specs.Bits.{bitsOf, number, sent, taken}
 use Rattle.bits.proofs.Runs.{Below, below-drop, bits-front, digit, digit-lt, sent-below, sent-length, sent-taken, taken-length, taken-below, taken-sent}
-use Rattle.slot.specs.Part.{part}
-use Rattle.slot.proofs.Laws.{part-cat}
+use Rattle.runs.specs.Part.{part}
+use Rattle.runs.proofs.Parts.{part-cat}
 use Rattle.field.specs.Field.{bitsAt, fieldOf, fieldBits, fieldBytes, fln1, lln1, fln2, lln2, fcp, lcp, tdmsOf, numbersOf}
 use Rattle.field.specs.declared.Field.{Field}
 use Rattle.field.proofs.Bytes.{bits-length, bits-below, Within, field-number}

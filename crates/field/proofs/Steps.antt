@@ -19,10 +19,10 @@ use mir.Val.{Fits}
 use borrow.Author.Tests.{ltb-false, leb-false, eq-eqb, ne-eqb}
 use Rattle.bits.specs.Rows.{given, done}
 use Rattle.bits.proofs.Rows.{refusal-hit, refusal-miss, refusal-none}
-use Rattle.slot.specs.Part.{put}
-use Rattle.slot.specs.Slot.{four}
-use Rattle.slot.proofs.Laws.{put-length}
-use Rattle.field.specs.Field.{eight, fieldOf, readNumber, readField, badField, fieldBytes, writeNumber, writtenAfter, packNumber, packed, tdmsOf, numbersOf, unpackNumber, unpacked}
+use Rattle.runs.specs.Part.{put}
+use Rattle.runs.specs.Numbers.{four, eight}
+use Rattle.runs.proofs.Parts.{put-length}
+use Rattle.field.specs.Field.{fieldOf, readNumber, readField, badField, fieldBytes, writeNumber, writtenAfter, packNumber, packed, tdmsOf, numbersOf, unpackNumber, unpacked}
 use Rattle.field.specs.declared.Field.{Field}
 use Rattle.field.specs.declared.Tdms.{Tdms}
 use Rattle.field.proofs.Bytes.{Within, bytes}

@@ -26,7 +26,7 @@ use lib.Dec.{ltb, eqb, leb}
 use lib.ListN.{length, take, drop}
 use Rattle.bits.specs.Bits.{bitsOf, number, sent, taken}
 use Rattle.bits.specs.Rows.{row, refusal, given, done}
-use Rattle.slot.specs.Slot.{four, fourAt}
+use Rattle.runs.specs.Numbers.{four, fourAt}
 use Rattle.field.specs.declared.Field.{Field}
 use Rattle.field.specs.declared.Tdms.{Tdms}
 
@@ -156,11 +156,3 @@ unpacked t =
       fcp = given n (s .fcp);
       lcp = given n (s .lcp);
     }
-
--- ---- eight bytes
-
-unfoldable pub eight : ℕ → List ℕ
-eight n = four n ++ four (n / 2 ^ 32)
-
-unfoldable pub eightAt : ℕ → List ℕ → ℕ
-eightAt at s = fourAt at s + 2 ^ 32 * fourAt (at + 4) s

@@ -3,9 +3,9 @@
 ghost use mathlib.Core.Path.{_≡_};
 ghost use Prim.Native.Nat.{_+_, _≤_};
 ghost use lib.ListN.{length};
-ghost use Rattle.slot.specs.Part.{put};
-ghost use Rattle.slot.specs.Slot.{four, fourAt};
-ghost use Rattle.field.specs.Field.{fieldOf, fieldBytes, badPair, badTdms, deletes, key, badField, readNumber, readField, writeNumber, writtenAfter, packNumber, packed, numbersOf, unpackNumber, unpacked, eight, eightAt};
+ghost use Rattle.runs.specs.Part.{put};
+ghost use Rattle.runs.specs.Numbers.{four, fourAt, eight, eightAt};
+ghost use Rattle.field.specs.Field.{fieldOf, fieldBytes, badPair, badTdms, deletes, key, badField, readNumber, readField, writeNumber, writtenAfter, packNumber, packed, numbersOf, unpackNumber, unpacked};
 
 // Frame count, update flag, component, the 62 bits of TDMS as one number, LINKS.
 pub struct Field {
@@ -37,7 +37,7 @@ impl Field {
         requires { ⌜ length (now f) ≡ 10 ⌝ }
         ensures { λ r. ⌜ r ≡ fieldOf (now (f .entry)) ⌝ }
     {
-        let rest = eight_at(f, 2);
+        let rest = runs::eight_at(f, 2);
         Self {
             count: f[0],
             flag: f[1] % 2,
@@ -136,7 +136,7 @@ pub fn write(field: Field, out: &mut [u8]) -> u8
     out[0] = field.count;
     out[1] = field.flag + field.id % 128 * 2;
     let rest = (field.id / 128) as u64 + field.tdms * 2 + field.links as u64 * 9223372036854775808;
-    put_eight(out, 2, rest);
+    runs::put_eight(out, 2, rest);
     0
 }
 
@@ -190,42 +190,4 @@ fn numbers(tdms: u64) -> Tdms
         fcp: (tdms / 1099511627776 % 2048) as u32,
         lcp: (tdms / 2251799813685248 % 2048) as u32,
     }
-}
-
-// Four bytes, lowest first.
-fn four_at(s: &[u8], at: usize) -> u64
-    requires { ⌜ at + 4 ≤ length (now s) ⌝ }
-    ensures { λ r. ⌜ r ≡ fourAt at (now (s .entry)) ⌝ }
-{
-    let low = s[at] as u64 + s[at + 1] as u64 * 256;
-    let high = s[at + 2] as u64 + s[at + 3] as u64 * 256;
-    low + high * 65536
-}
-
-// A number of eight bytes, lowest first.
-pub fn eight_at(s: &[u8], at: usize) -> u64
-    requires { ⌜ at + 8 ≤ length (now s) ⌝ }
-    ensures { λ r. ⌜ r ≡ eightAt at (now (s .entry)) ⌝ }
-{
-    four_at(s, at) + four_at(s, at + 4) * 4294967296
-}
-
-// Puts the lowest four bytes of a number at a place.
-fn put_four(s: &mut [u8], at: usize, n: u64)
-    requires { ⌜ at + 4 ≤ length (now s) ⌝ }
-    ensures { λ _. ⌜ now (s .exit) ≡ put at 4 (four n) (now (s .entry)) ⌝ }
-{
-    s[at] = (n % 256) as u8;
-    s[at + 1] = (n / 256 % 256) as u8;
-    s[at + 2] = (n / 65536 % 256) as u8;
-    s[at + 3] = (n / 16777216 % 256) as u8;
-}
-
-// Puts a number at a place, and touches no other byte.
-pub fn put_eight(s: &mut [u8], at: usize, n: u64)
-    requires { ⌜ at + 8 ≤ length (now s) ⌝ }
-    ensures { λ _. ⌜ now (s .exit) ≡ put at 8 (eight n) (now (s .entry)) ⌝ }
-{
-    put_four(s, at, n);
-    put_four(s, at + 4, n / 4294967296);
 }

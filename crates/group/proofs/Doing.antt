@@ -20,12 +20,13 @@ use lib.Seq.{take-append-le, drop-append-le}
 use Rattle.bits.specs.Bits.{blank}
 use Rattle.bits.proofs.Rows.{further-refused, further-passed, done-refused, done-passed}
 use Rattle.bits.proofs.Storing.{blank-length}
-use Rattle.slot.specs.Part.{put}
+use Rattle.runs.specs.Part.{put}
 use Rattle.slot.specs.Slot.{headOf, withHead, unfinished, withUnfinished, withStored, kept}
-use Rattle.slot.specs.Head.{startedHead, heldHead, wholeHead, droppedHead}
-use Rattle.slot.specs.Move.{Move, started, held, whole, outOfStep, moveOf, moveNumber, movedHead}
-use Rattle.slot.specs.declared.Head.{Head}
-use Rattle.slot.proofs.Laws.{put-part, put-length, unfinished-room, unfinished-put}
+use Rattle.head.specs.Head.{startedHead, heldHead, wholeHead, droppedHead}
+use Rattle.head.specs.Move.{Move, started, held, whole, outOfStep, moveOf, moveNumber, movedHead}
+use Rattle.head.specs.declared.Head.{Head}
+use Rattle.runs.proofs.Parts.{put-part, put-length}
+use Rattle.slot.proofs.Laws.{unfinished-room, unfinished-put}
 use Rattle.packet.specs.declared.Reading.{Reading}
 use Rattle.group.specs.Group.{blockOf, placed, roomsMoved, slotMoved, slotDropped, takenNumber, takenAfter}
 

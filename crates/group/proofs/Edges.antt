@@ -7,8 +7,8 @@ use lib.Dec.{ltb}
 use Rattle.bits.proofs.Rows.{further-passed}
 use Rattle.bare.specs.Edges as below
 use Rattle.bare.proofs.Edges as proved
-use Rattle.slot.specs.Move.{moveOf, moveNumber, movedHead}
-use Rattle.slot.specs.declared.Head.{Head}
+use Rattle.head.specs.Move.{moveOf, moveNumber, movedHead}
+use Rattle.head.specs.declared.Head.{Head}
 use Rattle.group.specs.Group.{takenNumber}
 use Rattle.group.specs.Edges.{Edge, bare, Answers, Holds, All, steps, edges}
 

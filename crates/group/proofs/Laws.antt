@@ -18,13 +18,17 @@ use lib.Dec.{eqb, ltb}
 use lib.ListN.{length, length-append}
 use Rattle.bits.specs.Bits.{blank}
 use Rattle.bits.proofs.Storing.{blank-length}
-use Rattle.slot.specs.Part.{part, put}
+use Rattle.runs.specs.Part.{part, put}
 use Rattle.slot.specs.Slot.{headOf, withHead, unfinished, stored, withUnfinished, withStored, kept}
-use Rattle.slot.specs.Head.{droppedHead, goodHead}
-use Rattle.slot.specs.Move.{Move, started, held, whole, outOfStep, moveOf, movedHead}
-use Rattle.slot.specs.declared.Head.{Head}
-use Rattle.slot.proofs.Laws.{part-length, part-cat, part-front, part-part, part-put, part-put-before, unfinished-room, unfinished-put, unfinished-stored, unfinished-length, stored-put, stored-length, store-unfinished, store-stored, withHead-length, good-load, good-started, good-held, good-whole, good-dropped}
-use Rattle.slot.proofs.Moves.{held-test, whole-test}
+use Rattle.head.specs.Head.{droppedHead, goodHead}
+use Rattle.head.specs.Move.{Move, started, held, whole, outOfStep, moveOf, movedHead}
+use Rattle.head.specs.declared.Head.{Head}
+use Rattle.runs.proofs.Parts.{part-length, part-cat, part-front, part-part, part-put, part-put-before}
+use Rattle.slot.proofs.Laws.{unfinished-room, unfinished-put, unfinished-stored, unfinished-length, stored-put, stored-length}
+use Rattle.slot.proofs.Heads.{store-unfinished, store-stored, withHead-length}
+use Rattle.slot.proofs.Goods.{good-load}
+use Rattle.head.proofs.Bounds.{good-started, good-held, good-whole, good-dropped}
+use Rattle.head.proofs.Moves.{held-test, whole-test}
 use Rattle.group.specs.Group.{blockOf, placed, roomsMoved, slotMoved, slotDropped}
 use Rattle.group.proofs.Doing.{placed-length, block-le}
 

@@ -8,8 +8,8 @@ use mathlib.Core.List.{List, [], _∷_, _++_, map}
 use Prim.Native.Nat.{ℕ}
 use Rattle.bare.specs.Edges as below
 use Rattle.packet.specs.declared.Reading.{Reading}
-use Rattle.slot.specs.Move.{moveOf, movedHead}
-use Rattle.slot.specs.declared.Head.{Head}
+use Rattle.head.specs.Move.{moveOf, movedHead}
+use Rattle.head.specs.declared.Head.{Head}
 use Rattle.group.specs.Group.{takenNumber}
 
 pub data Edge : Type 0 where

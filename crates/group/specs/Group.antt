@@ -14,11 +14,11 @@ use lib.Dec.{eqb}
 use lib.ListN.{length, take}
 use Rattle.bits.specs.Bits.{blank}
 use Rattle.bits.specs.Rows.{further, done}
-use Rattle.slot.specs.Part.{put}
+use Rattle.runs.specs.Part.{put}
 use Rattle.slot.specs.Slot.{roomSize, headOf, withHead, unfinished, withUnfinished, withStored, kept}
-use Rattle.slot.specs.Head.{droppedHead}
-use Rattle.slot.specs.Move.{Move, started, held, whole, outOfStep, moveOf, moveNumber, movedHead}
-use Rattle.slot.specs.declared.Head.{Head}
+use Rattle.head.specs.Head.{droppedHead}
+use Rattle.head.specs.Move.{Move, started, held, whole, outOfStep, moveOf, moveNumber, movedHead}
+use Rattle.head.specs.declared.Head.{Head}
 use Rattle.packet.specs.declared.Reading.{Reading}
 
 unfoldable pub blockOf : Head → ℕ

@@ -4,7 +4,7 @@ ghost use mathlib.Core.Path.{_≡_};
 ghost use Prim.Native.Nat.{_<_, _≤_};
 ghost use lib.ListN.{length};
 ghost use Rattle.slot.specs.Slot.{headOf};
-ghost use Rattle.slot.specs.Move.{started, held, whole, outOfStep, moveOf, moveNumber};
+ghost use Rattle.head.specs.Move.{started, held, whole, outOfStep, moveOf, moveNumber};
 ghost use Rattle.group.specs.Group.{blockOf, slotMoved, slotDropped, takenNumber, takenAfter};
 use image::Packet;
 use packet::Reading;
@@ -89,7 +89,7 @@ fn started(slot: &mut [u8], head: Head, bytes: &[u8])
     ensures { λ _. ⌜ now (slot .exit) ≡ slotMoved started 0 (now (bytes .entry)) (now (slot .entry)) ⌝ }
 {
     room::empty(slot);
-    room::copy(slot, Slot::UNFINISHED, bytes);
+    runs::copy(slot, Slot::UNFINISHED, bytes);
     head.started().store(slot);
 }
 
@@ -101,7 +101,7 @@ fn held(slot: &mut [u8], head: Head, bytes: &[u8])
     requires { ⌜ head .awaited < 3 ⌝ }
     ensures { λ _. ⌜ now (slot .exit) ≡ slotMoved held (head .awaited) (now (bytes .entry)) (now (slot .entry)) ⌝ }
 {
-    room::copy(slot, head.awaited as usize * bytes.len(), bytes);
+    runs::copy(slot, head.awaited as usize * bytes.len(), bytes);
     head.held().store(slot);
 }
 
@@ -113,7 +113,7 @@ fn whole(slot: &mut [u8], head: Head, bytes: &[u8])
     requires { ⌜ head .awaited ≡ 3 ⌝ }
     ensures { λ _. ⌜ now (slot .exit) ≡ slotMoved whole (head .awaited) (now (bytes .entry)) (now (slot .entry)) ⌝ }
 {
-    room::copy(slot, head.awaited as usize * bytes.len(), bytes);
+    runs::copy(slot, head.awaited as usize * bytes.len(), bytes);
     room::keep(slot, Group::PACKETS * bytes.len());
     room::empty(slot);
     head.whole().store(slot);

@@ -117,7 +117,7 @@ pub fn field_at(map: &[u8], at: usize, k: u8) -> u64 {
     if map.len() - from - 8 < at {
         return 0;
     }
-    field::eight_at(map, at + from)
+    runs::eight_at(map, at + from)
 }
 
 // 1 where the bytes are the same, and as many.

@@ -24,7 +24,7 @@ use native.Mathlib.Decide.{ℕ-discrete}
 use native.Mathlib.Numerals.{add-one}
 use lib.Dec.{ltb, eqb, lit<, lit≤}
 use borrow.Author.Tests.{ltb-true, ltb-false, eqb-true, eqb-false}
-use Rattle.slot.specs.Move.{Move, started, held, whole, outOfStep, moveOf, moveNumber, movedHead}
+use Rattle.head.specs.Move.{Move, started, held, whole, outOfStep, moveOf, moveNumber, movedHead}
 use Rattle.history.specs.Followed.{Followed, Reason, typeUnreadable, typeReserved, typeScrambled, wordUnreadable, joined, lastOf, moved, dropped, aged, after, answer, number, followed, handedOut}
 use Rattle.history.specs.Sent.{Sent, Arrival, came, damaged, subframeEnd, event, events, Next, InOrder, group, groups, CameIn, Readable, In, Rising, Exactly}
 

@@ -16,9 +16,9 @@ use Prim.Native.Nat.{ℕ, suc, _+_, _≤_}
 use native.Mathlib.Omega.{arith}
 use lib.Dec.{leb, ltb, eqb}
 use borrow.Author.Tests.{ltb-true, ltb-false, lt-ltb, le-leb}
-use Rattle.slot.specs.Head.{newHead, droppedHead, agedHead, shown}
-use Rattle.slot.specs.Move.{Move, started, held, whole, outOfStep, moveOf, moveNumber, movedHead}
-use Rattle.slot.specs.declared.Head.{Head}
+use Rattle.head.specs.Head.{newHead, droppedHead, agedHead, shown}
+use Rattle.head.specs.Move.{Move, started, held, whole, outOfStep, moveOf, moveNumber, movedHead}
+use Rattle.head.specs.declared.Head.{Head}
 use Rattle.history.specs.Followed.{Followed, Reason, typeUnreadable, typeReserved, typeScrambled, wordUnreadable, number, Event, packet, refused, ended, moved, dropped, aged, after, answer, followed, run}
 use Rattle.history.specs.Transcript.{Entry, answered, subframe, entry, told, isWhole, anyWhole, sinceWhole, ends, before, drops, marks, marked, called}
 

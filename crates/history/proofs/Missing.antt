@@ -22,9 +22,9 @@ use native.Mathlib.Omega.{arith}
 use native.Mathlib.Decide.{decLe}
 use lib.Dec.{leb, eqb, lit<}
 use borrow.Author.Tests.{le-leb, lt-leb}
-use Rattle.slot.specs.Head.{shown}
-use Rattle.slot.specs.Move.{Move, started, held, whole, outOfStep, moveOf, movedHead}
-use Rattle.slot.specs.declared.Head.{Head}
+use Rattle.head.specs.Head.{shown}
+use Rattle.head.specs.Move.{Move, started, held, whole, outOfStep, moveOf, movedHead}
+use Rattle.head.specs.declared.Head.{Head}
 use Rattle.history.specs.Followed.{Followed, Reason, Event, packet, refused, ended, joined, moved, dropped, aged, after, followed, run}
 use Rattle.history.specs.Sent.{Sent, Arrival, came, damaged, subframeEnd, event, events, InOrder, CameIn, Readable, In, Rising}
 use Rattle.history.specs.Missing.{Missed, endings, Last, Judged}

@@ -20,8 +20,8 @@ use mathlib.Core.Logic.{_⊎_, inl, inr}
 use Prim.Native.Nat.{ℕ, zero, suc, _+_, _*_, _<_}
 use native.Mathlib.Omega.{arith}
 use lib.Dec.{lit<, lit≤}
-use Rattle.slot.specs.Head.{shown}
-use Rattle.slot.specs.Move.{moveOf, moveNumber, movedHead}
+use Rattle.head.specs.Head.{shown}
+use Rattle.head.specs.Move.{moveOf, moveNumber, movedHead}
 use Rattle.history.specs.Followed.{joined, lastOf, moved, after, answer, followed, run, handedOut}
 use Rattle.history.specs.Missing.{Reached, Missed, endings, Last, Judged}
 use Rattle.history.specs.Sent.{Sent, Arrival, came, event, events, InOrder, group, groups, CameIn, Readable, Exactly}

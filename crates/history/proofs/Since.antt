@@ -21,9 +21,9 @@ use native.Mathlib.Omega.{arith}
 use native.Mathlib.Decide.{ℕ-discrete}
 use lib.Dec.{ltb, eqb}
 use borrow.Author.Tests.{ltb-true, ltb-false}
-use Rattle.slot.specs.Head.{droppedHead, agedHead}
-use Rattle.slot.specs.Move.{Move, started, held, whole, outOfStep, moveOf, moveNumber, movedHead}
-use Rattle.slot.specs.declared.Head.{Head}
+use Rattle.head.specs.Head.{droppedHead, agedHead}
+use Rattle.head.specs.Move.{Move, started, held, whole, outOfStep, moveOf, moveNumber, movedHead}
+use Rattle.head.specs.declared.Head.{Head}
 use Rattle.history.specs.Followed.{Followed, Reason, moved, dropped, aged, after, answer, run, handedOut}
 use Rattle.history.specs.Sent.{Sent, Arrival, came, damaged, subframeEnd, event, events, Next, InOrder, groups, CameIn, Readable, In}
 use Rattle.history.specs.Missing.{Reached, endings}

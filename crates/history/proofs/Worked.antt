@@ -17,8 +17,8 @@
 use mathlib.Core.Path.{_≡_, refl}
 use mathlib.Core.List.{List, [], _∷_, _++_}
 use Prim.Native.Nat.{ℕ}
-use Rattle.slot.specs.Head.{shown}
-use Rattle.slot.specs.Move.{moveOf, moveNumber, movedHead}
+use Rattle.head.specs.Head.{shown}
+use Rattle.head.specs.Move.{moveOf, moveNumber, movedHead}
 use Rattle.history.specs.Followed.{Followed, typeUnreadable, wordUnreadable, number, joined, lastOf, moved, dropped, aged, after, answer, followed, run, handedOut}
 use Rattle.history.specs.Sent.{Arrival, came, damaged, subframeEnd, event, events, InOrder}
 use Rattle.history.proofs.Laws.{isNext, ordered, ordered-holds}

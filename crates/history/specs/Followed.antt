@@ -10,9 +10,9 @@ use mathlib.Core.Bool.{cond}
 use mathlib.Core.List.{List, [], _∷_, _++_}
 use Prim.Native.Nat.{ℕ}
 use lib.Dec.{eqb}
-use Rattle.slot.specs.Head.{newHead, droppedHead, agedHead}
-use Rattle.slot.specs.Move.{Move, started, held, whole, outOfStep, moveOf, moveNumber, movedHead}
-use Rattle.slot.specs.declared.Head.{Head}
+use Rattle.head.specs.Head.{newHead, droppedHead, agedHead}
+use Rattle.head.specs.Move.{Move, started, held, whole, outOfStep, moveOf, moveNumber, movedHead}
+use Rattle.head.specs.declared.Head.{Head}
 
 pub record Followed : Type 0 where
   pub head : Head

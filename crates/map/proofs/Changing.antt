@@ -23,10 +23,10 @@ use lib.ListN.{length, take, length-append}
 use lib.Seq.{take-all, take-at, drop-at}
 use Rattle.bits.specs.Bits.{blank}
 use Rattle.bits.proofs.Storing.{blank-length, drop-blank}
-use Rattle.slot.specs.Part.{part, put}
-use Rattle.slot.proofs.Laws.{part-length, put-length, blank-at}
-use Rattle.slot.specs.Slot.{four, fourAt}
-use Rattle.field.specs.Field.{deletes, eight, eightAt}
+use Rattle.runs.specs.Part.{part, put}
+use Rattle.runs.proofs.Parts.{part-length, put-length, blank-at}
+use Rattle.runs.specs.Numbers.{four, fourAt, eight, eightAt}
+use Rattle.field.specs.Field.{deletes}
 use Rattle.structure.specs.Structure.{most, structureSize, allOnes, headOf, withHead, nth, withNth, markedHead, beginning, turnOf, spoiled, said, complete, settledHead}
 use Rattle.map.specs.Map.{ids, mapSize, blockSize, framesOf, blockAt, withBlock, structureAt, stayed, settled, forced, changed, eachFrom, changedFrom, spoiledBoth}
 use Rattle.structure.specs.declared.Structure.{Structure}

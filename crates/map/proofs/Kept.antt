@@ -18,7 +18,7 @@ use Rattle.bits.specs.Bits.{blank}
 use Rattle.bits.specs.Rows.{done}
 use Rattle.bits.proofs.Rows.{done-refused, done-passed}
 use Rattle.bits.proofs.Search.{and-left, and-right, all-at, all-each}
-use Rattle.slot.proofs.Laws.{blank-at}
+use Rattle.runs.proofs.Parts.{blank-at}
 use Rattle.field.specs.Field.{fieldOf, deletes, panning}
 use Rattle.field.specs.declared.Field.{Field}
 use Rattle.field.proofs.Bytes.{Within}

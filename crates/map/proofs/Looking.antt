@@ -24,7 +24,7 @@ use lib.ListN.{length, take, drop}
 use Rattle.bits.specs.Rows.{Row, row, refusal}
 use Rattle.bits.specs.Search.{all}
 use Rattle.bits.proofs.Rows.{refusal-hit, refusal-miss, refusal-passed, refusal-none}
-use Rattle.slot.specs.Part.{part}
+use Rattle.runs.specs.Part.{part}
 use Rattle.field.specs.Field.{fieldSize, fieldOf, badField, deletes, panning}
 use Rattle.field.specs.declared.Field.{Field}
 use Rattle.structure.specs.Structure.{structureSize, allOnes, headOf, nth, stored, said, certainly, settledHead}

@@ -20,8 +20,8 @@ use lib.Dec.{eqb}
 use lib.ListN.{length, take, drop, getD, set, take-append-drop, length-drop}
 use lib.Seq.{drop-append-le, drop-drop, drop-length, length-take-le, take-all, take-at, drop-at}
 use Rattle.bits.specs.Bits.{blank}
-use Rattle.slot.specs.Part.{part, put}
-use Rattle.slot.proofs.Laws.{part-length, part-cons, part-cat, put-length, part-put, getD-put-after, put-next, sets-put}
+use Rattle.runs.specs.Part.{part, put}
+use Rattle.runs.proofs.Parts.{part-length, part-cons, part-cat, put-length, part-put, getD-put-after, put-next, sets-put}
 use Rattle.field.specs.Field.{deletes, panning}
 use Rattle.field.specs.declared.Field.{Field}
 use Rattle.structure.specs.Structure.{structureSize, headOf, withHead, markedHead, gathered, spoiled, absence, deletion, said, settledHead}

@@ -13,8 +13,8 @@ use native.Mathlib.Omega.{arith}
 use native.Mathlib.Decide.{decLt}
 use lib.Dec.{lit<}
 use lib.ListN.{length, getD}
-use Rattle.slot.specs.Part.{part, put}
-use Rattle.slot.proofs.Laws.{part-length, part-part, put-length, part-put, part-put-before, part-put-after, getD-put-in, getD-put-after}
+use Rattle.runs.specs.Part.{part, put}
+use Rattle.runs.proofs.Parts.{part-length, part-part, put-length, part-put, part-put-before, part-put-after, getD-put-in, getD-put-after}
 use Rattle.structure.specs.Structure.{structureSize}
 use Rattle.map.specs.Map.{ids, mapSize, blockSize, framesAt, framesOf, framesBytes, withFrames, blockAt, withBlock, structureAt, withStructure}
 use Rattle.frames.specs.declared.Frames.{Frames}

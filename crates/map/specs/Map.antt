@@ -20,7 +20,7 @@ use lib.Dec.{ltb, eqb}
 use lib.ListN.{getD}
 use Rattle.bits.specs.Bits.{blank}
 use Rattle.bits.specs.Search.{all}
-use Rattle.slot.specs.Part.{part, put}
+use Rattle.runs.specs.Part.{part, put}
 use Rattle.frames.specs.Counts.{goodFrames}
 use Rattle.structure.specs.Structure.{structureSize, headOf, withHead, markedHead, spoiled, goodHead, said, certainly, settledHead}
 use Rattle.structure.specs.declared.Structure.{Structure}

@@ -5,13 +5,12 @@
 ghost use mathlib.Core.Path.{_≡_};
 ghost use Prim.Native.Nat.{_<_};
 ghost use lib.ListN.{length};
-ghost use Rattle.slot.specs.Part.{part, put};
+ghost use Rattle.runs.specs.Part.{part, put};
 ghost use Rattle.map.specs.Map.{framesOf, withFrames, stayed, settled, changed, eachFrom, changedFrom, spoiledBoth};
 ghost use Rattle.map.specs.Calls.{startAnswer, startAfter, putIn, takenIn, takeAnswer, takeAfter, shown, listAnswer, listAfter, heard, known};
 use field::Field;
 use field::Tdms;
 use frames::Frames;
-use slot::room;
 use structure::Structure;
 
 pub mod look;
@@ -90,7 +89,7 @@ pub fn start(map: &mut [u8]) -> u8
     if map.len() != Map::SIZE {
         return 20;
     }
-    room::clear(map);
+    runs::clear(map);
     0
 }
 
@@ -143,10 +142,10 @@ fn change_one(block: &mut [u8], sure: bool)
     if coming.said() {
         copy_down(block);
         settle(&mut block[0..Structure::SIZE], sure);
-        room::clear(&mut block[Structure::SIZE..Map::BLOCK]);
+        runs::clear(&mut block[Structure::SIZE..Map::BLOCK]);
     } else {
         stay(&mut block[0..Structure::SIZE], sure);
-        room::clear(&mut block[Structure::SIZE..Map::BLOCK]);
+        runs::clear(&mut block[Structure::SIZE..Map::BLOCK]);
     }
 }
 

@@ -16,7 +16,7 @@ use lib.ListN.{length, getD}
 use Rattle.bits.specs.Bits.{blank}
 use Rattle.bits.proofs.Rows.{refusal-miss, refusal-none, done-passed}
 use Rattle.bits.proofs.Storing.{blank-length}
-use Rattle.slot.proofs.Laws.{blank-at}
+use Rattle.runs.proofs.Parts.{blank-at}
 use Rattle.bits.proofs.Search.{and-left, and-right}
 use Rattle.field.specs.Field.{fieldSize, fieldOf, fieldBytes, badField, badTdms, deletes, panning}
 use Rattle.field.specs.declared.Field.{Field}

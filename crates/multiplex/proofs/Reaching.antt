@@ -17,7 +17,7 @@ use native.Mathlib.Decide.{ℕ-discrete}
 use lib.Dec.{T, eqb, lit<, lit≤}
 use Rattle.bits.specs.Bits.{blank}
 use Rattle.bits.proofs.Storing.{blank-length}
-use Rattle.slot.proofs.Laws.{blank-at}
+use Rattle.runs.proofs.Parts.{blank-at}
 use Rattle.structure.specs.Structure.{structureSize, headOf, certainly}
 use Rattle.structure.specs.declared.Structure.{Structure}
 use Rattle.structure.proofs.Gathering.{Empty}

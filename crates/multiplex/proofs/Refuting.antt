@@ -20,7 +20,7 @@ use borrow.Author.Tests.{ne-eqb}
 use lib.Dec.{T, eqb, lit<, lit≤}
 use lib.ListN.{length}
 use Rattle.bits.specs.Bits.{blank}
-use Rattle.slot.proofs.Laws.{blank-at}
+use Rattle.runs.proofs.Parts.{blank-at}
 use Rattle.field.specs.Field.{fieldBytes}
 use Rattle.frames.specs.declared.Frames.{Frames}
 use Rattle.map.specs.Map.{mapSize, framesOf}

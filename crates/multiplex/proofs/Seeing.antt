@@ -16,10 +16,10 @@ use borrow.Author.Tests.{eq-eqb, lt-ltb, le-leb, le-ltb}
 use lib.Dec.{ltb, leb, eqb}
 use lib.ListN.{length, getD}
 use Rattle.bits.proofs.Rows.{refusal-miss, refusal-none}
-use Rattle.slot.specs.Part.{part}
-use Rattle.slot.proofs.Laws.{part-part}
-use Rattle.field.specs.Field.{eightAt}
-use Rattle.field.proofs.Eight.{eightAt-part}
+use Rattle.runs.specs.Part.{part}
+use Rattle.runs.proofs.Parts.{part-part}
+use Rattle.runs.specs.Numbers.{eightAt}
+use Rattle.runs.proofs.Numbers.{eightAt-part}
 use Rattle.structure.specs.Structure.{most, structureSize, headOf, nth, said, complete, settledHead}
 use Rattle.structure.specs.declared.Structure.{Structure}
 use Rattle.structure.proofs.Gathering.{Holds, Empty}

@@ -17,7 +17,7 @@ use borrow.Author.Tests.{ne-eqb, le-ltb, lt-ltb}
 use lib.Dec.{T, ltb, eqb}
 use Rattle.bits.specs.Bits.{blank}
 use Rattle.bits.proofs.Rows.{done-passed}
-use Rattle.slot.proofs.Laws.{blank-at}
+use Rattle.runs.proofs.Parts.{blank-at}
 use Rattle.field.specs.Field.{fieldOf, fieldBytes}
 use Rattle.field.specs.declared.Field.{Field}
 use Rattle.field.proofs.RoundTrip.{read-written}

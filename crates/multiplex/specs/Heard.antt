@@ -6,7 +6,7 @@
 use mathlib.Core.List.{List, [], _∷_}
 use Prim.Native.Nat.{ℕ, zero, suc, _+_, _/_}
 use Rattle.bits.specs.Bits.{blank}
-use Rattle.field.specs.Field.{eightAt}
+use Rattle.runs.specs.Numbers.{eightAt}
 use Rattle.map.specs.Map.{mapSize}
 use Rattle.map.specs.Calls.{takeAnswer, takeAfter, shown}
 

@@ -22,10 +22,11 @@ use lib.ListN.{length, getD, drop, length-append, length-drop, List·getD-append
 use lib.Seq.{take-at, getD-drop}
 use Rattle.bits.proofs.Runs.{Below}
 use Rattle.bits.proofs.Search.{and-left, and-right}
-use Rattle.slot.specs.Part.{part}
+use Rattle.runs.specs.Part.{part}
 use Rattle.records.specs.declared.Step.{Step}
 use Rattle.records.specs.declared.Step.the-variants.{Record, End, More, Bad}
-use Rattle.records.specs.Format.{twoAt, bodySize, goodHead, stepAt, recordOf}
+use Rattle.runs.specs.Numbers.{twoAt}
+use Rattle.records.specs.Format.{bodySize, goodHead, stepAt, recordOf}
 use Rattle.records.proofs.Laws.{size-none, ladder, none, few, short, kindAt, step-bad, step-record, record-whole}
 
 -- ---- forward

@@ -16,7 +16,8 @@ use Prim.Native.Nat.{ℕ}
 use Rattle.bits.specs.Bits.{blank}
 use Rattle.records.specs.declared.Step.{Step}
 use Rattle.records.specs.declared.Step.the-variants.{Record, End, More, Bad}
-use Rattle.records.specs.Format.{twoAt, bodySize, goodHead, stepAt, recordSize, recordOf}
+use Rattle.runs.specs.Numbers.{twoAt}
+use Rattle.records.specs.Format.{bodySize, goodHead, stepAt, recordSize, recordOf}
 
 abbrev first : List ℕ → Step
 first s = stepAt s 0

@@ -16,9 +16,6 @@ use lib.ListN.{length, getD}
 use Rattle.records.specs.declared.Step.{Step}
 use Rattle.records.specs.declared.Step.the-variants.{Record, End, More, Bad}
 
-unfoldable pub twoAt : ℕ → List ℕ → ℕ
-twoAt at s = 256 * getD s at 0 + getD s (at + 1) 0
-
 unfoldable pub bodySize : ℕ → ℕ
 bodySize kind =
     cond (eqb kind 1) 94 (cond (eqb kind 2) 0 (cond (eqb kind 3) 5 (cond (eqb kind 4) 2 (cond (eqb kind 5) 2 65536))))

@@ -2,7 +2,8 @@
 ghost use mathlib.Core.Path.{_≡_};
 ghost use Prim.Native.Nat.{_+_, _≤_};
 ghost use lib.ListN.{length};
-ghost use Rattle.records.specs.Format.{twoAt, bodySize, goodHead, stepAt};
+ghost use Rattle.runs.specs.Numbers.{twoAt};
+ghost use Rattle.records.specs.Format.{bodySize, goodHead, stepAt};
 use image::Packet;
 
 pub mod reading;
@@ -36,14 +37,6 @@ impl Format {
     pub const NONE: usize = 65536;
 }
 
-// Two bytes, highest first.
-pub fn two_at(s: &[u8], at: usize) -> u32
-    requires { ⌜ at + 2 ≤ length (now s) ⌝ }
-    ensures { λ r. ⌜ r ≡ twoAt at (now (s .entry)) ⌝ }
-{
-    s[at] as u32 * 256 + s[at + 1] as u32
-}
-
 // How long a kind's body is.
 pub fn body_size(kind: u8) -> usize
     ensures { λ r. ⌜ r ≡ bodySize kind ⌝ }
@@ -70,7 +63,7 @@ fn good_head(s: &[u8], at: usize) -> bool
     ensures { λ r. ⌜ r ≡ goodHead (now (s .entry)) at ⌝ }
 {
     let right = 2 + body_size(s[at + 3]) as u32;
-    (s[at + 2] == Format::VERSION) & (two_at(s, at) == right)
+    (s[at + 2] == Format::VERSION) & (runs::two_at(s, at) == right)
 }
 
 // What stands at a place.

@@ -13,10 +13,11 @@ use native.Mathlib.Decide.{decLe}
 use lib.Dec.{eqb, lit≤}
 use lib.ListN.{length}
 use Rattle.bits.proofs.Runs.{Below}
-use Rattle.slot.specs.Part.{part}
+use Rattle.runs.specs.Part.{part}
 use Rattle.records.specs.declared.Step.{Step}
 use Rattle.records.specs.declared.Step.the-variants.{Record, End, More, Bad}
-use Rattle.records.specs.Format.{twoAt, bodySize, goodHead, stepAt}
+use Rattle.runs.specs.Numbers.{twoAt}
+use Rattle.records.specs.Format.{bodySize, goodHead, stepAt}
 use Rattle.records.proofs.Laws.{kindAt, step-end, step-bad, step-record, Stands, ended, waits, bad, whole, stands}
 use Rattle.records.proofs.Cutting.{good-length}
 use Rattle.serving.specs.Served.{servedAfter, Pass, pass}

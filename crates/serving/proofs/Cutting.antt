@@ -13,8 +13,8 @@ use native.Mathlib.Nat.{add-zero, add-assoc}
 use lib.ListN.{length, take, drop, length-append, length-drop}
 use lib.Seq.{drop-append-le, drop-drop}
 use Rattle.bits.specs.Bits.{blank}
-use Rattle.slot.specs.Part.{part}
-use Rattle.slot.proofs.Laws.{part-front}
+use Rattle.runs.specs.Part.{part}
+use Rattle.runs.proofs.Parts.{part-front}
 use Rattle.table.specs.State.{stateSize}
 use Rattle.records.specs.declared.Step.{Step}
 use Rattle.records.specs.declared.Step.the-variants.{Record, End, More, Bad}

@@ -17,12 +17,13 @@ use borrow.Author.Tests.{ne-eqb}
 use native.Mathlib.Numerals.{add-one}
 use lib.ListN.{length, take, drop, set}
 use lib.Seq.{append-snoc, take-suc-set}
-use Rattle.slot.specs.Part.{part}
-use Rattle.slot.proofs.Laws.{part-length}
+use Rattle.runs.specs.Part.{part}
+use Rattle.runs.proofs.Parts.{part-length}
 use Rattle.asking.specs.Asking.{asked}
 use Rattle.records.specs.declared.Step.{Step}
 use Rattle.records.specs.declared.Step.the-variants.{Record, End, More, Bad}
-use Rattle.records.specs.Format.{twoAt, bodySize, stepAt}
+use Rattle.runs.specs.Numbers.{twoAt}
+use Rattle.records.specs.Format.{bodySize, stepAt}
 use Rattle.records.proofs.Laws.{kindAt, step-end, Stands, ended, waits, bad, whole, stands}
 use Rattle.serving.specs.Served.{servedAnswer, servedAfter, Pass, stopped, behind, onStep, pass}
 

@@ -16,7 +16,7 @@ use lib.ListN.{take}
 use Rattle.bits.specs.Bits.{blank}
 use Rattle.bits.specs.Search.{first}
 use Rattle.bits.proofs.Rows.{done-refused}
-use Rattle.slot.specs.Part.{part}
+use Rattle.runs.specs.Part.{part}
 use Rattle.table.specs.State.{stateSize}
 use Rattle.table.specs.Calls.{followAnswer, followAfter, leaveAnswer, leaveAfter, endAnswer, endAfter}
 use Rattle.table.proofs.Looking.{follow-22}
@@ -28,7 +28,8 @@ use Rattle.asking.proofs.Vectors.{refused, nothing-yet}
 use Rattle.adapter.specs.Calls.{packetAnswer}
 use Rattle.records.specs.declared.Step.{Step}
 use Rattle.records.specs.declared.Step.the-variants.{Record, End, More, Bad}
-use Rattle.records.specs.Format.{twoAt, bodySize, goodHead, stepAt}
+use Rattle.runs.specs.Numbers.{twoAt}
+use Rattle.records.specs.Format.{bodySize, goodHead, stepAt}
 use Rattle.records.proofs.Vectors.{sample}
 use Rattle.serving.specs.Served.{servedAnswer, servedAfter, onStep, pass, ending, fileFrom, fileAnswers}
 

@@ -8,7 +8,7 @@ use records::Format;
 use records::Step;
 use records::body_size;
 use records::next;
-use records::two_at;
+use runs::two_at;
 use table::Following;
 
 // One record's call on a state.

@@ -1,5 +1,5 @@
+pub mod Goods
+pub mod Heads
 pub mod Laws
-pub mod Moves
 pub mod Rooms
 pub mod Steps
-pub mod Vectors

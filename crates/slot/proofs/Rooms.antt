@@ -1,8 +1,5 @@
--- Runs of bytes that are set to 0, copied, or kept.
+-- The rooms, lent and come back.
 --
---   cleared                  the end of the loop that sets bytes to 0
---   copy-end                 the end of the loop that copies
---   put-all                  a copy as long as what it is put into
 --   empty-lent               the unfinished room, lent and come back as 0
 --   keep-read, keep-lent     a byte that is still as it was; the first bytes kept, and the rest of the room come back as 0
 --
@@ -15,26 +12,10 @@ use native.Mathlib.Nat.{zero-add}
 use lib.ListN.{length, take, drop, getD, replicate, length-drop}
 use lib.Seq.{drop-length, drop-drop, paste, take-length, length-take-le}
 use Rattle.bits.specs.Bits.{blank}
-use Rattle.slot.specs.Part.{part, put}
+use Rattle.runs.specs.Part.{part, put}
 use Rattle.slot.specs.Slot.{unfinished, withUnfinished, withStored, kept}
-use Rattle.slot.proofs.Laws.{part-part, put-length, put-next, getD-put-before}
-
-pub cleared : (k : ℕ) (d b : List ℕ) → k ≡ length d → b ≡ replicate k 0 ++ drop k d → b ≡ blank (length d)
-unfolding blank
-cleared k d b q e =
-    e ∙ ap (λ (n : ℕ). replicate n 0 ++ drop n d) q ∙ ap (λ (x : List ℕ). replicate (length d) 0 ++ x) (drop-length d)
-    ∙ append-nil (replicate (length d) 0)
-
--- a copy is a part replaced
-paste-put : (d : List ℕ) (at : ℕ) (s : List ℕ) (k : ℕ) → paste d at s k ≡ put at k (take k s) d
-unfolding put
-paste-put d at s k =
-    append-assoc (take at d) (take k s) (drop (at + k) d)
-    ∙ ap (λ (x : List ℕ). take at d ++ (take k s ++ x)) (sym (drop-drop k at d))
-
-pub copy-end : (d : List ℕ) (at : ℕ) (s b : List ℕ) (k : ℕ) → b ≡ paste d at s k → k ≡ length s → b ≡ put at (length s) s d
-copy-end d at s b k e q =
-    e ∙ paste-put d at s k ∙ ap (λ (n : ℕ). put at n (take n s) d) q ∙ ap (λ (x : List ℕ). put at (length s) x d) (take-length s)
+use Rattle.runs.proofs.Copying.{paste-put}
+use Rattle.runs.proofs.Parts.{part-part, put-length, put-next, getD-put-before}
 
 pub empty-lent : (s b : List ℕ) → length s ≡ 736 → b ≡ blank (length (take 360 s)) → (b ++ drop 360 s) ≡ withUnfinished (blank 360) s
 unfolding withUnfinished put
@@ -73,8 +54,3 @@ keep-lent s b t k n l h q e et =
     ∙ ap (put (360 + n) (360 - n) (blank (360 - n))) eb
     ∙ put-next 360 n (take n s) s (360 - n) (blank (360 - n)) (omega arith) ln
     ∙ kept-stored n s h
-
--- a whole run replaced
-pub put-all : (b s : List ℕ) → length b ≡ length s → put 0 (length b) b s ≡ b
-unfolding put
-put-all b s e = ap (λ (x : List ℕ). b ++ x) (ap (λ (n : ℕ). drop n s) e ∙ drop-length s) ∙ append-nil b

@@ -1,8 +1,6 @@
--- What the code's steps come to: shifts and masks, stores in a row, and the fold of all bytes.
+-- What the code's steps come to: stores in a row, and the fold of all bytes.
 --
---   gathered, spread               four bytes make a number, and a number four bytes
 --   head-stores                    three numbers and four bytes stored in a row are the head's bytes
---   aged-counts, aged-stays        the age, by the test that counts it
 --   fold-next, fold-end            the bytes folded so far and the bytes left say whether all are 0
 --
 -- Assumes nothing.
@@ -19,47 +17,27 @@ use lib.Seq.{drop-cons}
 use borrow.Author.Tests.{ne-eqb}
 use Rattle.bits.proofs.Flips.{or-none}
 use Rattle.bits.proofs.Runs.{Below, or-above}
-use Rattle.slot.specs.Part.{put}
-use Rattle.slot.specs.Slot.{four, fourAt, headBytes, withHead}
-use Rattle.slot.specs.Head.{agedHead, free}
-use Rattle.slot.specs.declared.Head.{Head}
-use Rattle.slot.proofs.Laws.{put-length, put-next, four-sets}
-
-pub gathered : (at : ℕ) (s : List ℕ) → Below 256 s
-    → bitOr (bitOr (bitOr (getD s at 0) ((getD s (at + 1) 0 * 256) % 4294967296)) ((getD s (at + 2) 0 * 65536) % 4294967296))
-    ((getD s (at + 3) 0 * 16777216) % 4294967296) ≡ fourAt at s
-unfolding fourAt
-gathered at s h =
-    let a = getD s at 0 in
-    let b = getD s (at + 1) 0 in
-    let c = getD s (at + 2) 0 in
-    let d = getD s (at + 3) 0 in
-    ap (λ (x : ℕ). bitOr (bitOr x ((c * 65536) % 4294967296)) ((d * 16777216) % 4294967296))
-    (or-above 8 8 32 a b (h at) (h (at + 1)) (lit≤ tt))
-    ∙ ap (λ (x : ℕ). bitOr x ((d * 16777216) % 4294967296))
-    (or-above 8 16 32 (a + 256 * b) c (omega (arith, h at, h (at + 1))) (h (at + 2)) (lit≤ tt))
-    ∙ or-above 8 24 32 (a + 256 * b + 65536 * c) d (omega (arith, h at, h (at + 1), h (at + 2))) (h (at + 3)) (lit≤ tt)
-
-pub spread : (n : ℕ) → n < 2 ^ 32
-    → bitAnd n 255 ∷ bitAnd (n / 256) 255 ∷ bitAnd (n / 65536) 255 ∷ n / 16777216 ∷ [] ≡ four n
-unfolding four
-spread n h =
-    let top : n / 16777216 ≡ n / 16777216 % 256 = omega arith in
-    λ i. and-mask n 8 i ∷ and-mask (n / 256) 8 i ∷ and-mask (n / 65536) 8 i ∷ top i ∷ []
+use Rattle.runs.specs.Part.{put}
+use Rattle.runs.specs.Numbers.{four, fourAt}
+use Rattle.slot.specs.Slot.{headBytes, withHead, free}
+use Rattle.head.specs.Head.{agedHead}
+use Rattle.head.specs.declared.Head.{Head}
+use Rattle.runs.proofs.Parts.{put-length, put-next}
+use Rattle.runs.proofs.Numbers.{four-sets}
 
 pub head-stores : (h : Head) (s t u v : List ℕ) → length s ≡ 736
-    → t ≡ put 720 4 (four (h .address)) s → u ≡ put 724 4 (four (h .limit)) t → v ≡ put 728 4 (four (h .age)) u
-    → set (set (set (set v 732 (h .protection)) 733 (h .awaited)) 734 (h .group)) 735 (h .gap) ≡ withHead h s
+    → t ≡ put 720 4 (four (h .wish .address)) s → u ≡ put 724 4 (four (h .wish .limit)) t → v ≡ put 728 4 (four (h .age)) u
+    → set (set (set (set v 732 (h .wish .protection % 256)) 733 (h .awaited)) 734 (h .group)) 735 (h .gap) ≡ withHead h s
 unfolding withHead headBytes four
 head-stores h s t u v l et eu ev =
-    let a = four (h .address) in
-    let b = four (h .limit) in
+    let a = four (h .wish .address) in
+    let b = four (h .wish .limit) in
     let c = four (h .age) in
-    let d : List ℕ = h .protection ∷ h .awaited ∷ h .group ∷ h .gap ∷ [] in
+    let d : List ℕ = h .wish .protection % 256 ∷ h .awaited ∷ h .group ∷ h .gap ∷ [] in
     let two : u ≡ put 720 8 (a ++ b) s = eu ∙ ap (put 724 4 b) et ∙ put-next 720 4 a s 4 b (omega arith) refl in
     let three : v ≡ put 720 12 ((a ++ b) ++ c) s = ev ∙ ap (put 728 4 c) two ∙ put-next 720 8 (a ++ b) s 4 c (omega arith) refl in
     let long : length v ≡ 736 = ap length three ∙ put-length 720 12 ((a ++ b) ++ c) s (omega arith) refl ∙ l in
-    four-sets 732 (h .protection) (h .awaited) (h .group) (h .gap) v (omega arith)
+    four-sets 732 (h .wish .protection % 256) (h .awaited) (h .group) (h .gap) v (omega arith)
     ∙ ap (put 732 4 d) three ∙ put-next 720 12 ((a ++ b) ++ c) s 4 d (omega arith) refl
 
 or-tests : (a b : ℕ) → eqb (bitOr a b) 0 ≡ (eqb a 0 && eqb b 0)
@@ -80,24 +58,3 @@ pub fold-end : (all k : ℕ) (s : List ℕ) → length s ≤ k → eqb all 0 ≡
 unfolding free
 fold-end all k s h =
     sym (ap (λ (x : List ℕ). eqb all 0 && free x) (drop-of-length-le s {i = k} h) ∙ and-true (eqb all 0))
-
--- ---- the age, by the test that counts it
-
--- a head with another age
-abbrev withAge : Head → ℕ → Head
-withAge h n = record {
-  address = h .address;
-  limit = h .limit;
-  age = n;
-  protection = h .protection;
-  awaited = h .awaited;
-  group = h .group;
-  gap = h .gap;
-}
-
-module _ (h : Head) where
-  pub aged-counts : (eqb (h .group) 1 && ltb (h .age) 1500) ≡ true → withAge h (h .age + 1) ≡ agedHead h
-  aged-counts e = sym (ap (λ (b : Bool). withAge h (cond b (h .age + 1) (h .age))) e)
-
-  pub aged-stays : (eqb (h .group) 1 && ltb (h .age) 1500) ≡ false → withAge h (h .age) ≡ agedHead h
-  aged-stays e = sym (ap (λ (b : Bool). withAge h (cond b (h .age + 1) (h .age))) e)

@@ -1,4 +1,1 @@
-pub mod Head
-pub mod Move
-pub mod Part
 pub mod Slot

@@ -6,19 +6,24 @@
 --              that there is a whole group, the gap mark, one byte each
 --   736        the whole slot
 --
---   four n, fourAt at s     a number as four bytes, and the number at a place
 --   headOf s                the head that a slot's bytes hold
 --   headBytes h             its sixteen bytes
 --   withHead h s            the slot with another head
 --   unfinished s, stored s  the two rooms
 --   withUnfinished, withStored
 --   kept n room             a room of which n bytes are kept, and 0 behind them
+--   free s                  every byte 0
+--   goodSlot s              free, or with a good head
+use mathlib.Core.Bool.{Bool, true, _&&_, _||_}
 use mathlib.Core.List.{List, [], _∷_, _++_}
-use Prim.Native.Nat.{ℕ, _+_, _-_, _*_, _/_, _%_}
+use Prim.Native.Nat.{ℕ, _+_, _-_, _%_}
+use lib.Dec.{eqb}
 use lib.ListN.{getD}
 use Rattle.bits.specs.Bits.{blank}
-use Rattle.slot.specs.Part.{part, put}
-use Rattle.slot.specs.declared.Head.{Head}
+use Rattle.runs.specs.Part.{part, put}
+use Rattle.runs.specs.Numbers.{four, fourAt}
+use Rattle.head.specs.Head.{goodHead}
+use Rattle.head.specs.declared.Head.{Head}
 
 abbrev pub roomSize : ℕ
 roomSize = 360
@@ -35,18 +40,14 @@ headSize = 16
 abbrev pub slotSize : ℕ
 slotSize = 736
 
-unfoldable pub four : ℕ → List ℕ
-four n = n % 256 ∷ n / 256 % 256 ∷ n / 65536 % 256 ∷ n / 16777216 % 256 ∷ []
-
-unfoldable pub fourAt : ℕ → List ℕ → ℕ
-fourAt at s = getD s at 0 + 256 * getD s (at + 1) 0 + 65536 * getD s (at + 2) 0 + 16777216 * getD s (at + 3) 0
-
 unfoldable pub headOf : List ℕ → Head
 headOf s = record {
-  address = fourAt headAt s;
-  limit = fourAt (headAt + 4) s;
+  wish = record {
+    address = fourAt headAt s;
+    limit = fourAt (headAt + 4) s;
+    protection = getD s (headAt + 12) 0;
+  };
   age = fourAt (headAt + 8) s;
-  protection = getD s (headAt + 12) 0;
   awaited = getD s (headAt + 13) 0;
   group = getD s (headAt + 14) 0;
   gap = getD s (headAt + 15) 0;
@@ -54,7 +55,8 @@ headOf s = record {
 
 unfoldable pub headBytes : Head → List ℕ
 headBytes h =
-    four (h .address) ++ (four (h .limit) ++ (four (h .age) ++ (h .protection ∷ h .awaited ∷ h .group ∷ h .gap ∷ [])))
+    four (h .wish .address)
+    ++ (four (h .wish .limit) ++ (four (h .age) ++ (h .wish .protection % 256 ∷ h .awaited ∷ h .group ∷ h .gap ∷ [])))
 
 unfoldable pub withHead : Head → List ℕ → List ℕ
 withHead h s = put headAt headSize (headBytes h) s
@@ -73,3 +75,11 @@ withStored room s = put wholeAt roomSize room s
 
 unfoldable pub kept : ℕ → List ℕ → List ℕ
 kept n room = part 0 n room ++ blank (roomSize - n)
+
+unfoldable pub free : List ℕ → Bool
+free [] = true
+free (b ∷ s) = eqb b 0 && free s
+
+-- "each slot is free (all 736 bytes 0) or has [a good head]"
+unfoldable pub goodSlot : List ℕ → Bool
+goodSlot s = free s || goodHead (headOf s)

@@ -23,10 +23,11 @@ use Rattle.bits.specs.Bits.{blank}
 use Rattle.bits.specs.Search.{first}
 use Rattle.bits.proofs.Search.{first-least, first-holds}
 use Rattle.bits.proofs.Storing.{blank-length}
-use Rattle.slot.specs.Part.{part, put}
-use Rattle.slot.proofs.Laws.{put-length, part-put, part-put-before, part-put-after, getD-put-in, getD-put-before}
-use Rattle.field.specs.Field.{key, eight, eightAt}
-use Rattle.field.proofs.Eight.{eight-length, eightAt-part, eightAt-eight}
+use Rattle.runs.specs.Part.{part, put}
+use Rattle.runs.proofs.Parts.{put-length, part-put, part-put-before, part-put-after, getD-put-in, getD-put-before}
+use Rattle.field.specs.Field.{key}
+use Rattle.runs.specs.Numbers.{eight, eightAt}
+use Rattle.runs.proofs.Numbers.{eight-length, eightAt-part, eightAt-eight}
 use Rattle.structure.specs.Structure.{most, structureSize, headOf, headBytes, withHead, nth, withNth, stored, placeOf, member, nextPlace, isNext, goesOn, turnOf, gatheringHead, completedHead, markedHead, lateOf, beginning, turned, gathered}
 use Rattle.structure.specs.declared.Structure.{Structure}
 use Rattle.structure.specs.declared.Turn.{Turn}

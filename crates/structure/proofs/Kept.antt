@@ -24,7 +24,7 @@ use lib.ListN.{length}
 use Rattle.bits.specs.Bits.{blank}
 use Rattle.bits.proofs.Search.{and-left, and-right}
 use Rattle.bits.proofs.Storing.{blank-length}
-use Rattle.slot.specs.Part.{put}
+use Rattle.runs.specs.Part.{put}
 use Rattle.field.specs.Field.{fln1, fcp, deletes, key}
 use Rattle.structure.specs.Structure.{most, structureSize, allOnes, headOf, withHead, nth, withNth, stored, placeOf, isNext, goesOn, turnOf, gatheringHead, completedHead, markedHead, lateOf, beginning, turned, gathered, spoiled, noneHead, deletion, absence, goodHead, complete, settledHead}
 use Rattle.structure.specs.declared.Structure.{Structure}

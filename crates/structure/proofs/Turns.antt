@@ -29,7 +29,7 @@ use lib.ListN.{length, set}
 use Rattle.bits.specs.Bits.{blank}
 use Rattle.bits.specs.Search.{first}
 use Rattle.bits.proofs.Search.{first-le}
-use Rattle.slot.specs.Part.{put}
+use Rattle.runs.specs.Part.{put}
 use Rattle.field.specs.Field.{key}
 use Rattle.structure.specs.Structure.{most, structureSize, allOnes, headOf, withHead, nth, withNth, stored, placeOf, member, nextPlace, isNext, goesOn, turnOf, gatheringHead, completedHead, markedHead, lateOf, beginning, turned, gathered, spoiled, noneHead, goodHead, complete, settledHead}
 use Rattle.structure.specs.declared.Structure.{Structure}

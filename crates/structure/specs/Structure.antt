@@ -30,8 +30,9 @@ use lib.Dec.{leb, ltb, eqb}
 use lib.ListN.{getD}
 use Rattle.bits.specs.Bits.{blank}
 use Rattle.bits.specs.Search.{first}
-use Rattle.slot.specs.Part.{put}
-use Rattle.field.specs.Field.{key, eight, eightAt}
+use Rattle.runs.specs.Part.{put}
+use Rattle.field.specs.Field.{key}
+use Rattle.runs.specs.Numbers.{eight, eightAt}
 use Rattle.structure.specs.declared.Structure.{Structure}
 use Rattle.structure.specs.declared.Turn.{Turn}
 use Rattle.structure.specs.declared.Turn.the-variants.{Begins, Joins, Overflows, Completes, Known}

@@ -6,7 +6,6 @@ ghost use lib.ListN.{length};
 ghost use Rattle.bits.specs.Bits.{blank};
 ghost use Rattle.structure.specs.Structure.{headOf, withHead, nth, withNth, stored, placeOf, nextPlace, isNext, goesOn, turnOf, gatheringHead, completedHead, markedHead, lateOf, beginning, gathered, spoiled, noneHead, deletion, absence, said, certainly, goodHead, complete, settledHead};
 use field::Tdms;
-use slot::room;
 
 // What is known of a structure beside its fields.
 pub struct Structure {
@@ -190,7 +189,7 @@ pub fn nth(s: &[u8], k: usize) -> u64
     requires { ⌜ k < 8 ⌝ }
     ensures { λ r. ⌜ r ≡ nth k (now (s .entry)) ⌝ }
 {
-    field::eight_at(s, Structure::FIELDS + Structure::FIELD * k)
+    runs::eight_at(s, Structure::FIELDS + Structure::FIELD * k)
 }
 
 fn put_nth(s: &mut [u8], k: usize, tdms: u64)
@@ -198,7 +197,7 @@ fn put_nth(s: &mut [u8], k: usize, tdms: u64)
     requires { ⌜ k < 8 ⌝ }
     ensures { λ _. ⌜ now (s .exit) ≡ withNth k tdms (now (s .entry)) ⌝ }
 {
-    field::put_eight(s, Structure::FIELDS + Structure::FIELD * k, tdms);
+    runs::put_eight(s, Structure::FIELDS + Structure::FIELD * k, tdms);
 }
 
 // The place of a field among the structure's. From the last to the first, so that no test ends it early.
@@ -275,7 +274,7 @@ fn begin(s: &mut [u8], late: u8, certain: u8, tdms: u64, links: u8)
     requires { ⌜ length (now s) ≡ 71 ⌝ }
     ensures { λ _. ⌜ now (s .exit) ≡ beginning late certain tdms links ⌝ }
 {
-    room::clear(s);
+    runs::clear(s);
     Structure {
         fields: 1,
         whole: 0,
@@ -333,7 +332,7 @@ fn none(s: &mut [u8], deleted: u8)
     requires { ⌜ length (now s) ≡ 71 ⌝ }
     ensures { λ _. ⌜ now (s .exit) ≡ withHead (noneHead deleted) (blank 71) ⌝ }
 {
-    room::clear(s);
+    runs::clear(s);
     s[3] = deleted;
     s[6] = 1;
 }

@@ -21,11 +21,11 @@ use lib.ListN.{length, take, drop}
 use Rattle.bits.specs.Bits.{blank}
 use Rattle.bits.specs.Rows.{refusal, done}
 use Rattle.bits.proofs.Rows.{refusal-hit, refusal-miss, done-refused, done-passed}
-use Rattle.slot.specs.Part.{part, put}
+use Rattle.runs.specs.Part.{part, put}
 use Rattle.slot.specs.Slot.{slotSize, headOf, withHead}
-use Rattle.slot.specs.Head.{agedHead}
-use Rattle.slot.specs.declared.Head.{Head}
-use Rattle.slot.proofs.Laws.{withHead-length}
+use Rattle.head.specs.Head.{agedHead}
+use Rattle.head.specs.declared.Head.{Head}
+use Rattle.slot.proofs.Heads.{withHead-length}
 use Rattle.table.specs.State.{stateSize, slots, slotAt, withSlot, find}
 use Rattle.table.specs.Calls.{startAnswer, followAnswer, leaveAnswer, endAnswer, ages}
 use Rattle.table.proofs.States.{slot-length, with-length}

@@ -20,11 +20,14 @@ use Rattle.bits.specs.Rows.{done}
 use Rattle.bits.proofs.Rows.{refusal-passed, refusal-miss, refusal-none}
 use Rattle.bits.proofs.Search.{and-left}
 use Rattle.bits.proofs.Storing.{blank-length}
-use Rattle.slot.specs.Part.{part}
-use Rattle.slot.specs.declared.Head.{Head}
-use Rattle.slot.proofs.Laws.{good-new, good-load, good-store, good-free, good-cases, good-aged, head-blank, blank-free, blank-at, store-load, withHead-length}
-use Rattle.slot.specs.Slot.{slotSize, headOf, withHead}
-use Rattle.slot.specs.Head.{freeHead, newHead, agedHead, within, goodHead, goodSlot, free}
+use Rattle.runs.specs.Part.{part}
+use Rattle.head.specs.declared.Head.{Head}
+use Rattle.head.proofs.Bounds.{good-new, good-aged}
+use Rattle.slot.proofs.Goods.{good-load, good-store, good-free, good-cases, head-blank, blank-free}
+use Rattle.slot.proofs.Heads.{store-load, withHead-length}
+use Rattle.runs.proofs.Parts.{blank-at}
+use Rattle.slot.specs.Slot.{slotSize, headOf, withHead, goodSlot, free}
+use Rattle.head.specs.Head.{freeHead, newHead, agedHead, within, goodHead}
 use Rattle.table.specs.State.{slots, stateSize, slotAt, withSlot, addressAt, find, good}
 use Rattle.table.specs.Calls.{startAnswer, startAfter, followAnswer, followAfter, leaveAnswer, leaveAfter, endAnswer, ages, endAfter}
 use Rattle.table.proofs.Looking.{Passed, past-state}

@@ -21,10 +21,10 @@ use lib.ListN.{length, take, drop}
 use Rattle.bits.specs.Rows.{Row, row, refusal}
 use Rattle.bits.specs.Search.{first, all}
 use Rattle.bits.proofs.Rows.{refusal-hit, refusal-miss, refusal-passed, refusal-none}
-use Rattle.slot.specs.Part.{part}
-use Rattle.slot.specs.Slot.{headOf}
-use Rattle.slot.specs.Head.{within, free, goodSlot}
-use Rattle.slot.specs.declared.Head.{Head}
+use Rattle.runs.specs.Part.{part}
+use Rattle.slot.specs.Slot.{headOf, free, goodSlot}
+use Rattle.head.specs.Head.{within}
+use Rattle.head.specs.declared.Head.{Head}
 use Rattle.table.specs.State.{slots, stateSize, slotAt, addressAt, find, goodAt, good}
 use Rattle.table.specs.Calls.{stateRows, endAnswer, followAnswer, leaveAnswer}
 use Rattle.table.proofs.States.{free-address, used-address, has}

@@ -23,9 +23,11 @@ use Rattle.bits.proofs.Rows.{refusal-none, done-passed}
 use Rattle.bits.proofs.Search.{first-agree}
 use Rattle.bits.proofs.Storing.{blank-length}
 use Rattle.slot.specs.Slot.{slotSize, headOf, withHead}
-use Rattle.slot.specs.Head.{newHead, agedHead}
-use Rattle.slot.specs.declared.Head.{Head}
-use Rattle.slot.proofs.Laws.{good-new, good-load, head-blank, withHead-length}
+use Rattle.head.specs.Head.{newHead, agedHead}
+use Rattle.head.specs.declared.Head.{Head}
+use Rattle.head.proofs.Bounds.{good-new}
+use Rattle.slot.proofs.Goods.{good-load, head-blank}
+use Rattle.slot.proofs.Heads.{withHead-length}
 use Rattle.table.specs.State.{slots, stateSize, slotAt, withSlot, addressAt, find, good}
 use Rattle.table.specs.Calls.{followAnswer, followAfter, leaveAnswer, leaveAfter, endAnswer, endAfter, ages}
 use Rattle.table.proofs.Looking.{Passed, state-rest}

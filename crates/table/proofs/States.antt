@@ -21,10 +21,11 @@ use lib.ListN.{length, drop, getD, length-drop}
 use lib.Seq.{length-take-le}
 use Rattle.bits.specs.Search.{first}
 use Rattle.bits.proofs.Search.{first-le, first-holds, first-only, first-agree, first-least, all-at, all-each, and-left, and-right, or-right}
-use Rattle.slot.specs.Part.{part, put}
-use Rattle.slot.specs.Slot.{slotSize, fourAt, headOf}
-use Rattle.slot.specs.Head.{within, goodHead, free, goodSlot}
-use Rattle.slot.proofs.Laws.{put-length, part-put, part-put-before, part-put-after}
+use Rattle.runs.specs.Part.{part, put}
+use Rattle.slot.specs.Slot.{slotSize, headOf, free, goodSlot}
+use Rattle.runs.specs.Numbers.{fourAt}
+use Rattle.head.specs.Head.{within, goodHead}
+use Rattle.runs.proofs.Parts.{put-length, part-put, part-put-before, part-put-after}
 use Rattle.table.specs.State.{slots, stateSize, slotAt, withSlot, addressAt, find, goodAt, good}
 
 -- ---- slots

@@ -25,9 +25,10 @@ use Rattle.bits.specs.Rows.{refusal}
 use Rattle.bits.specs.Search.{first}
 use Rattle.bits.proofs.Every.{both, both-left, both-right, every, every-at}
 use Rattle.bits.proofs.Storing.{blank-length}
-use Rattle.slot.specs.Part.{part}
-use Rattle.slot.specs.Slot.{fourAt, headOf}
-use Rattle.slot.specs.Head.{free, goodHead, goodSlot}
+use Rattle.runs.specs.Part.{part}
+use Rattle.runs.specs.Numbers.{fourAt}
+use Rattle.slot.specs.Slot.{headOf, free, goodSlot}
+use Rattle.head.specs.Head.{goodHead}
 use Rattle.table.specs.State.{slots, stateSize, slotAt, find, good}
 use Rattle.table.specs.Calls.{startAnswer, followAnswer, followAfter, leaveAnswer, leaveAfter, endAnswer}
 use Rattle.table.proofs.Doing.{start-refused, start-passed}

@@ -13,7 +13,7 @@ use lib.ListN.{length}
 use Rattle.bits.specs.Bits.{blank}
 use Rattle.bits.specs.Rows.{Row, row, refusal, done}
 use Rattle.slot.specs.Slot.{slotSize, headOf, withHead}
-use Rattle.slot.specs.Head.{newHead, agedHead, within}
+use Rattle.head.specs.Head.{newHead, agedHead, within}
 use Rattle.table.specs.State.{slots, stateSize, slotAt, withSlot, find, good}
 
 -- 20: state not 11,776; 34: state not good; then the call's own rows

@@ -10,9 +10,8 @@ use mathlib.Core.List.{List}
 use Prim.Native.Nat.{ℕ, _*_}
 use lib.Dec.{eqb}
 use Rattle.bits.specs.Search.{first, all}
-use Rattle.slot.specs.Part.{part, put}
-use Rattle.slot.specs.Slot.{slotSize, headOf}
-use Rattle.slot.specs.Head.{free, goodSlot}
+use Rattle.runs.specs.Part.{part, put}
+use Rattle.slot.specs.Slot.{slotSize, headOf, free, goodSlot}
 
 abbrev pub slots : ℕ
 slots = 16

@@ -7,7 +7,6 @@ ghost use lib.ListN.{length};
 ghost use Rattle.table.specs.Calls.{startAnswer, startAfter, followAnswer, followAfter, leaveAnswer, leaveAfter, endAnswer, endAfter, ages};
 use slot::Head;
 use slot::Slot;
-use slot::room;
 
 pub mod look;
 
@@ -46,7 +45,7 @@ pub fn start(state: &mut [u8]) -> u8
     if state.len() != Table::SIZE {
         return 20;
     }
-    room::clear(state);
+    runs::clear(state);
     0
 }
 
@@ -78,7 +77,7 @@ pub fn leave(state: &mut [u8], address: u32) -> u8
     }
     let k = look::find(state, address);
     let at = k * Slot::SIZE;
-    room::clear(&mut state[at..at + Slot::SIZE]);
+    runs::clear(&mut state[at..at + Slot::SIZE]);
     0
 }
 

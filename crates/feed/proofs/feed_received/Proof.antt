@@ -5,7 +5,7 @@ use mathlib.Core.List.{List}
 use Prim.Native.Nat.{ℕ}
 use native.Mathlib.Omega.{arith}
 use borrow.Author.Needs.{needs}
-use Rattle.slot.proofs.Rooms.{put-all}
+use Rattle.runs.proofs.Copying.{put-all}
 use Rattle.feed.specs.Fed.{values}
 use Rattle.feed.proofs.Fed.{fed-20, fed-23, fed-read}
 use Rattle.feed.proofs.feed_received.Statement.{statement}

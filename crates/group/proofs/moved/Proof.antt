@@ -1,8 +1,8 @@
 -- `group::moved` meets its contract: the row of section 4's table, by its tests in the paper's order. Assumes nothing.
 use mathlib.Core.Path.{refl, sym, _∙_}
 use native.Mathlib.Omega.{arith}
-use Rattle.slot.specs.Move.{started, held, whole, outOfStep}
-use Rattle.slot.proofs.Moves.{move-started, move-held, move-whole, move-out, held-test, whole-test}
+use Rattle.head.specs.Move.{started, held, whole, outOfStep}
+use Rattle.head.proofs.Moves.{move-started, move-held, move-whole, move-out, held-test, whole-test}
 use Rattle.group.proofs.Doing.{row-does, numbers, out-drops}
 use borrow.Author.Needs.{needs}
 use Rattle.group.proofs.moved.Statement.{statement}

@@ -1,6 +1,6 @@
 -- `map::change_one` meets its contract: what is announced comes into force, or what is there stays; nothing is announced behind it. Assumes nothing.
 use mathlib.Core.Path.{refl}
-use Rattle.slot.specs.Part.{part}
+use Rattle.runs.specs.Part.{part}
 use Rattle.map.proofs.Moving.{change-said, change-unsaid}
 use borrow.Author.Needs.{needs}
 use Rattle.map.proofs.change_one.Statement.{statement}

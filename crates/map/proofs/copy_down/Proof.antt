@@ -3,7 +3,7 @@ use mathlib.Core.Path.{_≡_}
 use Prim.Native.Nat.{_-_, _≤_}
 use native.Mathlib.Omega.{arith}
 use lib.ListN.{length, length-set}
-use Rattle.slot.specs.Part.{part, put}
+use Rattle.runs.specs.Part.{part, put}
 use Rattle.structure.specs.Structure.{structureSize}
 use Rattle.map.specs.Map.{blockSize}
 use Rattle.map.proofs.Moving.{move-none, move-turn, move-end}

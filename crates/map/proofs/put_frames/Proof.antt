@@ -1,6 +1,6 @@
 -- `map::put_frames` meets its contract: the four stores put the frames there. Assumes nothing.
 use native.Mathlib.Omega.{arith}
-use Rattle.slot.proofs.Laws.{sets-put}
+use Rattle.runs.proofs.Parts.{sets-put}
 use Rattle.map.specs.Map.{framesAt, framesBytes, withFrames}
 use borrow.Author.Needs.{needs}
 use Rattle.map.proofs.put_frames.Statement.{statement}

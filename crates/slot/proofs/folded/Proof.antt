@@ -6,7 +6,7 @@ use Prim.Native.Nat.{_≤_, _-_}
 use native.Mathlib.Omega.{arith}
 use lib.Dec.{eqb}
 use lib.ListN.{length, drop}
-use Rattle.slot.specs.Head.{free}
+use Rattle.slot.specs.Slot.{free}
 use Rattle.slot.proofs.Steps.{fold-next, fold-end}
 use Rattle.slot.proofs.folded.Statement.{statement}
 use Rattle.slot.proofs.folded.Tie as tie

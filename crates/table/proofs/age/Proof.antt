@@ -4,7 +4,7 @@ use Prim.Native.Nat.{_-_}
 use native.Mathlib.Omega.{arith}
 use lib.ListN.{length}
 use borrow.Author.Needs.{needs}
-use Rattle.slot.specs.Head.{agedHead}
+use Rattle.head.specs.Head.{agedHead}
 use Rattle.table.specs.State.{slots, stateSize}
 use Rattle.table.specs.Calls.{ages}
 use Rattle.table.proofs.Doing.{span-length, slot-stored, ages-turn, ages-end}

@@ -2,8 +2,9 @@
 -- Assumes nothing.
 use mathlib.Core.Path.{sym, ap, _∙_}
 use mathlib.Core.Bool.{Bool, _||_, or-false}
-use Rattle.slot.specs.Head.{goodHead, free, goodSlot}
-use Rattle.slot.proofs.Laws.{good-slot}
+use Rattle.head.specs.Head.{goodHead}
+use Rattle.slot.specs.Slot.{free, goodSlot}
+use Rattle.slot.proofs.Goods.{good-slot}
 use borrow.Author.Needs.{needs}
 use Rattle.slot.proofs.Slot.good.Statement.{statement}
 use Rattle.slot.proofs.Slot.good.Tie as tie

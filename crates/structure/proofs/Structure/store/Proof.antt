@@ -1,7 +1,7 @@
 -- `structure::Structure::store` meets its contract: the stores put the head there. Assumes nothing.
 use native.Mathlib.Omega.{arith}
 use lib.ListN.{length-set}
-use Rattle.slot.proofs.Laws.{sets-put}
+use Rattle.runs.proofs.Parts.{sets-put}
 use Rattle.structure.specs.Structure.{withHead, headBytes}
 use borrow.Author.Needs.{needs}
 use Rattle.structure.proofs.Structure.store.Statement.{statement}

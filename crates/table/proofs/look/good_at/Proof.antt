@@ -1,8 +1,8 @@
 -- `table::look::good_at` meets its contract: a good slot is free exactly if its address is 0.
 -- Assumes nothing.
 use mathlib.Core.Path.{ap, _∙_}
-use Rattle.slot.specs.Head.{goodSlot}
-use Rattle.slot.specs.declared.Head.{Head}
+use Rattle.slot.specs.Slot.{goodSlot}
+use Rattle.head.specs.declared.Head.{Head}
 use Rattle.table.specs.State.{addressAt}
 use Rattle.table.proofs.Looking.{slot-part, good-unused, good-used-at}
 use borrow.Author.Needs.{needs}

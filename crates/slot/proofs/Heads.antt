@@ -1,0 +1,128 @@
+-- The head's sixteen bytes in a slot. `Below 256 s` says that each of s is a byte.
+--
+--   head-same, headBytes-*     the head's sixteen bytes
+--   load-store, store-load     loading undoes storing, and storing loading
+--   store-*, withHead-*        a store keeps the rooms and the length, and undoes an earlier one; it stores bytes
+--
+-- Assumes nothing.
+use mathlib.Core.Path.{_≡_, refl, sym, ap, ap₂, _∙_}
+use mathlib.Core.List.{List, [], _∷_, _++_}
+use Prim.Native.Nat.{ℕ, zero, suc, _+_, _%_, _^_, _≤_, _<_}
+use native.Mathlib.Omega.{arith}
+use lib.Dec.{lit<, lit≤}
+use lib.ListN.{length, getD}
+use Rattle.bits.proofs.Runs.{Below, below-cat}
+use Rattle.runs.specs.Part.{part, put}
+use Rattle.runs.specs.Numbers.{four, fourAt}
+use Rattle.runs.proofs.Parts.{part-cons, part-cat, getD-part, put-length, part-put, part-put-before, put-put, put-part, put-below}
+use Rattle.runs.proofs.Numbers.{four-below, fourAt-part, fourAt-four, four-fourAt}
+use Rattle.slot.specs.Slot.{headOf, headBytes, withHead, unfinished, stored}
+use Rattle.head.specs.declared.Head.{Head}
+
+mod-small : (n : ℕ) → n < 256 → n % 256 ≡ n
+mod-small n h = omega arith
+
+-- sixteen bytes as a head
+abbrev read : List ℕ → Head
+read b = record {
+  wish = record { address = fourAt 0 b; limit = fourAt 4 b; protection = getD b 12 0 };
+  age = fourAt 8 b;
+  awaited = getD b 13 0;
+  group = getD b 14 0;
+  gap = getD b 15 0;
+}
+
+head-read : (s : List ℕ) → headOf s ≡ read (part 720 16 s)
+unfolding headOf
+head-read s =
+    λ i. record {
+      wish = record {
+        address = fourAt-part 720 0 16 s (lit≤ tt) i;
+        limit = fourAt-part 720 4 16 s (lit≤ tt) i;
+        protection = sym (getD-part 720 16 12 s (lit< tt)) i;
+      };
+      age = fourAt-part 720 8 16 s (lit≤ tt) i;
+      awaited = sym (getD-part 720 16 13 s (lit< tt)) i;
+      group = sym (getD-part 720 16 14 s (lit< tt)) i;
+      gap = sym (getD-part 720 16 15 s (lit< tt)) i;
+    }
+
+-- the sixteen bytes alone say what the head is
+pub head-same : (s t : List ℕ) → part 720 16 s ≡ part 720 16 t → headOf s ≡ headOf t
+head-same s t e = head-read s ∙ ap read e ∙ sym (head-read t)
+
+pub headBytes-length : (h : Head) → length (headBytes h) ≡ 16
+unfolding headBytes four
+headBytes-length h = refl
+
+pub load-store : (h : Head) (s : List ℕ) → length s ≡ 736 → h .wish .address < 2 ^ 32 → h .wish .limit < 2 ^ 32
+    → h .wish .protection < 256 → h .age < 2 ^ 32 → headOf (withHead h s) ≡ h
+unfolding withHead headBytes four fourAt
+load-store h s l ha hl hp hg =
+    head-read (withHead h s) ∙ ap read (part-put 720 16 (headBytes h) s (omega arith) refl)
+    ∙ (λ i. record {
+      wish = record {
+        address = fourAt-four (h .wish .address) [] ha i;
+        limit = fourAt-four (h .wish .limit) [] hl i;
+        protection = mod-small (h .wish .protection) hp i;
+      };
+      age = fourAt-four (h .age) [] hg i;
+      awaited = h .awaited;
+      group = h .group;
+      gap = h .gap;
+    })
+
+pub headBytes-part : (s : List ℕ) → length s ≡ 736 → Below 256 s → headBytes (headOf s) ≡ part 720 16 s
+unfolding headBytes headOf part
+headBytes-part s l h =
+    let small : getD s 732 0 % 256 ∷ getD s 733 0 ∷ getD s 734 0 ∷ getD s 735 0 ∷ [] ≡ part 732 4 s =
+    ap (λ (x : ℕ). x ∷ getD s 733 0 ∷ getD s 734 0 ∷ getD s 735 0 ∷ []) (mod-small (getD s 732 0) (h 732))
+    ∙ sym (part-cons 732 3 s (omega arith)
+    ∙ ap (λ (x : List ℕ). getD s 732 0 ∷ x) (part-cons 733 2 s (omega arith)
+    ∙ ap (λ (x : List ℕ). getD s 733 0 ∷ x) (part-cons 734 1 s (omega arith)
+    ∙ ap (λ (x : List ℕ). getD s 734 0 ∷ x) (part-cons 735 0 s (omega arith))))) in
+    ap₂ _++_ (four-fourAt 720 s (omega arith) h)
+    (ap₂ _++_ (four-fourAt 724 s (omega arith) h)
+    (ap₂ _++_ (four-fourAt 728 s (omega arith) h) small ∙ sym (part-cat 728 4 4 s))
+    ∙ sym (part-cat 724 4 8 s))
+    ∙ sym (part-cat 720 4 12 s)
+
+pub store-load : (s : List ℕ) → length s ≡ 736 → Below 256 s → withHead (headOf s) s ≡ s
+unfolding withHead
+store-load s l h = ap (λ (x : List ℕ). put 720 16 x s) (headBytes-part s l h) ∙ put-part 720 16 s
+
+pub withHead-length : (h : Head) (s : List ℕ) → length s ≡ 736 → length (withHead h s) ≡ length s
+unfolding withHead
+withHead-length h s l = put-length 720 16 (headBytes h) s (omega arith) (headBytes-length h)
+
+pub store-unfinished : (h : Head) (s : List ℕ) → length s ≡ 736 → unfinished (withHead h s) ≡ unfinished s
+unfolding withHead unfinished
+store-unfinished h s l = part-put-before 720 16 (headBytes h) s 0 360 (omega arith) (lit≤ tt)
+
+pub store-stored : (h : Head) (s : List ℕ) → length s ≡ 736 → stored (withHead h s) ≡ stored s
+unfolding withHead stored
+store-stored h s l = part-put-before 720 16 (headBytes h) s 360 360 (omega arith) (lit≤ tt)
+
+-- the later of two heads stays
+pub store-store : (g h : Head) (s : List ℕ) → length s ≡ 736 → withHead h (withHead g s) ≡ withHead h s
+unfolding withHead
+store-store g h s l = put-put 720 16 (headBytes g) s (headBytes h) (omega arith) (headBytes-length g)
+
+module _ (h : Head) (ha : h .awaited < 256) (hg : h .group < 256) (hm : h .gap < 256) where
+  pub headBytes-below : Below 256 (headBytes h)
+  unfolding headBytes
+  headBytes-below =
+      below-cat (four (h .wish .address)) _ (four-below (h .wish .address))
+      (below-cat (four (h .wish .limit)) _ (four-below (h .wish .limit))
+      (below-cat (four (h .age)) _ (four-below (h .age)) last))
+    where
+      last : Below 256 (h .wish .protection % 256 ∷ h .awaited ∷ h .group ∷ h .gap ∷ [])
+      last zero = omega arith
+      last (suc zero) = ha
+      last (suc (suc zero)) = hg
+      last (suc (suc (suc zero))) = hm
+      last (suc (suc (suc (suc k)))) = lit< tt
+
+  pub withHead-below : (s : List ℕ) → Below 256 s → Below 256 (withHead h s)
+  unfolding withHead
+  withHead-below s b = put-below 720 16 (headBytes h) s headBytes-below b
