@@ -34,7 +34,7 @@ use Rattle.packet.proofs.Damages.{received-sent}
 use Rattle.packet.proofs.Vectors.{shielded, shielded-sent}
 use Rattle.runs.specs.Part.{part}
 use Rattle.slot.specs.Slot.{headOf}
-use Rattle.head.specs.Head.{newHead}
+use Rattle.head.specs.Head.{wishOf, newHead}
 use Rattle.head.specs.Move.{moveOf, moveNumber}
 use Rattle.head.specs.declared.Head.{Head}
 use Rattle.table.specs.State.{slots, slotAt, find}
@@ -138,15 +138,15 @@ module _ (image : List ℕ) (l : length image ≡ 94) (h : headerOf image ≡ 0x
         (subst (λ (k : ℕ). k < slots) (sym found) (lit< tt));
   }
 
-  head : headOf (slotAt (find followed (calls.addressOf image)) followed) ≡ newHead 17 1 2
+  head : headOf (slotAt (find followed (calls.addressOf image)) followed) ≡ newHead (wishOf 17 1 2)
   unfolding first
-  head = ap (λ (k : ℕ). headOf (slotAt k followed)) found ∙ follow-head started nobody start-shows 17 1 2 followed-17
+  head = ap (λ (k : ℕ). headOf (slotAt k followed)) found ∙ follow-head started nobody start-shows (wishOf 17 1 2) followed-17
 
-  pub arrived : calls.packetAnswer followed image ≡ takenNumber (received true image) (newHead 17 1 2)
+  pub arrived : calls.packetAnswer followed image ≡ takenNumber (received true image) (newHead (wishOf 17 1 2))
   unfolding calls.slotAnswer calls.readingAt
   arrived =
       packet-placed followed image (placed-zero followed image here) .0
-      ∙ ap (λ (x : Head). takenNumber (received (eqb (x .protection) 1) image) x) head
+      ∙ ap (λ (x : Head). takenNumber (received (eqb (x .wish .wish .protection) 1) image) x) head
 
 abbrev typed : ℕ → List ℕ
 typed t = written 17 0 t image.counting
@@ -168,4 +168,4 @@ shielded-read = ap (received true) (sym shielded-sent) ∙ received-sent true 17
 
 pub starts : calls.packetAnswer followed shielded ≡ 1
 unfolding takenNumber further moveOf moveNumber headerOf spareOf number sent bitsOf
-starts = arrived shielded refl refl refl ∙ ap (λ (r : Reading). takenNumber r (newHead 17 1 2)) shielded-read
+starts = arrived shielded refl refl refl ∙ ap (λ (r : Reading). takenNumber r (newHead (wishOf 17 1 2))) shielded-read

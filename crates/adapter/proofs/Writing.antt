@@ -29,7 +29,7 @@ use Rattle.packet.specs.Damage.{dataSize, sentImage}
 use Rattle.runs.specs.Part.{part, put}
 use Rattle.head.specs.Head.{within}
 use Rattle.runs.proofs.Parts.{part-length, put-next}
-use Rattle.table.proofs.Looking.{outside}
+use Rattle.head.proofs.Wishes.{outside}
 use Rattle.words.specs.Protected.{protected}
 use Rattle.adapter.specs.Calls.{groupSize, imagesSize, packetOf, groupImages, writeAnswer}
 

@@ -8,12 +8,12 @@ ghost use Rattle.bits.specs.Rows.{refusal, further, done};
 ghost use Rattle.bare.specs.Bare.{headerRead};
 ghost use Rattle.golay.specs.Code.{Lent};
 ghost use Rattle.image.specs.Image.{headerOf};
-ghost use Rattle.slot.specs.Slot.{headOf};
+ghost use Rattle.slot.specs.Slot.{slotSize, headOf};
+ghost use Rattle.table.specs.State.{stateSize};
 ghost use Rattle.group.specs.Group.{takenNumber, takenAfter};
 ghost use Rattle.adapter.specs.Calls.{readingAt, slotAnswer, slotAfter, packetAnswer, packetAfter, imageRows, placeRow};
 use bare::Header;
 use image::Packet;
-use slot::Head;
 use slot::Slot;
 use table::Table;
 use table::look;
@@ -57,7 +57,7 @@ fn checked(state: &[u8], image: &[u8]) -> u8
 
 // 27, or what the slot of the address answers.
 fn arrived(state: &mut [u8], patterns: &[u32], header: Header, image: &[u8]) -> u8
-    requires { ⌜ length (now state) ≡ 11776 ⌝ }
+    requires { ⌜ length (now state) ≡ stateSize ⌝ }
     requires { ⌜ Lent (now patterns) ⌝ }
     requires { ⌜ header ≡ headerRead (headerOf (now image)) ⌝ }
     requires { ⌜ length (now image) ≡ 94 ⌝ }
@@ -76,14 +76,14 @@ fn arrived(state: &mut [u8], patterns: &[u32], header: Header, image: &[u8]) -> 
 
 // What the slot of its address answers to an image: the one function on its bytes and what the image is received as.
 fn served(slot: &mut [u8], patterns: &[u32], header: Header, image: &[u8]) -> u8
-    requires { ⌜ length (now slot) ≡ 736 ⌝ }
+    requires { ⌜ length (now slot) ≡ slotSize ⌝ }
     requires { ⌜ Lent (now patterns) ⌝ }
     requires { ⌜ header ≡ headerRead (headerOf (now image)) ⌝ }
     requires { ⌜ length (now image) ≡ 94 ⌝ }
     ensures { λ r. ⌜ r ≡ takenNumber (readingAt (now (slot .entry)) (now (image .entry))) (headOf (now (slot .entry))) ⌝ }
     ensures { λ _. ⌜ now (slot .exit) ≡ takenAfter (readingAt (now (slot .entry)) (now (image .entry))) (now (slot .entry)) ⌝ }
 {
-    let head = Head::load(slot);
-    let reading = packet::received_by(patterns, header, head.protection == 1, image);
+    let head = Slot::load(slot);
+    let reading = packet::received_by(patterns, header, head.wish.protection == 1, image);
     group::taken(slot, head, reading)
 }

@@ -7,8 +7,8 @@ ghost use Rattle.packet.specs.Damage.{dataSize, sentImage};
 ghost use Rattle.adapter.specs.Calls.{packetOf, groupImages, writeAnswer, writeAfter};
 use bare::TypeByte;
 use group::Group;
+use head::Wish;
 use image::Packet;
-use slot::Head;
 use slot::Slot;
 
 // 22, 23, 20: the message is not 360 bytes plain or 180 protected, or the output is not 376.
@@ -28,7 +28,7 @@ pub fn group(address: u32, protection: u32, message: &[u8], output: &mut [u8]) -
 fn answer(address: u32, protection: u32, message: usize, output: usize) -> u8
     ensures { λ r. ⌜ r ≡ writeAnswer address protection message output ⌝ }
 {
-    if (address < 1) | (Head::LAST_ADDRESS < address) {
+    if (address < 1) | (Wish::LAST_ADDRESS < address) {
         return 22;
     }
     if 1 < protection {

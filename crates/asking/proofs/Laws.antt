@@ -27,20 +27,20 @@ use Rattle.asking.specs.declared.Asked.{Asked}
 -- ---- what ask says of a head
 
 module _ (h : Head) (ne : h .group ≡ 0 → ⊥) where
-  shown-group : shown h ≡ cond (leb (h .limit) (h .age)) 7 (cond (eqb (h .gap) 1) 6 5)
+  shown-group : shown h ≡ cond (leb (h .wish .limit) (h .age)) 7 (cond (eqb (h .gap) 1) 6 5)
   unfolding shown
-  shown-group = ap (λ (b : Bool). cond b 4 (cond (leb (h .limit) (h .age)) 7 (cond (eqb (h .gap) 1) 6 5))) (ne-eqb (h .group) 0 ne)
+  shown-group = ap (λ (b : Bool). cond b 4 (cond (leb (h .wish .limit) (h .age)) 7 (cond (eqb (h .gap) 1) 6 5))) (ne-eqb (h .group) 0 ne)
 
-  pub shown-7 : h .limit ≤ h .age → shown h ≡ 7
-  shown-7 q = shown-group ∙ ap (λ (b : Bool). cond b 7 (cond (eqb (h .gap) 1) 6 5)) (le-leb (h .limit) (h .age) q)
+  pub shown-7 : h .wish .limit ≤ h .age → shown h ≡ 7
+  shown-7 q = shown-group ∙ ap (λ (b : Bool). cond b 7 (cond (eqb (h .gap) 1) 6 5)) (le-leb (h .wish .limit) (h .age) q)
 
-  shown-young : h .age < h .limit → shown h ≡ cond (eqb (h .gap) 1) 6 5
-  shown-young q = shown-group ∙ ap (λ (b : Bool). cond b 7 (cond (eqb (h .gap) 1) 6 5)) (lt-leb (h .limit) (h .age) q)
+  shown-young : h .age < h .wish .limit → shown h ≡ cond (eqb (h .gap) 1) 6 5
+  shown-young q = shown-group ∙ ap (λ (b : Bool). cond b 7 (cond (eqb (h .gap) 1) 6 5)) (lt-leb (h .wish .limit) (h .age) q)
 
-  pub shown-6 : h .age < h .limit → h .gap ≡ 1 → shown h ≡ 6
+  pub shown-6 : h .age < h .wish .limit → h .gap ≡ 1 → shown h ≡ 6
   shown-6 q g = shown-young q ∙ ap (λ (b : Bool). cond b 6 5) (eq-eqb (h .gap) 1 g)
 
-  pub shown-5 : h .age < h .limit → (h .gap ≡ 1 → ⊥) → shown h ≡ 5
+  pub shown-5 : h .age < h .wish .limit → (h .gap ≡ 1 → ⊥) → shown h ≡ 5
   shown-5 q g = shown-young q ∙ ap (λ (b : Bool). cond b 6 5) (ne-eqb (h .gap) 1 g)
 
   pub asked-group : (k : ℕ) → askedAt k h ≡ record { number = shown h; at = k * slotSize + wholeAt; len = groupLength h }
@@ -51,13 +51,13 @@ pub asked-none : (k : ℕ) (h : Head) → h .group ≡ 0 → askedAt k h ≡ rec
 unfolding askedAt
 asked-none k h e = rw (eq-eqb (h .group) 0 e)
 
-pub length-180 : (h : Head) → h .protection ≡ 1 → groupLength h ≡ 180
+pub length-180 : (h : Head) → h .wish .protection ≡ 1 → groupLength h ≡ 180
 unfolding groupLength
-length-180 h e = rw (eq-eqb (h .protection) 1 e)
+length-180 h e = rw (eq-eqb (h .wish .protection) 1 e)
 
-pub length-360 : (h : Head) → (h .protection ≡ 1 → ⊥) → groupLength h ≡ 360
+pub length-360 : (h : Head) → (h .wish .protection ≡ 1 → ⊥) → groupLength h ≡ 360
 unfolding groupLength
-length-360 h e = rw (ne-eqb (h .protection) 1 e)
+length-360 h e = rw (ne-eqb (h .wish .protection) 1 e)
 
 -- ---- ask, by the rows
 
@@ -85,7 +85,7 @@ ends x = x .at + x .len
 
 group-ends : (k : ℕ) (h : Head) → k < slots → ends (askedAt k h) ≤ stateSize
 unfolding askedAt groupLength
-group-ends k h l = go (eqb (h .group) 0) (eqb (h .protection) 1)
+group-ends k h l = go (eqb (h .group) 0) (eqb (h .wish .protection) 1)
   where
     go : (g p : Bool) → ends (cond g (bare 4) (record { number = shown h; at = k * slotSize + wholeAt; len = cond p 180 360 })) ≤ stateSize
     go true p = omega arith

@@ -13,7 +13,7 @@ use native.Mathlib.Omega.{arith}
 use lib.Dec.{lit<, lit≤}
 use Rattle.bits.specs.Bits.{blank}
 use Rattle.bits.specs.Search.{first}
-use Rattle.head.specs.Head.{newHead, shown}
+use Rattle.head.specs.Head.{wishOf, newHead, shown}
 use Rattle.head.specs.declared.Head.{Head}
 use Rattle.table.specs.State.{find}
 use Rattle.table.specs.Calls.{leaveAnswer}
@@ -28,7 +28,7 @@ use Rattle.asking.proofs.Laws.{bare, asked-refused, asked-found, asked-
 
 abbrev head : ℕ → ℕ → ℕ → ℕ → Head
 head protection group gap age =
-    record { address = 17; limit = 2; age = age; protection = protection; awaited = 0; group = group; gap = gap }
+    record { wish = wishOf 17 protection 2; age = age; awaited = 0; group = group; gap = gap }
 
 -- a number with the group's length, which stands at 360 in the slot
 abbrev shows : ℕ → ℕ → Asked
@@ -49,8 +49,8 @@ refused s a r e ne = sym (asked-refused s a r (sym e) ne)
 pub nothing-yet : asked followed 17 ≡ bare 4
 unfolding first
 nothing-yet =
-    sym (asked-found followed 17 0 (newHead 17 1 2) (bare 4) (known followed one followed-shows 17 refl (lit< tt))
-    (find-place followed one followed-shows 17) (sym (follow-head started nobody start-shows 17 1 2 followed-17)) (sym (asked-none 0 (newHead 17 1 2) refl)))
+    sym (asked-found followed 17 0 (newHead (wishOf 17 1 2)) (bare 4) (known followed one followed-shows 17 refl (lit< tt))
+    (find-place followed one followed-shows 17) (sym (follow-head started nobody start-shows (wishOf 17 1 2) followed-17)) (sym (asked-none 0 (newHead (wishOf 17 1 2)) refl)))
 
 pub asks : (asked (blank 11775) 0 ∷ asked spoiled 0 ∷ asked started 0 ∷ asked started 1023 ∷ asked started 1 ∷ asked started 1022
     ∷ asked followed 18 ∷ asked followed 17 ∷ [])

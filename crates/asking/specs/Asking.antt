@@ -19,7 +19,7 @@ use Rattle.asking.specs.declared.Asked.{Asked}
 
 -- 360 bytes plain, 180 protected
 unfoldable pub groupLength : Head → ℕ
-groupLength h = cond (eqb (h .protection) 1) 180 360
+groupLength h = cond (eqb (h .wish .protection) 1) 180 360
 
 -- a followed address, in slot k
 unfoldable pub askedAt : ℕ → Head → Asked

@@ -3,8 +3,9 @@
 ghost use mathlib.Core.Path.{_≡_};
 ghost use Prim.Native.Nat.{_<_};
 ghost use Rattle.head.specs.Head.{shown};
+ghost use Rattle.table.specs.State.{slots};
 ghost use Rattle.asking.specs.Asking.{askedAt, asked, askPart, boardText};
-use slot::Head;
+use head::Head;
 use slot::Slot;
 use table::look;
 
@@ -60,7 +61,7 @@ pub fn board_text<'a>(state: &'a [u8], address: u32, notice: &'a [u8], number: &
 
 // What ask says of a followed address in slot k.
 fn shown(k: usize, head: Head) -> Asked
-    requires { ⌜ k < 16 ⌝ }
+    requires { ⌜ k < slots ⌝ }
     ensures { λ r. ⌜ r ≡ askedAt k head ⌝ }
 {
     if head.group == 0 {
@@ -70,7 +71,7 @@ fn shown(k: usize, head: Head) -> Asked
             len: 0,
         };
     }
-    let len = if head.protection == 1 {
+    let len = if head.wish.protection == 1 {
         Slot::PROTECTED
     } else {
         Slot::ROOM
@@ -86,7 +87,7 @@ fn shown(k: usize, head: Head) -> Asked
 fn freshness(head: Head) -> u8
     ensures { λ r. ⌜ ((head .group ≡ 0 → ⊥) → r ≡ shown head) ⌝ }
 {
-    if head.limit <= head.age {
+    if head.wish.limit <= head.age {
         7
     } else if head.gap == 1 {
         6

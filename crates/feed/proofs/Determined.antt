@@ -14,6 +14,7 @@ use lib.ListN.{length}
 use Rattle.bits.proofs.Determined.{determined}
 use Rattle.bare.specs.Bare.{headerRead, headerWritten, wordRead, wordWritten, typeRead, typeWritten}
 use Rattle.packet.specs.declared.Reading.{Reading}
+use Rattle.head.specs.declared.Wish.{Wish}
 use Rattle.table.specs.Calls.{startAnswer, startAfter, followAnswer, followAfter, leaveAnswer, leaveAfter, endAnswer, endAfter}
 use Rattle.table.proofs.Determined as table
 use Rattle.table.proofs.Determined.{Same}
@@ -82,7 +83,7 @@ received-same protection image before r p i b q o j c e f =
 pub start-same : (s : List ℕ) → Same (startAnswer s) (startAfter s)
 start-same = table.start-same
 
-pub follow-same : (s : List ℕ) (a p l : ℕ) → Same (followAnswer s a p l) (followAfter s a p l)
+pub follow-same : (s : List ℕ) (w : Wish) → Same (followAnswer s w) (followAfter s w)
 follow-same = table.follow-same
 
 pub leave-same : (s : List ℕ) (a : ℕ) → Same (leaveAnswer s a) (leaveAfter s a)

@@ -1,11 +1,12 @@
 // The calls on a state, and the group writer. A part is handed back as its place and its length in what was lent.
 ghost use mathlib.Core.Path.{_≡_};
 ghost use lib.ListN.{length};
+ghost use Rattle.head.specs.Head.{wishOf};
 ghost use Rattle.table.specs.Calls.{startAnswer, startAfter, followAnswer, followAfter, leaveAnswer, leaveAfter, endAnswer, endAfter};
 ghost use Rattle.asking.specs.Asking.{asked};
 ghost use Rattle.adapter.specs.Calls.{packetAnswer, packetAfter, writeAnswer, writeAfter};
 ghost use Rattle.feed.specs.Board.{boardFrom, boardAt, boardLength};
-use table::Following;
+use head::Wish;
 
 // 20. Every byte becomes 0.
 #[no_mangle]
@@ -19,10 +20,10 @@ pub extern "C" fn feed_start(state: &mut [u8]) -> u8
 // 20, 34, 22, 23, 24, 25, 26.
 #[no_mangle]
 pub extern "C" fn feed_follow(state: &mut [u8], address: u32, protection: u32, limit: u32) -> u8
-    ensures { λ r. ⌜ r ≡ followAnswer (now (state .entry)) address protection limit ⌝ }
-    ensures { λ _. ⌜ now (state .exit) ≡ followAfter (now (state .entry)) address protection limit ⌝ }
+    ensures { λ r. ⌜ r ≡ followAnswer (now (state .entry)) (wishOf address protection limit) ⌝ }
+    ensures { λ _. ⌜ now (state .exit) ≡ followAfter (now (state .entry)) (wishOf address protection limit) ⌝ }
 {
-    table::follow(state, Following::new(address, protection, limit))
+    table::follow(state, Wish::new(address, protection, limit))
 }
 
 // 20, 34, 22, 27.

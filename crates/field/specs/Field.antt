@@ -18,7 +18,6 @@
 --   numbersOf t            the six numbers of TDMS
 --   packNumber, packed     six numbers as TDMS: 33 where one is too wide
 --   unpackNumber, unpacked TDMS as six numbers: 33 where it has more than 62 bits
---   eight n, eightAt at s  a number as eight bytes, lowest first, and the number at a place
 use mathlib.Core.Bool.{Bool, _&&_, _||_, not}
 use mathlib.Core.List.{List, [], _∷_, _++_}
 use Prim.Native.Nat.{ℕ, _+_, _-_, _*_, _/_, _%_, _^_}
@@ -26,7 +25,6 @@ use lib.Dec.{ltb, eqb, leb}
 use lib.ListN.{length, take, drop}
 use Rattle.bits.specs.Bits.{bitsOf, number, sent, taken}
 use Rattle.bits.specs.Rows.{row, refusal, given, done}
-use Rattle.runs.specs.Numbers.{four, fourAt}
 use Rattle.field.specs.declared.Field.{Field}
 use Rattle.field.specs.declared.Tdms.{Tdms}
 

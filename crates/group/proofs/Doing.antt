@@ -116,17 +116,17 @@ out-drops c b s = refl
 
 -- ---- a packet's bytes
 
-pub block-45 : (h : Head) → h .protection ≡ 1 → 45 ≡ blockOf h
+pub block-45 : (h : Head) → h .wish .protection ≡ 1 → 45 ≡ blockOf h
 unfolding blockOf
-block-45 h e = sym (ap (λ (b : Bool). cond b 45 90) (eq-eqb (h .protection) 1 e))
+block-45 h e = sym (ap (λ (b : Bool). cond b 45 90) (eq-eqb (h .wish .protection) 1 e))
 
-pub block-90 : (h : Head) → (h .protection ≡ 1 → ⊥) → 90 ≡ blockOf h
+pub block-90 : (h : Head) → (h .wish .protection ≡ 1 → ⊥) → 90 ≡ blockOf h
 unfolding blockOf
-block-90 h e = sym (ap (λ (b : Bool). cond b 45 90) (ne-eqb (h .protection) 1 e))
+block-90 h e = sym (ap (λ (b : Bool). cond b 45 90) (ne-eqb (h .wish .protection) 1 e))
 
 pub block-le : (h : Head) → blockOf h ≤ 90
 unfolding blockOf
-block-le h = go (eqb (h .protection) 1)
+block-le h = go (eqb (h .wish .protection) 1)
   where
     go : (b : Bool) → cond b 45 90 ≤ 90
     go true = omega arith

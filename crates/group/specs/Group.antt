@@ -22,7 +22,7 @@ use Rattle.head.specs.declared.Head.{Head}
 use Rattle.packet.specs.declared.Reading.{Reading}
 
 unfoldable pub blockOf : Head → ℕ
-blockOf h = cond (eqb (h .protection) 1) 45 90
+blockOf h = cond (eqb (h .wish .protection) 1) 45 90
 
 unfoldable pub placed : ℕ → List ℕ → List ℕ → List ℕ
 placed c b room = put (c * length b) (length b) b room

@@ -3,12 +3,12 @@
 ghost use mathlib.Core.Path.{_≡_};
 ghost use Prim.Native.Nat.{_<_, _≤_};
 ghost use lib.ListN.{length};
-ghost use Rattle.slot.specs.Slot.{headOf};
+ghost use Rattle.slot.specs.Slot.{slotSize, headOf};
 ghost use Rattle.head.specs.Move.{started, held, whole, outOfStep, moveOf, moveNumber};
 ghost use Rattle.group.specs.Group.{blockOf, slotMoved, slotDropped, takenNumber, takenAfter};
+use head::Head;
 use image::Packet;
 use packet::Reading;
-use slot::Head;
 use slot::Slot;
 use slot::room;
 
@@ -30,7 +30,7 @@ impl Group {
 // What the slot of its address answers to what a packet was received as: 1 started, 2 held, 3 whole, 32, or the packet's own
 // refusal.
 pub fn taken(slot: &mut [u8], head: Head, reading: Reading) -> u8
-    requires { ⌜ length (now slot) ≡ 736 ⌝ }
+    requires { ⌜ length (now slot) ≡ slotSize ⌝ }
     requires { ⌜ head ≡ headOf (now slot) ⌝ }
     requires { ⌜ length (reading .bytes) ≡ 90 ⌝ }
     ensures { λ r. ⌜ r ≡ takenNumber reading head ⌝ }
@@ -50,7 +50,7 @@ pub fn taken(slot: &mut [u8], head: Head, reading: Reading) -> u8
 fn block(head: Head) -> usize
     ensures { λ r. ⌜ r ≡ blockOf head ⌝ }
 {
-    if head.protection == 1 {
+    if head.wish.protection == 1 {
         Group::PROTECTED
     } else {
         Group::PLAIN
@@ -59,7 +59,7 @@ fn block(head: Head) -> usize
 
 // A readable data packet: the row of section 4's table.
 fn moved(slot: &mut [u8], head: Head, index: u8, bytes: &[u8]) -> u8
-    requires { ⌜ length (now slot) ≡ 736 ⌝ }
+    requires { ⌜ length (now slot) ≡ slotSize ⌝ }
     requires { ⌜ head ≡ headOf (now slot) ⌝ }
     requires { ⌜ length (now bytes) ≤ 90 ⌝ }
     ensures { λ r. ⌜ r ≡ moveNumber (moveOf (head .awaited) index) ⌝ }
@@ -83,31 +83,31 @@ fn moved(slot: &mut [u8], head: Head, index: u8, bytes: &[u8]) -> u8
 
 // Answer 1: the unfinished group begins anew.
 fn started(slot: &mut [u8], head: Head, bytes: &[u8])
-    requires { ⌜ length (now slot) ≡ 736 ⌝ }
+    requires { ⌜ length (now slot) ≡ slotSize ⌝ }
     requires { ⌜ head ≡ headOf (now slot) ⌝ }
     requires { ⌜ length (now bytes) ≤ 90 ⌝ }
     ensures { λ _. ⌜ now (slot .exit) ≡ slotMoved started 0 (now (bytes .entry)) (now (slot .entry)) ⌝ }
 {
     room::empty(slot);
     runs::copy(slot, Slot::UNFINISHED, bytes);
-    head.started().store(slot);
+    Slot::store(head.started(), slot);
 }
 
 // Answer 2: the packet is joined on.
 fn held(slot: &mut [u8], head: Head, bytes: &[u8])
-    requires { ⌜ length (now slot) ≡ 736 ⌝ }
+    requires { ⌜ length (now slot) ≡ slotSize ⌝ }
     requires { ⌜ head ≡ headOf (now slot) ⌝ }
     requires { ⌜ length (now bytes) ≤ 90 ⌝ }
     requires { ⌜ head .awaited < 3 ⌝ }
     ensures { λ _. ⌜ now (slot .exit) ≡ slotMoved held (head .awaited) (now (bytes .entry)) (now (slot .entry)) ⌝ }
 {
     runs::copy(slot, head.awaited as usize * bytes.len(), bytes);
-    head.held().store(slot);
+    Slot::store(head.held(), slot);
 }
 
 // Answer 3: it becomes the last whole group.
 fn whole(slot: &mut [u8], head: Head, bytes: &[u8])
-    requires { ⌜ length (now slot) ≡ 736 ⌝ }
+    requires { ⌜ length (now slot) ≡ slotSize ⌝ }
     requires { ⌜ head ≡ headOf (now slot) ⌝ }
     requires { ⌜ length (now bytes) ≤ 90 ⌝ }
     requires { ⌜ head .awaited ≡ 3 ⌝ }
@@ -116,15 +116,15 @@ fn whole(slot: &mut [u8], head: Head, bytes: &[u8])
     runs::copy(slot, head.awaited as usize * bytes.len(), bytes);
     room::keep(slot, Group::PACKETS * bytes.len());
     room::empty(slot);
-    head.whole().store(slot);
+    Slot::store(head.whole(), slot);
 }
 
 // 28 to 32: the unfinished group is dropped.
 fn dropped(slot: &mut [u8], head: Head)
-    requires { ⌜ length (now slot) ≡ 736 ⌝ }
+    requires { ⌜ length (now slot) ≡ slotSize ⌝ }
     requires { ⌜ head ≡ headOf (now slot) ⌝ }
     ensures { λ _. ⌜ now (slot .exit) ≡ slotDropped (now (slot .entry)) ⌝ }
 {
     room::empty(slot);
-    head.dropped().store(slot);
+    Slot::store(head.dropped(), slot);
 }

@@ -1,14 +1,17 @@
 -- What a slot says of its address, as a value, and how it changes (document 01, sections 3 to 5). No place of a byte is told here.
 --
 --   goodWish w                   what may be wished of follow: the bounds of section 3
+--   wishRows w rest, wishAnswer  follow's rows about what is wished, 22, 23, 24, and then others; the first of these
 --   freeHead, newHead w          all 0; as follow makes it: awaited index, marks and age 0
 --   startedHead .. droppedHead   by the rows of section 4's table
 --   agedHead                     by a subframe end, section 5
 --   shown h                      what ask says of a followed address: 4, 7, 6 or 5
 --   goodHead h                   within the bounds of section 3
-use mathlib.Core.Bool.{Bool, cond, _&&_}
+use mathlib.Core.Bool.{Bool, cond, not, _&&_}
+use mathlib.Core.List.{List, [], _∷_}
 use Prim.Native.Nat.{ℕ, _+_}
 use lib.Dec.{leb, ltb, eqb}
+use Rattle.bits.specs.Rows.{Row, row, refusal}
 use Rattle.head.specs.declared.Head.{Head}
 use Rattle.head.specs.declared.Wish.{Wish}
 
@@ -18,6 +21,17 @@ within least most n = leb least n && leb n most
 -- "address 1 to 1,022, protection 0 or 1, limit 1 to 1,500"
 unfoldable pub goodWish : Wish → Bool
 goodWish w = within 1 1022 (w .address) && (leb (w .protection) 1 && within 1 1500 (w .limit))
+
+-- 22: address not 1 to 1,022; 23: protection not 0 or 1; 24: limit not 1 to 1,500
+abbrev pub wishRows : Wish → List Row → List Row
+wishRows w rest =
+    row (not (within 1 1022 (w .address))) 22
+    ∷ row (ltb 1 (w .protection)) 23
+    ∷ row (not (within 1 1500 (w .limit))) 24
+    ∷ rest
+
+unfoldable pub wishAnswer : Wish → ℕ
+wishAnswer w = refusal (wishRows w [])
 
 abbrev pub wishOf : ℕ → ℕ → ℕ → Wish
 wishOf address protection limit = record { address = address; limit = limit; protection = protection }

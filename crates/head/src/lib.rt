@@ -2,7 +2,7 @@
 // head back. No byte place is known here.
 ghost use mathlib.Core.Path.{_≡_};
 ghost use Prim.Native.Nat.{_<_};
-ghost use Rattle.head.specs.Head.{wishOf, goodWish, freeHead, newHead, startedHead, heldHead, wholeHead, droppedHead, agedHead, goodHead};
+ghost use Rattle.head.specs.Head.{wishOf, goodWish, wishAnswer, freeHead, newHead, startedHead, heldHead, wholeHead, droppedHead, agedHead, goodHead};
 
 // What follow is asked: further wishes get their defaults in `new`.
 pub struct Wish {
@@ -32,6 +32,23 @@ impl Wish {
         let address = (1 <= self.address) & (self.address <= Self::LAST_ADDRESS);
         let limit = (1 <= self.limit) & (self.limit <= Self::LONGEST);
         address & ((self.protection <= 1) & limit)
+    }
+
+    // 22, 23, 24: follow's rows about what is wished.
+    pub fn answer(self) -> u8
+        ensures { λ r. ⌜ r ≡ wishAnswer self ⌝ }
+    {
+        if (self.address < 1) | (Self::LAST_ADDRESS < self.address) {
+            return 22;
+        }
+        if 1 < self.protection {
+            return 23;
+        }
+        if (self.limit < 1) | (Self::LONGEST < self.limit) {
+            24
+        } else {
+            0
+        }
     }
 }
 

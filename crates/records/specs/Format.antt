@@ -1,7 +1,6 @@
 -- The record (document 01, section 7): "a two-byte big-endian length of what follows, a version byte 1, a kind byte, a body: kind 1
 -- packet (94), 2 subframe end (0), 3 follow (address 2, protection 1, limit 2), 4 leave (2), 5 ask (2). Numbers are big-endian."
 --
---   twoAt at s        the two-byte number at a place
 --   bodySize kind     how long the body of a kind is; of another kind longer than any length can say
 --   goodHead s at     the four bytes at a place begin a record: version 1, a kind, and its length
 --   stepAt s at       what stands at a place: a record with its kind and its body's place, the end, bytes that do not suffice yet,
@@ -13,6 +12,7 @@ use mathlib.Core.List.{List, _∷_}
 use Prim.Native.Nat.{ℕ, _+_, _-_, _*_, _/_, _%_}
 use lib.Dec.{ltb, eqb}
 use lib.ListN.{length, getD}
+use Rattle.runs.specs.Numbers.{twoAt}
 use Rattle.records.specs.declared.Step.{Step}
 use Rattle.records.specs.declared.Step.the-variants.{Record, End, More, Bad}
 

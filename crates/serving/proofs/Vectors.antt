@@ -18,8 +18,10 @@ use Rattle.bits.specs.Search.{first}
 use Rattle.bits.proofs.Rows.{done-refused}
 use Rattle.runs.specs.Part.{part}
 use Rattle.table.specs.State.{stateSize}
+use Rattle.bits.specs.Rows.{refusal}
+use Rattle.head.specs.Head.{wishOf, wishAnswer}
 use Rattle.table.specs.Calls.{followAnswer, followAfter, leaveAnswer, leaveAfter, endAnswer, endAfter}
-use Rattle.table.proofs.Looking.{follow-22}
+use Rattle.table.proofs.Looking.{follow-wish}
 use Rattle.table.proofs.Shows.{Shows, with, end-done, end-shows, leave-shows}
 use Rattle.table.proofs.Vectors.{started, followed, followed-17, followed-shows, one, known, unknown, again}
 use Rattle.asking.specs.Asking.{asked}
@@ -37,7 +39,7 @@ use Rattle.serving.specs.Served.{servedAnswer, servedAfter, onStep, pass
 
 pub bodies : (t : List ℕ) → (servedAnswer 1 (blank 94) t ∷ servedAnswer 2 [] t ∷ servedAnswer 3 (0x00 ∷ 0x11 ∷ 0x01 ∷ 0x00 ∷ 0x02 ∷ []) t
     ∷ servedAnswer 3 (0x03 ∷ 0xFE ∷ 0x00 ∷ 0x05 ∷ 0xDC ∷ []) t ∷ servedAnswer 4 (0x03 ∷ 0xFE ∷ []) t ∷ servedAnswer 5 (0x03 ∷ 0xFE ∷ []) t ∷ [])
-    ≡ (packetAnswer t (blank 94) ∷ endAnswer t ∷ followAnswer t 17 1 2 ∷ followAnswer t 1022 0 1500 ∷ leaveAnswer t 1022 ∷ asked t 1022 .number ∷ [])
+    ≡ (packetAnswer t (blank 94) ∷ endAnswer t ∷ followAnswer t (wishOf 17 1 2) ∷ followAnswer t (wishOf 1022 0 1500) ∷ leaveAnswer t 1022 ∷ asked t 1022 .number ∷ [])
 unfolding servedAnswer twoAt
 bodies t = refl
 
@@ -47,23 +49,23 @@ bodies t = refl
 abbrev later : List ℕ → List ℕ
 later u =
     endAnswer u ∷ leaveAnswer (endAfter u) 17 ∷ asked (leaveAfter (endAfter u) 17) 17 .number
-    ∷ followAnswer (leaveAfter (endAfter u) 17) 0 1 2 ∷ []
+    ∷ followAnswer (leaveAfter (endAfter u) 17) (wishOf 0 1 2) ∷ []
 
 pub sample-calls : (t : List ℕ)
     → fileFrom sample t
-    ≡ (followAnswer t 17 1 2 ∷ asked (followAfter t 17 1 2) 17 .number ∷ followAnswer (followAfter t 17 1 2) 17 1 2
-    ∷ later (followAfter (followAfter t 17 1 2) 17 1 2))
+    ≡ (followAnswer t (wishOf 17 1 2) ∷ asked (followAfter t (wishOf 17 1 2)) 17 .number ∷ followAnswer (followAfter t (wishOf 17 1 2)) (wishOf 17 1 2)
+    ∷ later (followAfter (followAfter t (wishOf 17 1 2)) (wishOf 17 1 2)))
 unfolding fileFrom pass onStep ending servedAnswer servedAfter stepAt goodHead twoAt bodySize part
 sample-calls t = refl
 
-second : followAnswer followed 17 1 2 ≡ 25
-unfolding first
-second = again followed one followed-shows 17 refl 1 2 (lit≤ tt) refl (lit< tt)
+second : followAnswer followed (wishOf 17 1 2) ≡ 25
+unfolding first wishAnswer refusal
+second = again followed one followed-shows (wishOf 17 1 2) refl (lit< tt)
 
 -- refused, it changes nothing
-unchanged : followAfter followed 17 1 2 ≡ followed
+unchanged : followAfter followed (wishOf 17 1 2) ≡ followed
 unfolding followAfter
-unchanged = done-refused (followAnswer followed 17 1 2) _ followed (λ z. omega (arith, z, second))
+unchanged = done-refused (followAnswer followed (wishOf 17 1 2)) _ followed (λ z. omega (arith, z, second))
 
 aged : Shows (endAfter followed) one
 aged = end-shows followed one followed-shows
@@ -81,17 +83,17 @@ unfolding first
 after = leave-shows (endAfter followed) one aged 17 left
 
 later-answers : later followed ≡ (0 ∷ 0 ∷ 27 ∷ 22 ∷ [])
-unfolding first
+unfolding first wishAnswer refusal
 later-answers =
     let u = leaveAfter (endAfter followed) 17 in
     let absent = refused u 17 27 (unknown u gone after 17 refl (lit≤ tt)) (λ q. omega (arith, q)) in
-    λ i. end-done followed one followed-shows i ∷ left i ∷ absent i .number ∷ follow-22 u 0 1 2 (after .passed) refl i ∷ []
+    λ i. end-done followed one followed-shows i ∷ left i ∷ absent i .number ∷ follow-wish u (wishOf 0 1 2) (after .passed) (λ z. omega (arith, z)) i ∷ []
 
 pub sample-answers : fileAnswers sample ≡ (0 ∷ 4 ∷ 25 ∷ 0 ∷ 0 ∷ 27 ∷ 22 ∷ [])
 unfolding fileAnswers
 sample-answers =
     sample-calls started
-    ∙ ap (λ (u : List ℕ). followAnswer started 17 1 2 ∷ asked followed 17 .number ∷ followAnswer followed 17 1 2 ∷ later u) unchanged
+    ∙ ap (λ (u : List ℕ). followAnswer started (wishOf 17 1 2) ∷ asked followed 17 .number ∷ followAnswer followed (wishOf 17 1 2) ∷ later u) unchanged
     ∙ (λ i. followed-17 i ∷ nothing-yet i .number ∷ second i ∷ later-answers i)
 
 -- ---- cut, bad, empty

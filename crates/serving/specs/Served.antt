@@ -1,5 +1,6 @@
 -- What records do to a state (document 01, section 7), and what the record program is to print for a file.
 --
+--   wishIn b                      what a follow record wishes
 --   servedAnswer, servedAfter     one record's call: its answer, and the state after it
 --   Pass                          what a pass over records gives: the answers, the state after, the place it came to, what stands there
 --   pass n s at t                 the records of s from a place on, at most n of them, on the state t
@@ -11,9 +12,10 @@ use mathlib.Core.List.{List, [], _∷_, _++_}
 use Prim.Native.Nat.{ℕ, zero, suc, _+_}
 use lib.Dec.{eqb}
 use lib.ListN.{length, getD, drop}
-use Rattle.bits.specs.Bits.{blank}
 use Rattle.runs.specs.Part.{part}
-use Rattle.table.specs.State.{stateSize}
+use Rattle.table.specs.State.{startedState}
+use Rattle.head.specs.Head.{wishOf}
+use Rattle.head.specs.declared.Wish.{Wish}
 use Rattle.table.specs.Calls.{followAnswer, followAfter, leaveAnswer, leaveAfter, endAnswer, endAfter}
 use Rattle.asking.specs.Asking.{asked}
 use Rattle.adapter.specs.Calls.{packetAnswer, packetAfter}
@@ -24,18 +26,22 @@ use Rattle.records.specs.Format.{bodySize, stepAt}
 
 -- ---- one record
 
+-- "follow (address 2, protection 1, limit 2)"
+abbrev pub wishIn : List ℕ → Wish
+wishIn b = wishOf (twoAt 0 b) (getD b 2 0) (twoAt 3 b)
+
 unfoldable pub servedAnswer : ℕ → List ℕ → List ℕ → ℕ
 servedAnswer kind b t =
     cond (eqb kind 1) (packetAnswer t b)
     (cond (eqb kind 2) (endAnswer t)
-    (cond (eqb kind 3) (followAnswer t (twoAt 0 b) (getD b 2 0) (twoAt 3 b))
+    (cond (eqb kind 3) (followAnswer t (wishIn b))
     (cond (eqb kind 4) (leaveAnswer t (twoAt 0 b)) (asked t (twoAt 0 b) .number))))
 
 unfoldable pub servedAfter : ℕ → List ℕ → List ℕ → List ℕ
 servedAfter kind b t =
     cond (eqb kind 1) (packetAfter t b)
     (cond (eqb kind 2) (endAfter t)
-    (cond (eqb kind 3) (followAfter t (twoAt 0 b) (getD b 2 0) (twoAt 3 b)) (cond (eqb kind 4) (leaveAfter t (twoAt 0 b)) t)))
+    (cond (eqb kind 3) (followAfter t (wishIn b)) (cond (eqb kind 4) (leaveAfter t (twoAt 0 b)) t)))
 
 -- ---- a pass over records
 
@@ -78,7 +84,7 @@ unfoldable pub fileFrom : List ℕ → List ℕ → List ℕ
 fileFrom s t = let p = pass (length s) s 0 t in p .answers ++ ending (p .last)
 
 unfoldable pub fileAnswers : List ℕ → List ℕ
-fileAnswers s = fileFrom s (blank stateSize)
+fileAnswers s = fileFrom s startedState
 
 -- what is left at the end of the file is a record cut short
 unfoldable pub cut : List ℕ → List ℕ
@@ -99,7 +105,7 @@ chunksFrom (c ∷ cs) carried t =
     p .answers ++ onBad (p .last) (chunksFrom cs (drop (p .at) s) (p .state))
 
 unfoldable pub chunkAnswers : List (List ℕ) → List ℕ
-chunkAnswers cs = chunksFrom cs [] (blank stateSize)
+chunkAnswers cs = chunksFrom cs [] startedState
 
 unfoldable pub joined : List (List ℕ) → List ℕ
 joined [] = []

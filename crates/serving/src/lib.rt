@@ -4,12 +4,12 @@ ghost use Prim.Native.Nat.{_≤_};
 ghost use lib.ListN.{length, take};
 ghost use Rattle.records.specs.Format.{bodySize};
 ghost use Rattle.serving.specs.Served.{servedAnswer, servedAfter, pass};
+use head::Wish;
 use records::Format;
 use records::Step;
 use records::body_size;
 use records::next;
 use runs::two_at;
-use table::Following;
 
 // One record's call on a state.
 pub fn serve(state: &mut [u8], kind: u8, body: &[u8]) -> u8
@@ -24,7 +24,7 @@ pub fn serve(state: &mut [u8], kind: u8, body: &[u8]) -> u8
         return table::subframe_end(state);
     }
     if kind == Format::FOLLOW {
-        let wish = Following::new(two_at(body, 0), body[2] as u32, two_at(body, 3));
+        let wish = Wish::new(two_at(body, 0), body[2] as u32, two_at(body, 3));
         return table::follow(state, wish);
     }
     if kind == Format::LEAVE {

@@ -4,6 +4,7 @@ use mathlib.Core.Path.{_≡_}
 use mathlib.Core.List.{List}
 use Prim.Native.Nat.{ℕ}
 use Rattle.bits.proofs.Determined.{determined}
+use Rattle.head.specs.declared.Wish.{Wish}
 use Rattle.table.specs.Calls.{startAnswer, startAfter, followAnswer, followAfter, leaveAnswer, leaveAfter, endAnswer, endAfter}
 
 -- an answer and the bytes after, by the two functions of a call
@@ -17,8 +18,8 @@ same answer after r q t u a b c d = (determined a c, determined b d)
 pub start-same : (s : List ℕ) → Same (startAnswer s) (startAfter s)
 start-same s = same (startAnswer s) (startAfter s)
 
-pub follow-same : (s : List ℕ) (a p l : ℕ) → Same (followAnswer s a p l) (followAfter s a p l)
-follow-same s a p l = same (followAnswer s a p l) (followAfter s a p l)
+pub follow-same : (s : List ℕ) (w : Wish) → Same (followAnswer s w) (followAfter s w)
+follow-same s w = same (followAnswer s w) (followAfter s w)
 
 pub leave-same : (s : List ℕ) (a : ℕ) → Same (leaveAnswer s a) (leaveAfter s a)
 leave-same s a = same (leaveAnswer s a) (leaveAfter s a)

@@ -27,6 +27,7 @@ use Rattle.head.specs.Head.{agedHead}
 use Rattle.head.specs.declared.Head.{Head}
 use Rattle.slot.proofs.Heads.{withHead-length}
 use Rattle.table.specs.State.{stateSize, slots, slotAt, withSlot, find}
+use Rattle.head.specs.declared.Wish.{Wish}
 use Rattle.table.specs.Calls.{startAnswer, followAnswer, leaveAnswer, endAnswer, ages}
 use Rattle.table.proofs.States.{slot-length, with-length}
 use Rattle.table.proofs.Kept.{follow-passed, leave-passed}
@@ -49,8 +50,8 @@ pub start-passed : (s : List ℕ) → length s ≡ stateSize → 0 ≡ startAnsw
 unfolding startAnswer refusal
 start-passed s e = sym (refusal-miss (not (eqb (length s) stateSize)) 20 [] (ap not (eq-eqb (length s) stateSize e)))
 
-pub follow-length : (s : List ℕ) (a p l : ℕ) → followAnswer s a p l ≡ 0 → length s ≡ stateSize
-follow-length s a p l e = follow-passed s a p l e .state .size
+pub follow-length : (s : List ℕ) (w : Wish) → followAnswer s w ≡ 0 → length s ≡ stateSize
+follow-length s w e = follow-passed s w e .state .size
 
 leave-length : (s : List ℕ) (a : ℕ) → leaveAnswer s a ≡ 0 → length s ≡ stateSize
 leave-length s a e = leave-passed s a e .0 .size

@@ -22,12 +22,14 @@ use Rattle.bits.proofs.Search.{and-left}
 use Rattle.bits.proofs.Storing.{blank-length}
 use Rattle.runs.specs.Part.{part}
 use Rattle.head.specs.declared.Head.{Head}
-use Rattle.head.proofs.Bounds.{good-new, good-aged}
+use Rattle.head.proofs.Bounds.{wish-bounds, good-new, good-aged}
 use Rattle.slot.proofs.Goods.{good-load, good-store, good-free, good-cases, head-blank, blank-free}
 use Rattle.slot.proofs.Heads.{store-load, withHead-length}
 use Rattle.runs.proofs.Parts.{blank-at}
 use Rattle.slot.specs.Slot.{slotSize, headOf, withHead, goodSlot, free}
-use Rattle.head.specs.Head.{freeHead, newHead, agedHead, within, goodHead}
+use Rattle.head.specs.Head.{freeHead, newHead, agedHead, within, goodWish, goodHead}
+use Rattle.head.specs.declared.Wish.{Wish}
+use Rattle.head.proofs.Wishes.{wish-passed}
 use Rattle.table.specs.State.{slots, stateSize, slotAt, withSlot, addressAt, find, good}
 use Rattle.table.specs.Calls.{startAnswer, startAfter, followAnswer, followAfter, leaveAnswer, leaveAfter, endAnswer, ages, endAfter}
 use Rattle.table.proofs.Looking.{Passed, past-state}
@@ -39,28 +41,22 @@ unfolding done
 done-either P zero after before a b = a refl
 done-either P (suc n) after before a b = b
 
-pub record Followed (s : List ℕ) (a p l : ℕ) : Type 0 where
+pub record Followed (s : List ℕ) (w : Wish) : Type 0 where
   pub state : Passed s
-  pub address : within 1 1022 a ≡ true
-  pub protection : p ≤ 1
-  pub limit : within 1 1500 l ≡ true
-  pub absent : slots ≤ find s a
+  pub wish : goodWish w ≡ true
+  pub absent : slots ≤ find s (w .address)
   pub room : find s 0 < slots
 
-pub follow-passed : (s : List ℕ) (a p l : ℕ) → followAnswer s a p l ≡ 0 → Followed s a p l
+pub follow-passed : (s : List ℕ) (w : Wish) → followAnswer s w ≡ 0 → Followed s w
 unfolding followAnswer
-follow-passed s a p l e =
-    let r22 = refusal-passed (not (within 1 1022 a)) 22 _ (omega arith) (past-state s _ e .1) in
-    let r23 = refusal-passed (ltb 1 p) 23 _ (omega arith) (r22 .1) in
-    let r24 = refusal-passed (not (within 1 1500 l)) 24 _ (omega arith) (r23 .1) in
-    let r25 = refusal-passed (ltb (find s a) slots) 25 _ (omega arith) (r24 .1) in
+follow-passed s w e =
+    let wished = wish-passed w _ (past-state s _ e .1) in
+    let r25 = refusal-passed (ltb (find s (w .address)) slots) 25 _ (omega arith) (wished .1) in
     let r26 = refusal-passed (not (ltb (find s 0) slots)) 26 [] (omega arith) (r25 .1) in
     record {
       state = past-state s _ e .0;
-      address = not-false (within 1 1022 a) (r22 .0);
-      protection = ltb-false 1 p (r23 .0);
-      limit = not-false (within 1 1500 l) (r24 .0);
-      absent = ltb-false (find s a) slots (r25 .0);
+      wish = wished .0;
+      absent = ltb-false (find s (w .address)) slots (r25 .0);
       room = ltb-true (find s 0) slots (not-false (ltb (find s 0) slots) (r26 .0));
     }
 
@@ -100,23 +96,23 @@ start-good s l =
 
 -- ---- follow
 
-pub follow-good : (s : List ℕ) (a p l : ℕ) → good s ≡ true → good (followAfter s a p l) ≡ true
+pub follow-good : (s : List ℕ) (w : Wish) → good s ≡ true → good (followAfter s w) ≡ true
 unfolding followAfter
-follow-good s a p l g =
-    done-either (λ (x : List ℕ). good x ≡ true) (followAnswer s a p l)
-    (withSlot (find s 0) (withHead (newHead a p l) (slotAt (find s 0) s)) s) s (λ e. taken (follow-passed s a p l e)) g
+follow-good s w g =
+    done-either (λ (x : List ℕ). good x ≡ true) (followAnswer s w)
+    (withSlot (find s 0) (withHead (newHead w) (slotAt (find s 0) s)) s) s (λ e. taken (follow-passed s w e)) g
   where
-    taken : Followed s a p l → good (withSlot (find s 0) (withHead (newHead a p l) (slotAt (find s 0) s)) s) ≡ true
+    taken : Followed s w → good (withSlot (find s 0) (withHead (newHead w) (slotAt (find s 0) s)) s) ≡ true
     taken f =
         let k = find s 0 in
         let lk = slot-length s (f .state .size) k (f .room) in
-        let gh = good-new a p l (f .address) (le-leb p 1 (f .protection)) (f .limit) in
-        let load = good-load (newHead a p l) gh (slotAt k s) lk in
-        let address : headOf (withHead (newHead a p l) (slotAt k s)) .address ≡ a = ap (λ (h : Head). h .address) load in
-        each-good _ (good-followed s (f .state .size) (good-each s g) k (withHead (newHead a p l) (slotAt k s)) (f .room)
-        (withHead-length (newHead a p l) (slotAt k s) lk ∙ lk) (good-store (newHead a p l) gh (slotAt k s) lk)
+        let gh = good-new w (f .wish) in
+        let load = good-load (newHead w) gh (slotAt k s) lk in
+        let address : headOf (withHead (newHead w) (slotAt k s)) .wish .address ≡ w .address = ap (λ (h : Head). h .wish .address) load in
+        each-good _ (good-followed s (f .state .size) (good-each s g) k (withHead (newHead w) (slotAt k s)) (f .room)
+        (withHead-length (newHead w) (slotAt k s) lk ∙ lk) (good-store (newHead w) gh (slotAt k s) lk)
         (find-has s 0 (f .room))
-        (subst (λ (x : ℕ). 0 < x) (sym address) (leb-true 1 a (and-left (leb 1 a) (leb a 1022) (f .address))))
+        (subst (λ (x : ℕ). 0 < x) (sym address) (wish-bounds w (f .wish) .address-from))
         (subst (λ (x : ℕ). slots ≤ find s x) (sym address) (f .absent)))
 
 -- ---- leave
@@ -133,20 +129,20 @@ leave-good s a g =
 
 -- a slot aged is good, and keeps its address
 pub aged-slot : (b : List ℕ) → length b ≡ slotSize → goodSlot b ≡ true
-    → (goodSlot (withHead (agedHead (headOf b)) b) ≡ true) × (headOf (withHead (agedHead (headOf b)) b) .address ≡ headOf b .address)
+    → (goodSlot (withHead (agedHead (headOf b)) b) ≡ true) × (headOf (withHead (agedHead (headOf b)) b) .wish .address ≡ headOf b .wish .address)
 aged-slot b l g = go (good-cases b g)
   where
     go : (b ≡ blank (length b)) ⊎ (goodHead (headOf b) ≡ true)
-        → (goodSlot (withHead (agedHead (headOf b)) b) ≡ true) × (headOf (withHead (agedHead (headOf b)) b) .address ≡ headOf b .address)
+        → (goodSlot (withHead (agedHead (headOf b)) b) ≡ true) × (headOf (withHead (agedHead (headOf b)) b) .wish .address ≡ headOf b .wish .address)
     go (inr e) =
         let ga = good-aged (headOf b) e in
-        (good-store (agedHead (headOf b)) ga b l, ap (λ (h : Head). h .address) (good-load (agedHead (headOf b)) ga b l))
+        (good-store (agedHead (headOf b)) ga b l, ap (λ (h : Head). h .wish .address) (good-load (agedHead (headOf b)) ga b l))
     go (inl e) =
         let free-head : headOf b ≡ freeHead = ap headOf e ∙ head-blank (length b) in
         let same : withHead (agedHead (headOf b)) b ≡ b =
         ap (λ (h : Head). withHead h b) (ap agedHead free-head ∙ sym free-head)
         ∙ store-load b l (λ k. subst (λ (x : ℕ). x < 256) (sym (ap (λ (x : List ℕ). getD x k 0) e ∙ blank-at (length b) k)) (omega arith)) in
-        (ap goodSlot same ∙ g, ap (λ (x : List ℕ). headOf x .address) same)
+        (ap goodSlot same ∙ g, ap (λ (x : List ℕ). headOf x .wish .address) same)
 
 pub ages-good : (n k : ℕ) (s : List ℕ) → n + k ≤ slots → length s ≡ stateSize → Good s → Good (ages n k s)
 unfolding ages
@@ -160,7 +156,7 @@ ages-good (suc n) k s h l g =
     ages-good n (suc k) (withSlot k b s) (omega arith) (with-length s l k b hk lb)
     (good-change s l g k b hk lb (q .0) (at-slot s k (q .1)))
   where
-    at-slot : (s : List ℕ) (k : ℕ) {x : ℕ} → x ≡ headOf (slotAt k s) .address → x ≡ addressAt s k
+    at-slot : (s : List ℕ) (k : ℕ) {x : ℕ} → x ≡ headOf (slotAt k s) .wish .address → x ≡ addressAt s k
     at-slot s k e = e ∙ address-is s k
 
 pub end-good : (s : List ℕ) → good s ≡ true → good (endAfter s) ≡ true

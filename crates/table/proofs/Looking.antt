@@ -23,7 +23,9 @@ use Rattle.bits.specs.Search.{first, all}
 use Rattle.bits.proofs.Rows.{refusal-hit, refusal-miss, refusal-passed, refusal-none}
 use Rattle.runs.specs.Part.{part}
 use Rattle.slot.specs.Slot.{headOf, free, goodSlot}
-use Rattle.head.specs.Head.{within}
+use Rattle.head.specs.Head.{within, wishRows, wishAnswer}
+use Rattle.head.specs.declared.Wish.{Wish}
+use Rattle.head.proofs.Wishes.{outside, wish-refused, wish-rest}
 use Rattle.head.specs.declared.Head.{Head}
 use Rattle.table.specs.State.{slots, stateSize, slotAt, addressAt, find, goodAt, good}
 use Rattle.table.specs.Calls.{stateRows, endAnswer, followAnswer, leaveAnswer}
@@ -52,15 +54,15 @@ module _ (s : List ℕ) (a k found : ℕ) (h : Head) (pos : 0 < k) (top : k ≤ 
   down : cond (has s a (k - 1)) (k - 1) found ≡ first (has s a) (slots - (k - 1)) (k - 1)
   down = find-down s a k (k - 1) found (omega arith) top f
 
-  pub find-hit : h .address ≡ a → k - 1 ≡ first (has s a) (slots - (k - 1)) (k - 1)
+  pub find-hit : h .wish .address ≡ a → k - 1 ≡ first (has s a) (slots - (k - 1)) (k - 1)
   unfolding addressAt
   find-hit q =
-      sym (ap (λ (b : Bool). cond b (k - 1) found) (eq-eqb (addressAt s (k - 1)) a (sym (ap (λ (x : Head). x .address) e) ∙ q))) ∙ down
+      sym (ap (λ (b : Bool). cond b (k - 1) found) (eq-eqb (addressAt s (k - 1)) a (sym (ap (λ (x : Head). x .wish .address) e) ∙ q))) ∙ down
 
-  pub find-pass : (h .address ≡ a → ⊥) → found ≡ first (has s a) (slots - (k - 1)) (k - 1)
+  pub find-pass : (h .wish .address ≡ a → ⊥) → found ≡ first (has s a) (slots - (k - 1)) (k - 1)
   unfolding addressAt
   find-pass ne =
-      sym (ap (λ (b : Bool). cond b (k - 1) found) (ne-eqb (addressAt s (k - 1)) a (λ q. ne (ap (λ (x : Head). x .address) e ∙ q)))) ∙ down
+      sym (ap (λ (b : Bool). cond b (k - 1) found) (ne-eqb (addressAt s (k - 1)) a (λ q. ne (ap (λ (x : Head). x .wish .address) e ∙ q)))) ∙ down
 
 pub find-end : (s : List ℕ) (a k found : ℕ) → k ≡ 0 → found ≡ first (has s a) (slots - k) k → found ≡ find s a
 unfolding find
@@ -77,20 +79,20 @@ good-by-address s k = go (goodSlot (slotAt k s)) refl
     b = slotAt k s
 
     other : Bool
-    other = eqb (find s (headOf (slotAt k s) .address)) k
+    other = eqb (find s (headOf (slotAt k s) .wish .address)) k
 
-    zero-is : goodSlot (slotAt k s) ≡ true → eqb (headOf (slotAt k s) .address) 0 ≡ free (slotAt k s)
+    zero-is : goodSlot (slotAt k s) ≡ true → eqb (headOf (slotAt k s) .wish .address) 0 ≡ free (slotAt k s)
     zero-is g = at (free (slotAt k s)) refl
       where
-        at : (f : Bool) → free (slotAt k s) ≡ f → eqb (headOf (slotAt k s) .address) 0 ≡ free (slotAt k s)
-        at true q = eq-eqb (headOf (slotAt k s) .address) 0 (free-address (slotAt k s) q) ∙ sym q
-        at false q = ne-eqb (headOf (slotAt k s) .address) 0 (λ z. omega (arith, z, used-address (slotAt k s) g q)) ∙ sym q
+        at : (f : Bool) → free (slotAt k s) ≡ f → eqb (headOf (slotAt k s) .wish .address) 0 ≡ free (slotAt k s)
+        at true q = eq-eqb (headOf (slotAt k s) .wish .address) 0 (free-address (slotAt k s) q) ∙ sym q
+        at false q = ne-eqb (headOf (slotAt k s) .wish .address) 0 (λ z. omega (arith, z, used-address (slotAt k s) g q)) ∙ sym q
 
     go : (g : Bool) → goodSlot (slotAt k s) ≡ g
-        → (goodSlot (slotAt k s) && (eqb (headOf (slotAt k s) .address) 0 || other)) ≡ (goodSlot (slotAt k s) && (free (slotAt k s) || other))
+        → (goodSlot (slotAt k s) && (eqb (headOf (slotAt k s) .wish .address) 0 || other)) ≡ (goodSlot (slotAt k s) && (free (slotAt k s) || other))
     go true e = ap (λ (x : Bool). goodSlot (slotAt k s) && (x || other)) (zero-is e)
     go false e =
-        ap (λ (x : Bool). x && (eqb (headOf (slotAt k s) .address) 0 || other)) e
+        ap (λ (x : Bool). x && (eqb (headOf (slotAt k s) .wish .address) 0 || other)) e
         ∙ sym (ap (λ (x : Bool). x && (free (slotAt k s) || other)) e)
 
 -- so by its address, as the code tests it
@@ -169,20 +171,6 @@ state-refused s rest n e ne = go (eqb (length s) stateSize) refl (good s) refl
 
 -- ---- a range
 
-pub outside : (least most a : ℕ) → (ltb a least || ltb most a) ≡ not (within least most a)
-outside least most a = go (decLt a least) (decLt most a)
-  where
-    go : Dec (a < least) → Dec (most < a) → (ltb a least || ltb most a) ≡ not (within least most a)
-    go (yes p) q =
-        ap (λ (x : Bool). x || ltb most a) (lt-ltb a least p)
-        ∙ sym (ap (λ (x : Bool). not (x && leb a most)) (lt-leb least a p))
-    go (no p) (yes q) =
-        ap₂ (λ (x y : Bool). x || y) (le-ltb a least (omega arith)) (lt-ltb most a q)
-        ∙ sym (ap₂ (λ (x y : Bool). not (x && y)) (le-leb least a (omega arith)) (lt-leb a most q))
-    go (no p) (no q) =
-        ap₂ (λ (x y : Bool). x || y) (le-ltb a least (omega arith)) (le-ltb most a (omega arith))
-        ∙ sym (ap₂ (λ (x y : Bool). not (x && y)) (le-leb least a (omega arith)) (le-leb a most (omega arith)))
-
 -- ---- leave and ask, row by row, in the code's tests
 
 module _ (s : List ℕ) (a : ℕ) (ok : Passed s) where
@@ -208,56 +196,39 @@ module _ (s : List ℕ) (a : ℕ) (ok : Passed s) where
 
 -- ---- follow, row by row
 
-module _ (s : List ℕ) (a p l : ℕ) (ok : Passed s) where
+module _ (s : List ℕ) (w : Wish) (ok : Passed s) where
   abbrev from26 : List Row
   from26 = row (not (ltb (find s 0) slots)) 26 ∷ []
 
   abbrev from25 : List Row
-  from25 = row (ltb (find s a) slots) 25 ∷ from26
+  from25 = row (ltb (find s (w .address)) slots) 25 ∷ from26
 
-  abbrev from24 : List Row
-  from24 = row (not (within 1 1500 l)) 24 ∷ from25
-
-  abbrev from23 : List Row
-  from23 = row (ltb 1 p) 23 ∷ from24
-
-  own : followAnswer s a p l ≡ refusal (row (not (within 1 1022 a)) 22 ∷ from23)
+  own : followAnswer s w ≡ refusal (wishRows w from25)
   unfolding followAnswer
   own = state-rest s _ (ok .size) (ok .all-good)
 
-  pub follow-22 : (ltb a 1 || ltb 1022 a) ≡ true → followAnswer s a p l ≡ 22
-  follow-22 t = own ∙ refusal-hit (not (within 1 1022 a)) 22 from23 (sym (outside 1 1022 a) ∙ t)
+  pub follow-wish : (wishAnswer w ≡ 0 → ⊥) → followAnswer s w ≡ wishAnswer w
+  follow-wish ne = own ∙ wish-refused w from25 ne
 
-  module _ (t22 : (ltb a 1 || ltb 1022 a) ≡ false) where
-    past22 : followAnswer s a p l ≡ refusal from23
-    past22 = own ∙ refusal-miss (not (within 1 1022 a)) 22 from23 (sym (outside 1 1022 a) ∙ t22)
+  module _ (good : wishAnswer w ≡ 0) (n : ℕ) (e : n ≡ find s (w .address)) where
+    past24 : followAnswer s w ≡ refusal from25
+    past24 = own ∙ wish-rest w from25 good
 
-    pub follow-23 : 1 < p → followAnswer s a p l ≡ 23
-    follow-23 h = past22 ∙ refusal-hit (ltb 1 p) 23 from24 (lt-ltb 1 p h)
+    pub follow-25 : n < slots → followAnswer s w ≡ 25
+    follow-25 h =
+        past24 ∙ refusal-hit (ltb (find s (w .address)) slots) 25 from26 (lt-ltb (find s (w .address)) slots (subst (λ (x : ℕ). x < slots) e h))
 
-    module _ (t23 : p ≤ 1) where
-      past23 : followAnswer s a p l ≡ refusal from24
-      past23 = past22 ∙ refusal-miss (ltb 1 p) 23 from24 (le-ltb 1 p t23)
+    module _ (t25 : slots ≤ n) (m : ℕ) (f : m ≡ find s 0) where
+      past25 : followAnswer s w ≡ refusal from26
+      past25 =
+          past24
+          ∙ refusal-miss (ltb (find s (w .address)) slots) 25 from26 (le-ltb (find s (w .address)) slots (subst (λ (x : ℕ). slots ≤ x) e t25))
 
-      pub follow-24 : (ltb l 1 || ltb 1500 l) ≡ true → followAnswer s a p l ≡ 24
-      follow-24 t = past23 ∙ refusal-hit (not (within 1 1500 l)) 24 from25 (sym (outside 1 1500 l) ∙ t)
+      pub follow-26 : slots ≤ m → followAnswer s w ≡ 26
+      follow-26 h =
+          past25 ∙ refusal-hit (not (ltb (find s 0) slots)) 26 [] (ap not (le-ltb (find s 0) slots (subst (λ (x : ℕ). slots ≤ x) f h)))
 
-      module _ (t24 : (ltb l 1 || ltb 1500 l) ≡ false) (n : ℕ) (e : n ≡ find s a) where
-        past24 : followAnswer s a p l ≡ refusal from25
-        past24 = past23 ∙ refusal-miss (not (within 1 1500 l)) 24 from25 (sym (outside 1 1500 l) ∙ t24)
-
-        pub follow-25 : n < slots → followAnswer s a p l ≡ 25
-        follow-25 h = past24 ∙ refusal-hit (ltb (find s a) slots) 25 from26 (lt-ltb (find s a) slots (subst (λ (x : ℕ). x < slots) e h))
-
-        module _ (t25 : slots ≤ n) (m : ℕ) (f : m ≡ find s 0) where
-          past25 : followAnswer s a p l ≡ refusal from26
-          past25 = past24 ∙ refusal-miss (ltb (find s a) slots) 25 from26 (le-ltb (find s a) slots (subst (λ (x : ℕ). slots ≤ x) e t25))
-
-          pub follow-26 : slots ≤ m → followAnswer s a p l ≡ 26
-          follow-26 h =
-              past25 ∙ refusal-hit (not (ltb (find s 0) slots)) 26 [] (ap not (le-ltb (find s 0) slots (subst (λ (x : ℕ). slots ≤ x) f h)))
-
-          pub follow-0 : m < slots → followAnswer s a p l ≡ 0
-          follow-0 h =
-              past25 ∙ refusal-miss (not (ltb (find s 0) slots)) 26 [] (ap not (lt-ltb (find s 0) slots (subst (λ (x : ℕ). x < slots) f h)))
-              ∙ refusal-none
+      pub follow-0 : m < slots → followAnswer s w ≡ 0
+      follow-0 h =
+          past25 ∙ refusal-miss (not (ltb (find s 0) slots)) 26 [] (ap not (lt-ltb (find s 0) slots (subst (λ (x : ℕ). x < slots) f h)))
+          ∙ refusal-none

@@ -24,6 +24,7 @@ use Rattle.bits.proofs.Search.{first-agree}
 use Rattle.bits.proofs.Storing.{blank-length}
 use Rattle.slot.specs.Slot.{slotSize, headOf, withHead}
 use Rattle.head.specs.Head.{newHead, agedHead}
+use Rattle.head.specs.declared.Wish.{Wish}
 use Rattle.head.specs.declared.Head.{Head}
 use Rattle.head.proofs.Bounds.{good-new}
 use Rattle.slot.proofs.Goods.{good-load, head-blank}
@@ -50,8 +51,8 @@ find-place s f v a = first-agree (λ (k : ℕ). eqb (f k) a) (has s a) slots 0 (
 pub start-shows : Shows (blank stateSize) (λ k. 0)
 start-shows = record {
   passed = record { size = blank-length stateSize; all-good = each-good (blank stateSize) blank-good };
-  each = λ k h. sym (address-is (blank stateSize) k) ∙ ap (λ (x : List ℕ). headOf x .address) (slot-blank k h)
-      ∙ ap (λ (h : Head). h .address) (head-blank slotSize);
+  each = λ k h. sym (address-is (blank stateSize) k) ∙ ap (λ (x : List ℕ). headOf x .wish .address) (slot-blank k h)
+      ∙ ap (λ (h : Head). h .wish .address) (head-blank slotSize);
 }
 
 -- ---- one slot changed
@@ -60,7 +61,7 @@ abbrev pub with : (ℕ → ℕ) → ℕ → ℕ → ℕ → ℕ
 with f i a k = cond (eqb k i) a (f k)
 
 module _ (s : List ℕ) (f : ℕ → ℕ) (v : Shows s f) where
-  with-shows : (t : List ℕ) (i : ℕ) (b : List ℕ) (a : ℕ) → i < slots → length b ≡ slotSize → headOf b .address ≡ a → t ≡ withSlot i b s → good t ≡ true
+  with-shows : (t : List ℕ) (i : ℕ) (b : List ℕ) (a : ℕ) → i < slots → length b ≡ slotSize → headOf b .wish .address ≡ a → t ≡ withSlot i b s → good t ≡ true
       → Shows t (with f i a)
   with-shows t i b a h lb e q g = record {
     passed = record { size = ap length q ∙ with-length s (v .passed .size) i b h lb; all-good = g };
@@ -77,38 +78,38 @@ module _ (s : List ℕ) (f : ℕ → ℕ) (v : Shows s f) where
 
   -- ---- follow
 
-  module _ (a p l : ℕ) (e : followAnswer s a p l ≡ 0) where
+  module _ (w : Wish) (e : followAnswer s w ≡ 0) where
     taken : List ℕ
-    taken = withHead (newHead a p l) (slotAt (find s 0) s)
+    taken = withHead (newHead w) (slotAt (find s 0) s)
 
-    ok : Followed s a p l
-    ok = follow-passed s a p l e
+    ok : Followed s w
+    ok = follow-passed s w e
 
     taken-length : length (slotAt (find s 0) s) ≡ slotSize
     taken-length = slot-length s (v .passed .size) (find s 0) (ok .room)
 
     taken-size : length taken ≡ slotSize
     unfolding taken
-    taken-size = withHead-length (newHead a p l) (slotAt (find s 0) s) taken-length ∙ taken-length
+    taken-size = withHead-length (newHead w) (slotAt (find s 0) s) taken-length ∙ taken-length
 
-    taken-head : headOf taken ≡ newHead a p l
+    taken-head : headOf taken ≡ newHead w
     unfolding taken
     taken-head =
-        good-load (newHead a p l) (good-new a p l (ok .address) (le-leb p 1 (ok .protection)) (ok .limit)) (slotAt (find s 0) s) taken-length
+        good-load (newHead w) (good-new w (ok .wish)) (slotAt (find s 0) s) taken-length
 
-    after : followAfter s a p l ≡ withSlot (find s 0) taken s
+    after : followAfter s w ≡ withSlot (find s 0) taken s
     unfolding followAfter taken
-    after = done-passed (followAnswer s a p l) (withSlot (find s 0) (withHead (newHead a p l) (slotAt (find s 0) s)) s) s e
+    after = done-passed (followAnswer s w) (withSlot (find s 0) (withHead (newHead w) (slotAt (find s 0) s)) s) s e
 
-    pub follow-shows : Shows (followAfter s a p l) (with f (place f 0) a)
+    pub follow-shows : Shows (followAfter s w) (with f (place f 0) (w .address))
     follow-shows =
-        subst (λ (i : ℕ). Shows (followAfter s a p l) (with f i a)) (sym (find-place s f v 0))
-        (with-shows (followAfter s a p l) (find s 0) taken a (ok .room) taken-size (ap (λ (h : Head). h .address) taken-head) after
-        (follow-good s a p l (v .passed .all-good)))
+        subst (λ (i : ℕ). Shows (followAfter s w) (with f i (w .address))) (sym (find-place s f v 0))
+        (with-shows (followAfter s w) (find s 0) taken (w .address) (ok .room) taken-size (ap (λ (h : Head). h .wish .address) taken-head) after
+        (follow-good s w (v .passed .all-good)))
 
-    pub follow-head : headOf (slotAt (place f 0) (followAfter s a p l)) ≡ newHead a p l
+    pub follow-head : headOf (slotAt (place f 0) (followAfter s w)) ≡ newHead w
     follow-head =
-        ap (λ (k : ℕ). headOf (slotAt k (followAfter s a p l))) (find-place s f v 0)
+        ap (λ (k : ℕ). headOf (slotAt k (followAfter s w))) (find-place s f v 0)
         ∙ ap (λ (x : List ℕ). headOf (slotAt (find s 0) x)) after
         ∙ ap headOf (slot-same s (v .passed .size) (find s 0) taken (ok .room) taken-size) ∙ taken-head
 
@@ -117,7 +118,7 @@ module _ (s : List ℕ) (f : ℕ → ℕ) (v : Shows s f) where
   pub leave-shows : (a : ℕ) → leaveAnswer s a ≡ 0 → Shows (leaveAfter s a) (with f (place f a) 0)
   unfolding leaveAfter
   leave-shows a e =
-      let free-head : headOf (blank slotSize) .address ≡ 0 = ap (λ (h : Head). h .address) (head-blank slotSize) in
+      let free-head : headOf (blank slotSize) .wish .address ≡ 0 = ap (λ (h : Head). h .wish .address) (head-blank slotSize) in
       subst (λ (i : ℕ). Shows (leaveAfter s a) (with f i 0)) (sym (find-place s f v a))
       (with-shows (leaveAfter s a) (find s a) (blank slotSize) 0 (leave-passed s a e .2) (blank-length slotSize) free-head
       (done-passed (leaveAnswer s a) (withSlot (find s a) (blank slotSize) s) s e) (leave-good s a (v .passed .all-good)))
@@ -135,14 +136,14 @@ ages-shows (suc n) k s f h v =
     let b = withHead (agedHead (headOf (slotAt k s))) (slotAt k s) in
     let lb : length b ≡ slotSize = withHead-length (agedHead (headOf (slotAt k s))) (slotAt k s) lk ∙ lk in
     let q = aged-slot (slotAt k s) lk (g .slot k hk) in
-    let same : headOf b .address ≡ addressAt s k = q .1 ∙ address-is s k in
+    let same : headOf b .wish .address ≡ addressAt s k = q .1 ∙ address-is s k in
     ages-shows n (suc k) (withSlot k b s) f (omega arith)
     (record {
       passed = record { size = with-length s l k b hk lb; all-good = each-good (withSlot k b s) (good-change s l g k b hk lb (q .0) same) };
       each = λ j hj. at b lb same j hj (ℕ-discrete j k);
     })
   where
-    at : (b : List ℕ) → length b ≡ slotSize → headOf b .address ≡ addressAt s k → (j : ℕ) → j < slots → Dec (j ≡ k)
+    at : (b : List ℕ) → length b ≡ slotSize → headOf b .wish .address ≡ addressAt s k → (j : ℕ) → j < slots → Dec (j ≡ k)
         → addressAt (withSlot k b s) j ≡ f j
     at b lb same j hj (yes p) =
         ap (addressAt (withSlot k b s)) p ∙ address-same s (v .passed .size) k b (omega arith) lb ∙ same ∙ sym (ap (addressAt s) p) ∙ v .each j hj

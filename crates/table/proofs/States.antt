@@ -26,6 +26,7 @@ use Rattle.slot.specs.Slot.{slotSize, headOf, free, goodSlot}
 use Rattle.runs.specs.Numbers.{fourAt}
 use Rattle.head.specs.Head.{within, goodHead}
 use Rattle.runs.proofs.Parts.{put-length, part-put, part-put-before, part-put-after}
+use Rattle.head.proofs.Bounds.{wish-bounds, good-bounds}
 use Rattle.table.specs.State.{slots, stateSize, slotAt, withSlot, addressAt, find, goodAt, good}
 
 -- ---- slots
@@ -52,15 +53,15 @@ module _ (s : List ℕ) (l : length s ≡ stateSize) where
         go (yes q) = part-put-before (k * slotSize) slotSize b s (j * slotSize) slotSize (omega arith) (omega arith)
         go (no q) = part-put-after (k * slotSize) slotSize b s (j * slotSize) slotSize (omega arith) lb (omega arith)
 
-    pub address-same : addressAt (withSlot k b s) k ≡ headOf b .address
+    pub address-same : addressAt (withSlot k b s) k ≡ headOf b .wish .address
     unfolding addressAt
-    address-same = ap (λ (x : List ℕ). headOf x .address) slot-same
+    address-same = ap (λ (x : List ℕ). headOf x .wish .address) slot-same
 
     pub address-other : (j : ℕ) → (j ≡ k → ⊥) → addressAt (withSlot k b s) j ≡ addressAt s j
     unfolding addressAt
-    address-other j ne = ap (λ (x : List ℕ). headOf x .address) (slot-other j ne)
+    address-other j ne = ap (λ (x : List ℕ). headOf x .wish .address) (slot-other j ne)
 
-pub address-is : (s : List ℕ) (k : ℕ) → headOf (slotAt k s) .address ≡ addressAt s k
+pub address-is : (s : List ℕ) (k : ℕ) → headOf (slotAt k s) .wish .address ≡ addressAt s k
 unfolding addressAt
 address-is s k = refl
 
@@ -121,17 +122,18 @@ free-byte [] e k = refl
 free-byte (b ∷ s) e zero = eqb-true b 0 (and-left (eqb b 0) (free s) e)
 free-byte (b ∷ s) e (suc k) = free-byte s (and-right (eqb b 0) (free s) e) k
 
-pub free-address : (s : List ℕ) → free s ≡ true → headOf s .address ≡ 0
+pub free-address : (s : List ℕ) → free s ≡ true → headOf s .wish .address ≡ 0
 unfolding headOf fourAt
 free-address s e = omega (arith, free-byte s e 720, free-byte s e 721, free-byte s e 722, free-byte s e 723)
 
-pub used-address : (s : List ℕ) → goodSlot s ≡ true → free s ≡ false → 0 < headOf s .address
-unfolding goodSlot goodHead
+pub used-address : (s : List ℕ) → goodSlot s ≡ true → free s ≡ false → 0 < headOf s .wish .address
+unfolding goodSlot
 used-address s g f =
-    leb-true 1 (headOf s .address) (and-left _ _ (and-left (within 1 1022 (headOf s .address)) _ (or-right (free s) _ g f)))
+    let b = good-bounds (headOf s) (or-right (free s) _ g f) in
+    wish-bounds (headOf s .wish) (b .wish) .address-from
 
 -- so a good slot with address 0 is free
-pub zero-free : (s : List ℕ) → goodSlot s ≡ true → headOf s .address ≡ 0 → free s ≡ true
+pub zero-free : (s : List ℕ) → goodSlot s ≡ true → headOf s .wish .address ≡ 0 → free s ≡ true
 zero-free s g e = go (free s) refl
   where
     go : (b : Bool) → free s ≡ b → free s ≡ true
@@ -166,8 +168,8 @@ find-none s a n k h e =
 module _ (s : List ℕ) (l : length s ≡ stateSize) (g : Good s) (k : ℕ) (b : List ℕ) (h : k < slots) (lb : length b ≡ slotSize)
     (gb : goodSlot b ≡ true) where
   -- where no other used slot is touched by the new address, and a used slot is found by it
-  good-with : ((j : ℕ) → j < slots → (j ≡ k → ⊥) → free (slotAt j s) ≡ false → eqb (headOf b .address) (addressAt s j) ≡ eqb (addressAt s k) (addressAt s j))
-      → (free b ≡ false → find (withSlot k b s) (headOf b .address) ≡ k) → Good (withSlot k b s)
+  good-with : ((j : ℕ) → j < slots → (j ≡ k → ⊥) → free (slotAt j s) ≡ false → eqb (headOf b .wish .address) (addressAt s j) ≡ eqb (addressAt s k) (addressAt s j))
+      → (free b ≡ false → find (withSlot k b s) (headOf b .wish .address) ≡ k) → Good (withSlot k b s)
   good-with apart found = record {
     slot = λ j hj. slot-at j hj (ℕ-discrete j k);
     first = λ j hj f. first-at j hj f (ℕ-discrete j k);
@@ -198,7 +200,7 @@ module _ (s : List ℕ) (l : length s ≡ stateSize) (g : Good s) (k : ℕ) (b :
           ∙ other j hj e (sym (ap free (slot-other s l k b h lb j e)) ∙ f)
 
   -- a slot that stays good and keeps its address
-  pub good-change : headOf b .address ≡ addressAt s k → Good (withSlot k b s)
+  pub good-change : headOf b .wish .address ≡ addressAt s k → Good (withSlot k b s)
   good-change e = good-with (λ j hj ne f. ap (λ (x : ℕ). eqb x (addressAt s j)) e) found
     where
       at : (x i : ℕ) → Dec (i ≡ k) → eqb (addressAt (withSlot k b s) i) x ≡ eqb (addressAt s i) x
@@ -207,34 +209,34 @@ module _ (s : List ℕ) (l : length s ≡ stateSize) (g : Good s) (k : ℕ) (b :
           (ap (λ (n : ℕ). eqb n x) (address-same s l k b h lb ∙ e))
       at x i (no q) = ap (λ (n : ℕ). eqb n x) (address-other s l k b h lb i q)
 
-      found : free b ≡ false → find (withSlot k b s) (headOf b .address) ≡ k
+      found : free b ≡ false → find (withSlot k b s) (headOf b .wish .address) ≡ k
       found fb =
-          find-agree (withSlot k b s) s (headOf b .address) (λ i hi. at (headOf b .address) i (ℕ-discrete i k))
+          find-agree (withSlot k b s) s (headOf b .wish .address) (λ i hi. at (headOf b .wish .address) i (ℕ-discrete i k))
           ∙ ap (find s) e ∙ g .first k h (used-slot s k (subst (λ (x : ℕ). 0 < x) e (used-address b gb fb)))
 
   -- a free slot that gets an address which no slot has
-  pub good-followed : addressAt s k ≡ 0 → 0 < headOf b .address → slots ≤ find s (headOf b .address) → Good (withSlot k b s)
+  pub good-followed : addressAt s k ≡ 0 → 0 < headOf b .wish .address → slots ≤ find s (headOf b .wish .address) → Good (withSlot k b s)
   good-followed z pos none = good-with apart (λ fb. found)
     where
-      apart : (j : ℕ) → j < slots → (j ≡ k → ⊥) → free (slotAt j s) ≡ false → eqb (headOf b .address) (addressAt s j) ≡ eqb (addressAt s k) (addressAt s j)
+      apart : (j : ℕ) → j < slots → (j ≡ k → ⊥) → free (slotAt j s) ≡ false → eqb (headOf b .wish .address) (addressAt s j) ≡ eqb (addressAt s k) (addressAt s j)
       apart j hj ne f =
-          ne-eqb (headOf b .address) (addressAt s j) (λ q. find-none s (headOf b .address) none j hj (sym q))
+          ne-eqb (headOf b .wish .address) (addressAt s j) (λ q. find-none s (headOf b .wish .address) none j hj (sym q))
           ∙ sym (ne-eqb (addressAt s k) (addressAt s j) (λ q. omega (arith, q, z, used-pos s g j hj f)))
 
-      found : find (withSlot k b s) (headOf b .address) ≡ k
+      found : find (withSlot k b s) (headOf b .wish .address) ≡ k
       found =
-          find-only (withSlot k b s) (headOf b .address) k h (address-same s l k b h lb)
+          find-only (withSlot k b s) (headOf b .wish .address) k h (address-same s l k b h lb)
           (λ j hj q. only j hj q (ℕ-discrete j k))
         where
-          only : (j : ℕ) → j < slots → addressAt (withSlot k b s) j ≡ headOf b .address → Dec (j ≡ k) → j ≡ k
+          only : (j : ℕ) → j < slots → addressAt (withSlot k b s) j ≡ headOf b .wish .address → Dec (j ≡ k) → j ≡ k
           only j hj q (yes e) = e
-          only j hj q (no e) = absurd (find-none s (headOf b .address) none j hj (sym (address-other s l k b h lb j e) ∙ q))
+          only j hj q (no e) = absurd (find-none s (headOf b .wish .address) none j hj (sym (address-other s l k b h lb j e) ∙ q))
 
   -- a slot that is freed
   pub good-left : free b ≡ true → Good (withSlot k b s)
   good-left fb = good-with apart (λ q. absurd (subst T (sym fb ∙ q) tt))
     where
-      apart : (j : ℕ) → j < slots → (j ≡ k → ⊥) → free (slotAt j s) ≡ false → eqb (headOf b .address) (addressAt s j) ≡ eqb (addressAt s k) (addressAt s j)
+      apart : (j : ℕ) → j < slots → (j ≡ k → ⊥) → free (slotAt j s) ≡ false → eqb (headOf b .wish .address) (addressAt s j) ≡ eqb (addressAt s k) (addressAt s j)
       apart j hj ne f =
-          ne-eqb (headOf b .address) (addressAt s j) (λ q. omega (arith, q, free-address b fb, used-pos s g j hj f))
+          ne-eqb (headOf b .wish .address) (addressAt s j) (λ q. omega (arith, q, free-address b fb, used-pos s g j hj f))
           ∙ sym (ne-eqb (addressAt s k) (addressAt s j) (λ q. ne (used-one s g j k hj h (sym q) (omega (arith, q, used-pos s g j hj f)))))

@@ -29,11 +29,14 @@ use Rattle.runs.specs.Part.{part}
 use Rattle.runs.specs.Numbers.{fourAt}
 use Rattle.slot.specs.Slot.{headOf, free, goodSlot}
 use Rattle.head.specs.Head.{goodHead}
-use Rattle.table.specs.State.{slots, stateSize, slotAt, find, good}
+use Rattle.head.specs.Head.{wishOf, goodWish, wishAnswer}
+use Rattle.head.specs.declared.Wish.{Wish}
+use Rattle.head.proofs.Wishes.{wish-0}
+use Rattle.table.specs.State.{slots, stateSize, startedState, slotAt, find, good}
 use Rattle.table.specs.Calls.{startAnswer, followAnswer, followAfter, leaveAnswer, leaveAfter, endAnswer}
 use Rattle.table.proofs.Doing.{start-refused, start-passed}
 use Rattle.table.proofs.Kept.{part-blank}
-use Rattle.table.proofs.Looking.{Passed, state-20, state-34, leave-22, leave-27, leave-0, follow-22, follow-23, follow-24, follow-25, follow-26, follow-0}
+use Rattle.table.proofs.Looking.{Passed, state-20, state-34, leave-22, leave-27, leave-0, follow-wish, follow-25, follow-26, follow-0}
 use Rattle.table.proofs.Shows.{Shows, place, with, find-place, start-shows, follow-shows, leave-shows, end-done}
 use Rattle.table.proofs.States.{good-each}
 
@@ -72,7 +75,7 @@ unfolding slotAt part
 spoiled-slot = ap (λ (x : List ℕ). 1 ∷ x) (part-blank 0 735 11775 (lit≤ tt))
 
 spoiled-bad : goodSlot (1 ∷ blank 735) ≡ false
-unfolding goodSlot free goodHead headOf fourAt blank
+unfolding goodSlot free goodHead headOf fourAt blank goodWish
 spoiled-bad = refl
 
 pub spoiled-not : good spoiled ≡ false
@@ -85,7 +88,7 @@ spoiled-not = go (good spoiled) refl
 -- ---- the started state, and one that follows 17
 
 abbrev pub started : List ℕ
-started = blank stateSize
+started = startedState
 
 pub ok : Passed started
 ok = start-shows .passed
@@ -98,25 +101,30 @@ module _ (s : List ℕ) (f : ℕ → ℕ) (v : Shows s f) (a : ℕ) (t22 : (ltb 
   pub known : place f a < slots → leaveAnswer s a ≡ 0
   known = leave-0 s a (v .passed) t22 (place f a) (find-place s f v a)
 
-  module _ (p l : ℕ) (t23 : p ≤ 1) (t24 : (ltb l 1 || ltb 1500 l) ≡ false) where
-    pub again : place f a < slots → followAnswer s a p l ≡ 25
-    again = follow-25 s a p l (v .passed) t22 t23 t24 (place f a) (find-place s f v a)
+-- and to a wish
+module _ (s : List ℕ) (f : ℕ → ℕ) (v : Shows s f) (w : Wish) (t : wishAnswer w ≡ 0) where
+  pub again : place f (w .address) < slots → followAnswer s w ≡ 25
+  again = follow-25 s w (v .passed) t (place f (w .address)) (find-place s f v (w .address))
 
-    pub full : slots ≤ place f a → slots ≤ place f 0 → followAnswer s a p l ≡ 26
-    full absent = follow-26 s a p l (v .passed) t22 t23 t24 (place f a) (find-place s f v a) absent (place f 0) (find-place s f v 0)
+  pub full : slots ≤ place f (w .address) → slots ≤ place f 0 → followAnswer s w ≡ 26
+  full absent = follow-26 s w (v .passed) t (place f (w .address)) (find-place s f v (w .address)) absent (place f 0) (find-place s f v 0)
 
-    pub accepted : slots ≤ place f a → place f 0 < slots → followAnswer s a p l ≡ 0
-    accepted absent = follow-0 s a p l (v .passed) t22 t23 t24 (place f a) (find-place s f v a) absent (place f 0) (find-place s f v 0)
+  pub accepted : slots ≤ place f (w .address) → place f 0 < slots → followAnswer s w ≡ 0
+  accepted absent = follow-0 s w (v .passed) t (place f (w .address)) (find-place s f v (w .address)) absent (place f 0) (find-place s f v 0)
+
+-- a wish that is refused
+refused : (w : Wish) (n : ℕ) → wishAnswer w ≡ suc n → followAnswer started w ≡ suc n
+refused w n e = follow-wish started w ok (λ z. omega (arith, z, e)) ∙ e
 
 abbrev pub nobody : ℕ → ℕ
 nobody k = 0
 
-pub followed-17 : followAnswer started 17 1 2 ≡ 0
-unfolding first
-followed-17 = accepted started nobody start-shows 17 refl 1 2 (lit≤ tt) refl (lit≤ tt) (lit< tt)
+pub followed-17 : followAnswer started (wishOf 17 1 2) ≡ 0
+unfolding first wishAnswer refusal
+followed-17 = accepted started nobody start-shows (wishOf 17 1 2) refl (lit≤ tt) (lit< tt)
 
 abbrev pub followed : List ℕ
-followed = followAfter started 17 1 2
+followed = followAfter started (wishOf 17 1 2)
 
 -- slot 0 has address 17, the others none
 abbrev pub one : ℕ → ℕ
@@ -124,7 +132,7 @@ one = with nobody 0 17
 
 pub followed-shows : Shows followed one
 unfolding first
-followed-shows = follow-shows started nobody start-shows 17 1 2 followed-17
+followed-shows = follow-shows started nobody start-shows (wishOf 17 1 2) followed-17
 
 -- ---- subframe end, leave
 
@@ -153,42 +161,42 @@ leaves = λ i.
 
 -- ---- follow
 
-follow-20 : (s : List ℕ) (a p l : ℕ) → (length s ≡ stateSize → ⊥) → followAnswer s a p l ≡ 20
+follow-20 : (s : List ℕ) (w : Wish) → (length s ≡ stateSize → ⊥) → followAnswer s w ≡ 20
 unfolding followAnswer
-follow-20 s a p l = state-20 s _
+follow-20 s w = state-20 s _
 
-follow-34 : (a p l : ℕ) → followAnswer spoiled a p l ≡ 34
+follow-34 : (w : Wish) → followAnswer spoiled w ≡ 34
 unfolding followAnswer
-follow-34 a p l = state-34 spoiled _ spoiled-length spoiled-not
+follow-34 w = state-34 spoiled _ spoiled-length spoiled-not
 
-pub follows-refused : (followAnswer empty 0 2 0 ∷ followAnswer (blank 11775) 17 1 2 ∷ followAnswer (blank 11777) 17 1 2
-    ∷ followAnswer spoiled 0 2 0 ∷ []) ≡ (20 ∷ 20 ∷ 20 ∷ 34 ∷ [])
+pub follows-refused : (followAnswer empty (wishOf 0 2 0) ∷ followAnswer (blank 11775) (wishOf 17 1 2) ∷ followAnswer (blank 11777) (wishOf 17 1 2)
+    ∷ followAnswer spoiled (wishOf 0 2 0) ∷ []) ≡ (20 ∷ 20 ∷ 20 ∷ 34 ∷ [])
 follows-refused = λ i.
-    follow-20 empty 0 2 0 none i ∷ follow-20 (blank 11775) 17 1 2 short i ∷ follow-20 (blank 11777) 17 1 2 long i ∷ follow-34 0 2 0 i ∷ []
+    follow-20 empty (wishOf 0 2 0) none i ∷ follow-20 (blank 11775) (wishOf 17 1 2) short i ∷ follow-20 (blank 11777) (wishOf 17 1 2) long i ∷ follow-34 (wishOf 0 2 0) i ∷ []
 
-pub follows : (followAnswer started 0 2 0 ∷ followAnswer started 1023 2 0 ∷ followAnswer started 1 2 0 ∷ followAnswer started 1022 2 0
-    ∷ followAnswer started 17 1 0 ∷ followAnswer started 17 1 1501 ∷ followAnswer started 1 0 1 ∷ followAnswer started 1022 1 1500 ∷ [])
+pub follows : (followAnswer started (wishOf 0 2 0) ∷ followAnswer started (wishOf 1023 2 0) ∷ followAnswer started (wishOf 1 2 0) ∷ followAnswer started (wishOf 1022 2 0)
+    ∷ followAnswer started (wishOf 17 1 0) ∷ followAnswer started (wishOf 17 1 1501) ∷ followAnswer started (wishOf 1 0 1) ∷ followAnswer started (wishOf 1022 1 1500) ∷ [])
     ≡ (22 ∷ 22 ∷ 23 ∷ 23 ∷ 24 ∷ 24 ∷ 0 ∷ 0 ∷ [])
-unfolding first
+unfolding first wishAnswer refusal
 follows = λ i.
-    follow-22 started 0 2 0 ok refl i ∷ follow-22 started 1023 2 0 ok refl i
-    ∷ follow-23 started 1 2 0 ok refl (lit< tt) i ∷ follow-23 started 1022 2 0 ok refl (lit< tt) i
-    ∷ follow-24 started 17 1 0 ok refl (lit≤ tt) refl i ∷ follow-24 started 17 1 1501 ok refl (lit≤ tt) refl i
-    ∷ accepted started nobody start-shows 1 refl 0 1 (lit≤ tt) refl (lit≤ tt) (lit< tt) i
-    ∷ accepted started nobody start-shows 1022 refl 1 1500 (lit≤ tt) refl (lit≤ tt) (lit< tt) i ∷ []
+    refused (wishOf 0 2 0) 21 refl i ∷ refused (wishOf 1023 2 0) 21 refl i
+    ∷ refused (wishOf 1 2 0) 22 refl i ∷ refused (wishOf 1022 2 0) 22 refl i
+    ∷ refused (wishOf 17 1 0) 23 refl i ∷ refused (wishOf 17 1 1501) 23 refl i
+    ∷ accepted started nobody start-shows (wishOf 1 0 1) refl (lit≤ tt) (lit< tt) i
+    ∷ accepted started nobody start-shows (wishOf 1022 1 1500) refl (lit≤ tt) (lit< tt) i ∷ []
 
-pub follows-again : (followAnswer followed 17 1 0 ∷ followAnswer followed 17 1 2 ∷ followAnswer followed 18 1 2 ∷ []) ≡ (24 ∷ 25 ∷ 0 ∷ [])
-unfolding first
+pub follows-again : (followAnswer followed (wishOf 17 1 0) ∷ followAnswer followed (wishOf 17 1 2) ∷ followAnswer followed (wishOf 18 1 2) ∷ []) ≡ (24 ∷ 25 ∷ 0 ∷ [])
+unfolding first wishAnswer refusal
 follows-again = λ i.
-    follow-24 followed 17 1 0 (followed-shows .passed) refl (lit≤ tt) refl i
-    ∷ again followed one followed-shows 17 refl 1 2 (lit≤ tt) refl (lit< tt) i
-    ∷ accepted followed one followed-shows 18 refl 1 2 (lit≤ tt) refl (lit≤ tt) (lit< tt) i ∷ []
+    follow-wish followed (wishOf 17 1 0) (followed-shows .passed) (λ z. omega (arith, z)) i
+    ∷ again followed one followed-shows (wishOf 17 1 2) refl (lit< tt) i
+    ∷ accepted followed one followed-shows (wishOf 18 1 2) refl (lit≤ tt) (lit< tt) i ∷ []
 
 -- ---- a full table: addresses 1 to 16
 
 unfoldable pub filled : ℕ → List ℕ
 filled zero = started
-filled (suc n) = followAfter (filled n) (suc n) 1 2
+filled (suc n) = followAfter (filled n) (wishOf (suc n) 1 2)
 
 abbrev first-of : ℕ → ℕ → ℕ
 first-of n k = cond (ltb k n) (suc k) 0
@@ -218,13 +226,14 @@ first-more n k = go (ℕ-discrete k n) (decLt k n)
         ap (λ (b : Bool). cond b (suc n) (first-of n k)) (ne-eqb k n e) ∙ ap (λ (b : Bool). cond b (suc k) 0) (le-ltb k n (omega arith))
         ∙ sym (ap (λ (b : Bool). cond b (suc k) 0) (le-ltb k (suc n) (omega (arith, e, l))))
 
-pub filled-accepted : (n : ℕ) → n < slots → Shows (filled n) (first-of n) → followAnswer (filled n) (suc n) 1 2 ≡ 0
+pub filled-accepted : (n : ℕ) → n < slots → Shows (filled n) (first-of n) → followAnswer (filled n) (wishOf (suc n) 1 2) ≡ 0
 filled-accepted n h v =
     let t = filled-next n h in
     let a = leb slots (place (first-of n) (suc n)) in
     let b = eqb (place (first-of n) 0) n in
     let at : place (first-of n) 0 ≡ n = eqb→eq (place (first-of n) 0) n (both-right a b t) in
-    accepted (filled n) (first-of n) v (suc n) (inside n h) 1 2 (lit≤ tt) refl
+    accepted (filled n) (first-of n) v (wishOf (suc n) 1 2)
+    (sym (wish-0 (wishOf (suc n) 1 2) (inside n h) (lit≤ tt) refl))
     (leb→le slots (place (first-of n) (suc n)) (both-left a b t)) (subst (λ (i : ℕ). i < slots) (sym at) h)
   where
     inside : (n : ℕ) → n < slots → (ltb (suc n) 1 || ltb 1022 (suc n)) ≡ false
@@ -240,20 +249,20 @@ filled-shows (suc n) h =
     let v = filled-shows n (omega arith) in
     let t = filled-next n (omega arith) in
     let at : place (first-of n) 0 ≡ n = eqb→eq (place (first-of n) 0) n (both-right (leb slots (place (first-of n) (suc n))) (eqb (place (first-of n) 0) n) t) in
-    let w = follow-shows (filled n) (first-of n) v (suc n) 1 2 (filled-accepted n (omega arith) v) in
+    let w = follow-shows (filled n) (first-of n) v (wishOf (suc n) 1 2) (filled-accepted n (omega arith) v) in
     record {
       passed = w .passed;
       each = λ k hk. w .each k hk ∙ ap (λ (i : ℕ). with (first-of n) i (suc n) k) at ∙ first-more n k;
     }
 
 -- the seventeenth, and after 5 was left
-pub follows-full : (followAnswer (filled 16) 16 1 2 ∷ followAnswer (filled 16) 17 1 2 ∷ followAnswer (leaveAfter (filled 16) 5) 17 1 2 ∷ [])
+pub follows-full : (followAnswer (filled 16) (wishOf 16 1 2) ∷ followAnswer (filled 16) (wishOf 17 1 2) ∷ followAnswer (leaveAfter (filled 16) 5) (wishOf 17 1 2) ∷ [])
     ≡ (25 ∷ 26 ∷ 0 ∷ [])
-unfolding first
+unfolding first wishAnswer refusal
 follows-full =
     let v = filled-shows 16 (lit≤ tt) in
     let left : leaveAnswer (filled 16) 5 ≡ 0 = known (filled 16) (first-of 16) v 5 refl (lit< tt) in
     let w = leave-shows (filled 16) (first-of 16) v 5 left in
-    λ i. again (filled 16) (first-of 16) v 16 refl 1 2 (lit≤ tt) refl (lit< tt) i
-    ∷ full (filled 16) (first-of 16) v 17 refl 1 2 (lit≤ tt) refl (lit≤ tt) (lit≤ tt) i
-    ∷ accepted (leaveAfter (filled 16) 5) (with (first-of 16) 4 0) w 17 refl 1 2 (lit≤ tt) refl (lit≤ tt) (lit< tt) i ∷ []
+    λ i. again (filled 16) (first-of 16) v (wishOf 16 1 2) refl (lit< tt) i
+    ∷ full (filled 16) (first-of 16) v (wishOf 17 1 2) refl (lit≤ tt) (lit≤ tt) i
+    ∷ accepted (leaveAfter (filled 16) 5) (with (first-of 16) 4 0) w (wishOf 17 1 2) refl (lit≤ tt) (lit< tt) i ∷ []

@@ -13,8 +13,9 @@ use lib.ListN.{length}
 use Rattle.bits.specs.Bits.{blank}
 use Rattle.bits.specs.Rows.{Row, row, refusal, done}
 use Rattle.slot.specs.Slot.{slotSize, headOf, withHead}
-use Rattle.head.specs.Head.{newHead, agedHead, within}
-use Rattle.table.specs.State.{slots, stateSize, slotAt, withSlot, find, good}
+use Rattle.head.specs.Head.{wishRows, newHead, agedHead, within}
+use Rattle.head.specs.declared.Wish.{Wish}
+use Rattle.table.specs.State.{slots, stateSize, startedState, slotAt, withSlot, find, good}
 
 -- 20: state not 11,776; 34: state not good; then the call's own rows
 abbrev pub stateRows : List ℕ → List Row → List Row
@@ -26,25 +27,23 @@ unfoldable pub startAnswer : List ℕ → ℕ
 startAnswer s = refusal (row (not (eqb (length s) stateSize)) 20 ∷ [])
 
 unfoldable pub startAfter : List ℕ → List ℕ
-startAfter s = done (startAnswer s) (blank stateSize) s
+startAfter s = done (startAnswer s) startedState s
 
 -- ---- follow: "Follow takes the lowest free slot, with awaited index, marks and age 0."
 
-unfoldable pub followAnswer : List ℕ → ℕ → ℕ → ℕ → ℕ
-followAnswer s address protection limit =
+unfoldable pub followAnswer : List ℕ → Wish → ℕ
+followAnswer s w =
     refusal
     (stateRows s
-    (row (not (within 1 1022 address)) 22
-    ∷ row (ltb 1 protection) 23
-    ∷ row (not (within 1 1500 limit)) 24
-    ∷ row (ltb (find s address) slots) 25
+    (wishRows w
+    (row (ltb (find s (w .address)) slots) 25
     ∷ row (not (ltb (find s 0) slots)) 26
-    ∷ []))
+    ∷ [])))
 
-unfoldable pub followAfter : List ℕ → ℕ → ℕ → ℕ → List ℕ
-followAfter s address protection limit =
+unfoldable pub followAfter : List ℕ → Wish → List ℕ
+followAfter s w =
     let k = find s 0 in
-    done (followAnswer s address protection limit) (withSlot k (withHead (newHead address protection limit) (slotAt k s)) s) s
+    done (followAnswer s w) (withSlot k (withHead (newHead w) (slotAt k s)) s) s
 
 -- ---- leave: "Leave sets the slot to 0; a freed slot is taken again."
 

@@ -4,8 +4,10 @@
 // look     what the state is asked before a change: heads, the slot of an address, whether it is good
 ghost use mathlib.Core.Path.{_≡_};
 ghost use lib.ListN.{length};
+ghost use Rattle.table.specs.State.{slots, stateSize};
 ghost use Rattle.table.specs.Calls.{startAnswer, startAfter, followAnswer, followAfter, leaveAnswer, leaveAfter, endAnswer, endAfter, ages};
-use slot::Head;
+use head::Head;
+use head::Wish;
 use slot::Slot;
 
 pub mod look;
@@ -15,26 +17,10 @@ pub struct Table {}
 impl Table {
     pub const SLOTS: usize = 16;
 
-    pub const SIZE: usize = Self::SLOTS * Slot::SIZE;
-}
+    // Behind the slots, empty: where later requests keep more.
+    pub const TAIL: usize = 0;
 
-// What follow is asked: further wishes get their defaults in `new`.
-pub struct Following {
-    pub address: u32,
-    pub protection: u32,
-    pub limit: u32,
-}
-
-impl Following {
-    pub fn new(address: u32, protection: u32, limit: u32) -> Self
-        ensures { λ r. ⌜ (r .address ≡ address) × (r .protection ≡ protection) × (r .limit ≡ limit) ⌝ }
-    {
-        Self {
-            address,
-            protection,
-            limit,
-        }
-    }
+    pub const SIZE: usize = Self::SLOTS * Slot::SIZE + Self::TAIL;
 }
 
 // 20. Every byte becomes 0.
@@ -50,9 +36,9 @@ pub fn start(state: &mut [u8]) -> u8
 }
 
 // 20, 34, 22, 23, 24, 25, 26. The lowest free slot is taken.
-pub fn follow(state: &mut [u8], wish: Following) -> u8
-    ensures { λ r. ⌜ r ≡ followAnswer (now (state .entry)) (wish .address) (wish .protection) (wish .limit) ⌝ }
-    ensures { λ _. ⌜ now (state .exit) ≡ followAfter (now (state .entry)) (wish .address) (wish .protection) (wish .limit) ⌝ }
+pub fn follow(state: &mut [u8], wish: Wish) -> u8
+    ensures { λ r. ⌜ r ≡ followAnswer (now (state .entry)) wish ⌝ }
+    ensures { λ _. ⌜ now (state .exit) ≡ followAfter (now (state .entry)) wish ⌝ }
 {
     let answer = look::follow_answer(state, wish);
     if answer != 0 {
@@ -60,9 +46,7 @@ pub fn follow(state: &mut [u8], wish: Following) -> u8
     }
     let k = look::find(state, 0);
     let at = k * Slot::SIZE;
-    Head::new(wish.address, wish.protection as u8, wish.limit).store(
-        &mut state[at..at + Slot::SIZE],
-    );
+    Slot::store(Head::new(wish), &mut state[at..at + Slot::SIZE]);
     0
 }
 
@@ -96,14 +80,14 @@ pub fn subframe_end(state: &mut [u8]) -> u8
 
 // Every slot's head aged.
 fn age(state: &mut [u8])
-    requires { ⌜ length (now state) ≡ 11776 ⌝ }
-    ensures { λ _. ⌜ now (state .exit) ≡ ages 16 0 (now (state .entry)) ⌝ }
+    requires { ⌜ length (now state) ≡ stateSize ⌝ }
+    ensures { λ _. ⌜ now (state .exit) ≡ ages slots 0 (now (state .entry)) ⌝ }
 {
     let mut k: usize = 0;
     while k < Table::SLOTS {
         let aged = look::head(state, k).aged();
         let at = k * Slot::SIZE;
-        aged.store(&mut state[at..at + Slot::SIZE]);
+        Slot::store(aged, &mut state[at..at + Slot::SIZE]);
         k += 1;
     }
 }

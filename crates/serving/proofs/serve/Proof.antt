@@ -2,6 +2,7 @@
 use mathlib.Core.Path.{refl, ap, _∙_}
 use native.Mathlib.Omega.{arith}
 use borrow.Author.Needs.{needs}
+use Rattle.head.specs.Head.{wishOf}
 use Rattle.table.specs.Calls.{followAnswer, followAfter, leaveAnswer, leaveAfter}
 use Rattle.asking.specs.Asking.{asked}
 use Rattle.asking.specs.declared.Asked.{Asked}
@@ -63,12 +64,14 @@ returns-3 c =
     let third = asks .before .before .before .before in
     let t = third .before .before .before .before .before .args .state .now in
     let wish = asks .new .ensures in
-    let address = wish .0 ∙ asks .before .before .before .two-at .ensures in
-    let limit = wish .2 ∙ asks .before .two-at2 .ensures in
+    let address = asks .before .before .before .two-at .ensures in
+    let limit = asks .before .two-at2 .ensures in
+    let b = third .before .before .before .before .before .args .body .now in
+    let same = wish ∙ (λ i. wishOf (address i) (getD b 2 0) (limit i)) in
     let done = c .before .before .follow .ensures in
     served-kind _ _ _ _ _ 3 (third .if3 .taken) (
-      done .0 ∙ (λ i. followAnswer t (address i) (wish .1 i) (limit i)),
-      done .1 ∙ (λ i. followAfter t (address i) (wish .1 i) (limit i)),
+      done .0 ∙ ap (followAnswer t) same,
+      done .1 ∙ ap (followAfter t) same,
     )
 
 two-at-requires-3 : tie.Need-two-at-requires-3

@@ -15,14 +15,14 @@ abbrev start : tie.Else1 → tie.Start
 start c = c .before .before .before .before
 
 module _ (c : tie.Else1) where
-  zero : followAnswer (start c .args .state .now) (start c .args .wish .address) (start c .args .wish .protection) (start c .args .wish .limit) ≡ 0
+  zero : followAnswer (start c .args .state .now) (start c .args .wish) ≡ 0
   zero = sym (c .before .follow-answer .ensures) ∙ c .if1 .left
 
   size : length (start c .args .state .now) ≡ stateSize
-  size = follow-length _ _ _ _ zero
+  size = follow-length _ _ zero
 
-  passed : Followed (start c .args .state .now) (start c .args .wish .address) (start c .args .wish .protection) (start c .args .wish .limit)
-  passed = follow-passed _ _ _ _ zero
+  passed : Followed (start c .args .state .now) (start c .args .wish)
+  passed = follow-passed _ _ zero
 
 place : (c : tie.After-find) → c .find .result < slots
 place c = omega (arith, c .find .ensures, passed (c .before .before) .room)
@@ -43,14 +43,11 @@ find-requires c κs = size (c .before)
 mul-at : tie.Need-mul-at
 mul-at c = omega (arith, place c)
 
-cast-new : tie.Need-cast-new
-cast-new c = omega (arith, passed (c .before .before .before) .protection)
-
 new-requires : tie.Need-new-requires
 new-requires c κs = search needs
 
 add-store : tie.Need-add-store
-add-store c = omega (arith, place (c .before .before))
+add-store c = omega (arith, place (c .before))
 
 sub-store : tie.Need-sub-store
 sub-store c = search needs
@@ -59,7 +56,7 @@ part-store-start : tie.Need-part-store-start
 part-store-start c = search needs
 
 part-store-end : tie.Need-part-store-end
-part-store-end c = omega (arith, place (c .before .before), size (c .before .before .before .before))
+part-store-end c = omega (arith, place (c .before), size (c .before .before .before))
 
 store-requires : tie.Need-store-requires
 store-requires c κs = search needs
@@ -70,7 +67,7 @@ same-length-2 c = search needs
 returns-2 : tie.Need-returns-2
 unfolding followAfter
 returns-2 c =
-    let found = c .before .before .before .before .before .before in
+    let found = c .before .before .before .before .before in
     let passed = found .before .before in
     let s = start passed .args .state .now in
     accepted _ _ _ s (passed .before .follow-answer .ensures) _ (passed .if1 .left)
@@ -85,7 +82,6 @@ follow-spec =
     returns
     find-requires
     mul-at
-    cast-new
     new-requires
     add-store
     sub-store

@@ -1,5 +1,5 @@
 -- `feed::calls::feed_follow` meets its contract. Assumes nothing.
-use mathlib.Core.Path.{_∙_}
+use mathlib.Core.Path.{ap, _∙_}
 use Rattle.table.specs.Calls.{followAnswer, followAfter}
 use borrow.Author.Needs.{needs}
 use Rattle.feed.proofs.calls.feed_follow.Statement.{statement}
@@ -15,7 +15,10 @@ same-length : tie.Need-same-length
 same-length c = search needs
 
 returns : tie.Need-returns
-returns c = (c .before .before .follow .ensures .0 ∙ (λ i. followAnswer (c .before .before .before .before .before .before .args .state .now) (c .before .before .before .new .ensures .0 i) (c .before .before .before .new .ensures .1 i) (c .before .before .before .new .ensures .2 i)), c .before .before .follow .ensures .1 ∙ (λ i. followAfter (c .before .before .before .before .before .before .args .state .now) (c .before .before .before .new .ensures .0 i) (c .before .before .before .new .ensures .1 i) (c .before .before .before .new .ensures .2 i)))
+returns c =
+    let made = c .before .before .before .new .ensures in
+    let s = c .before .before .before .before .before .before .args .state .now in
+    (c .before .before .follow .ensures .0 ∙ ap (followAnswer s) made, c .before .before .follow .ensures .1 ∙ ap (followAfter s) made)
 
 pub feed-follow-spec : {M : Type 1} → statement M
 feed-follow-spec = tie.close (tie.spec new-requires follow-requires same-length returns)

@@ -32,14 +32,14 @@ head-requires c κs = search needs
 
 returns : tie.Need-returns
 unfolding addressAt
-returns c = good-unused (c .before .before .before .before .before .args .state .now) (c .before .before .before .before .before .args .k) _ (c .before .head .result .address) (c .before .before .good2 .ensures ∙ ap goodSlot (slot-part (c .before .before .before .before .before .args .k) (c .before .before .before .before .before .args .state .now))) (ap (λ (h : Head). h .address) (c .before .head .ensures)) (c .if1 .taken)
+returns c = good-unused (c .before .before .before .before .before .args .state .now) (c .before .before .before .before .before .args .k) _ (c .before .head .result .wish .address) (c .before .before .good2 .ensures ∙ ap goodSlot (slot-part (c .before .before .before .before .before .args .k) (c .before .before .before .before .before .args .state .now))) (ap (λ (h : Head). h .wish .address) (c .before .head .ensures)) (c .if1 .taken)
 
 find-requires : tie.Need-find-requires
 find-requires c κs = search needs
 
 returns-2 : tie.Need-returns-2
 unfolding addressAt
-returns-2 c = good-used-at (c .before .before .before .before .before .before .args .state .now) (c .before .before .before .before .before .before .args .k) _ (c .before .before .head .result .address) (c .before .before .before .good2 .ensures ∙ ap goodSlot (slot-part (c .before .before .before .before .before .before .args .k) (c .before .before .before .before .before .before .args .state .now))) (ap (λ (h : Head). h .address) (c .before .before .head .ensures)) (c .find .result) (c .before .if1 .left) (c .find .ensures)
+returns-2 c = good-used-at (c .before .before .before .before .before .before .args .state .now) (c .before .before .before .before .before .before .args .k) _ (c .before .before .head .result .wish .address) (c .before .before .before .good2 .ensures ∙ ap goodSlot (slot-part (c .before .before .before .before .before .before .args .k) (c .before .before .before .before .before .before .args .state .now))) (ap (λ (h : Head). h .wish .address) (c .before .before .head .ensures)) (c .find .result) (c .before .if1 .left) (c .find .ensures)
 
 pub good-at-spec : {M : Type 1} → statement M
 good-at-spec =
