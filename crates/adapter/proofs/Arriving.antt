@@ -169,4 +169,4 @@ module _ (s image : List ℕ) (a k : ℕ) (ea : a ≡ addressOf image) (ek : k �
 pub reading-at : (h : Head) (x image : List ℕ) (r : Reading) → h ≡ headOf x
     → r ≡ received (eqb (h .wish .protection) 1) image → r ≡ readingAt x image
 unfolding readingAt
-reading-at h x image r e q = q ∙ ap (λ (y : Head). received (eqb (y .wish .wish .protection) 1) image) e
+reading-at h x image r e q = q ∙ ap (λ (y : Head). received (eqb (y .wish .protection) 1) image) e

@@ -146,7 +146,7 @@ module _ (image : List ℕ) (l : length image ≡ 94) (h : headerOf image ≡ 0x
   unfolding calls.slotAnswer calls.readingAt
   arrived =
       packet-placed followed image (placed-zero followed image here) .0
-      ∙ ap (λ (x : Head). takenNumber (received (eqb (x .wish .wish .protection) 1) image) x) head
+      ∙ ap (λ (x : Head). takenNumber (received (eqb (x .wish .protection) 1) image) x) head
 
 abbrev typed : ℕ → List ℕ
 typed t = written 17 0 t image.counting

@@ -48,7 +48,7 @@ unfoldable pub unplaced : List ℕ → List ℕ → ℕ
 unplaced s image = refusal (imageRows s image (placeRow s image))
 
 unfoldable pub readingAt : List ℕ → List ℕ → Reading
-readingAt x image = received (eqb (headOf x .wish .wish .protection) 1) image
+readingAt x image = received (eqb (headOf x .wish .protection) 1) image
 
 -- what the slot of the address answers, and the state with it after
 unfoldable pub slotAnswer : List ℕ → List ℕ → ℕ
