@@ -5,17 +5,21 @@
 --   four-table                  for groups of four packets that need all four it is document 01's table
 --   one-whole                   for groups of one it is always whole
 --   move-modulo                 an index counts modulo the packets of a group; move-row, move-whole: one that is below that
+--   per-bounds, needs-bounds    the two numbers of a slot; place-below: a place is below the first of them
+--   moved-sizes, dropped-sizes, aged-sizes    what a head changes to has the same
 --
 -- Assumes nothing.
 use mathlib.Core.Path.{_≡_, refl, ap, _∙_}
 use mathlib.Core.Bool.{Bool, true, false, cond, not, _&&_, _||_}
 use mathlib.Core.Logic.{_⊎_, inl, inr}
 use Prim.Native.Nat.{ℕ, zero, suc, _+_, _%_, _≤_, _<_}
-use native.Mathlib.Nat.{mod-eq-of-lt, mod-one, mod-mod}
+use native.Mathlib.Nat.{mod-eq-of-lt, mod-one, mod-mod, mod-lt}
 use native.Mathlib.Omega.{arith}
 use borrow.Author.Tests.{eq-eqb, ne-eqb, le-leb, lt-leb, eqb-true, eqb-false, leb-true, leb-false}
 use lib.Dec.{eqb, leb}
-use Rattle.slot.specs.Move.{Move, started, held, whole, outOfStep, rowOf, moveOf, tableOf}
+use Rattle.slot.specs.Move.{Move, started, held, whole, outOfStep, perOf, needsOf, rowOf, moveOf, tableOf, placeAt, movedHead}
+use Rattle.slot.specs.Head.{droppedHead, agedHead}
+use Rattle.slot.specs.declared.Head.{Head}
 
 -- the three tests: c is 0, c is awaited, c + 1 is at least what is needed
 abbrev chosen : Bool → Bool → Bool → Move
@@ -100,3 +104,34 @@ move-row per needs a c l = rw (mod-eq-of-lt l) (row-is needs a c)
 pub move-whole : (per needs a c : ℕ) → c < per → (c ≡ 0) ⊎ (c ≡ a) → needs ≤ c + 1 → moveOf per needs a c ≡ whole
 unfolding moveOf
 move-whole per needs a c l at enough = rw (mod-eq-of-lt l) (row-whole needs a c at enough)
+
+-- ---- the two numbers of a slot
+
+pub per-bounds : (h : Head) → (0 < perOf h) × (perOf h ≤ 4)
+unfolding perOf
+per-bounds h = (omega arith, omega arith)
+
+pub needs-bounds : (h : Head) → (0 < needsOf h) × (needsOf h ≤ perOf h)
+unfolding perOf needsOf
+needs-bounds h = (omega arith, omega arith)
+
+pub place-below : (h : Head) (c : ℕ) → placeAt h c < perOf h
+place-below h c = mod-lt c (per-bounds h .0)
+
+abbrev pub SameSizes : Head → Head → Type 0
+SameSizes g h = (perOf g ≡ perOf h) × (needsOf g ≡ needsOf h)
+
+pub moved-sizes : (mv : Move) (h : Head) → SameSizes (movedHead mv h) h
+unfolding perOf needsOf movedHead
+moved-sizes started h = (refl, refl)
+moved-sizes held h = (refl, refl)
+moved-sizes whole h = (refl, refl)
+moved-sizes outOfStep h = (refl, refl)
+
+pub dropped-sizes : (h : Head) → SameSizes (droppedHead h) h
+unfolding perOf needsOf
+dropped-sizes h = (refl, refl)
+
+pub aged-sizes : (h : Head) → SameSizes (agedHead h) h
+unfolding perOf needsOf
+aged-sizes h = (refl, refl)

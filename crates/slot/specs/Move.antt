@@ -5,6 +5,7 @@
 --   perOf h, needsOf h        the two numbers of a slot with the head h
 --   rowOf needs a c           the row, where a is awaited and c came, c the packet's place in its group
 --   moveOf per needs a c      the same for any index c, which is taken modulo the packets of a group
+--   rowAt h c, placeAt h c    the row and the place of a packet with index c at a slot with the head h
 --   tableOf a c               the table as document 01 writes it, for groups of four
 --   moveNumber                the row's answer
 --   movedHead                 the head after
@@ -35,6 +36,12 @@ rowOf needs a c =
 
 unfoldable pub moveOf : ℕ → ℕ → ℕ → ℕ → Move
 moveOf per needs a c = rowOf needs a (c % per)
+
+abbrev pub rowAt : Head → ℕ → Move
+rowAt h c = moveOf (perOf h) (needsOf h) (h .awaited) c
+
+abbrev pub placeAt : Head → ℕ → ℕ
+placeAt h c = c % perOf h
 
 -- "any, 0"; "c, 1 or 2"; "3, 3"; "other, 1 to 3"
 unfoldable pub tableOf : ℕ → ℕ → Move

@@ -9,6 +9,7 @@ ghost use lib.ListN.{length};
 ghost use Rattle.slot.specs.Part.{part, put};
 ghost use Rattle.slot.specs.Slot.{four, fourAt, headOf, withHead};
 ghost use Rattle.slot.specs.Head.{freeHead, newHead, startedHead, heldHead, wholeHead, droppedHead, agedHead, goodHead, free, goodSlot};
+ghost use Rattle.slot.specs.Move.{perOf, needsOf};
 
 pub mod room;
 
@@ -73,6 +74,20 @@ impl Head {
             group: 0,
             gap: 0,
         }
+    }
+
+    // How many packets a group has (7.4.2.2).
+    pub fn per(self) -> u8
+        ensures { λ r. ⌜ r ≡ perOf self ⌝ }
+    {
+        4
+    }
+
+    // How many of them, from the first on, make it whole.
+    pub fn needs(self) -> u8
+        ensures { λ r. ⌜ r ≡ needsOf self ⌝ }
+    {
+        self.per()
     }
 
     pub fn started(mut self) -> Self
