@@ -5,7 +5,7 @@
 --   four-table                  for groups of four packets that need all four it is document 01's table
 --   one-whole                   for groups of one it is always whole
 --   move-modulo                 an index counts modulo the packets of a group; move-row, move-whole: one that is below that
---   per-bounds, needs-bounds    the two numbers of a slot; place-below: a place is below the first of them
+--   per-bounds, needs-bounds    the two numbers of a slot; place-below: a place is below the first of them; row-at
 --   moved-sizes, dropped-sizes, aged-sizes    what a head changes to has the same
 --
 -- Assumes nothing.
@@ -17,7 +17,7 @@ use native.Mathlib.Nat.{mod-eq-of-lt, mod-one, mod-mod, mod-lt}
 use native.Mathlib.Omega.{arith}
 use borrow.Author.Tests.{eq-eqb, ne-eqb, le-leb, lt-leb, eqb-true, eqb-false, leb-true, leb-false}
 use lib.Dec.{eqb, leb}
-use Rattle.slot.specs.Move.{Move, started, held, whole, outOfStep, perOf, needsOf, rowOf, moveOf, tableOf, placeAt, movedHead}
+use Rattle.slot.specs.Move.{Move, started, held, whole, outOfStep, perOf, needsOf, rowOf, moveOf, tableOf, rowAt, placeAt, movedHead}
 use Rattle.slot.specs.Head.{droppedHead, agedHead}
 use Rattle.slot.specs.declared.Head.{Head}
 
@@ -117,6 +117,10 @@ needs-bounds h = (omega arith, omega arith)
 
 pub place-below : (h : Head) (c : ℕ) → placeAt h c < perOf h
 place-below h c = mod-lt c (per-bounds h .0)
+
+pub row-at : (h : Head) (c : ℕ) → Row (needsOf h) (h .awaited) (placeAt h c) (rowAt h c)
+unfolding moveOf
+row-at h c = row-is (needsOf h) (h .awaited) (placeAt h c)
 
 abbrev pub SameSizes : Head → Head → Type 0
 SameSizes g h = (perOf g ≡ perOf h) × (needsOf g ≡ needsOf h)
