@@ -1,34 +1,40 @@
 -- What the code of a row does to the slot, step by step, against the row's definition.
 --
 --   room-put, room-joined          a put into the slot within the unfinished room is a put into that room
---   placed-length                  a room keeps its length
---   start-does .. drop-does        the steps of each row, in the code's order, come to the row; out-drops: the last is a drop
+--   begun-length, placed-length    a room keeps its length; joined-length: and so does the slot
+--   Begun c s t                    what the code joins on to: the slot with its room cleared where c is 0, otherwise the slot
+--   joined-does                    what it then has is the packet at its place
+--   start-does .. drop-does        the last steps of each row come to the row; out-drops: the last row is a drop
+--   row-does                       the row that was chosen, with its answer
+--   at-test, out-test              what the test for a packet out of step says
 --   block-45, block-90             how many bytes a packet brings; block-le: at most 90
 --   taken-refused, taken-moved     the answer with the slot after it, by the reading's number
 --
 -- Assumes nothing.
 use mathlib.Core.Path.{_≡_, refl, sym, ap, ap₂, _∙_}
-use mathlib.Core.Bool.{Bool, true, false, cond}
+use mathlib.Core.Bool.{Bool, true, false, cond, not, _&&_}
 use mathlib.Core.List.{List, _++_, append-assoc}
-use Prim.Native.Nat.{ℕ, _+_, _*_, _≤_}
-use native.Mathlib.Nat.{mul-le-mul-right, zero-mul}
+use mathlib.Core.Logic.{_⊎_, inl, inr}
+use Prim.Native.Nat.{ℕ, zero, suc, _+_, _*_, _≤_}
+use native.Mathlib.Nat.{mul-le-mul-right}
 use native.Mathlib.Omega.{arith}
-use borrow.Author.Tests.{eq-eqb, ne-eqb}
+use borrow.Author.Tests.{eq-eqb, ne-eqb, eqb-true, eqb-false, not-true}
 use lib.Dec.{eqb}
 use lib.ListN.{length, take, drop, length-drop}
 use lib.Seq.{take-append-le, drop-append-le}
 use Rattle.bits.specs.Bits.{blank}
 use Rattle.bits.proofs.Rows.{further-refused, further-passed, done-refused, done-passed}
+use Rattle.bits.proofs.Search.{and-left, and-right}
 use Rattle.bits.proofs.Storing.{blank-length}
 use Rattle.runs.specs.Part.{put}
-use Rattle.slot.specs.Slot.{headOf, withHead, unfinished, withUnfinished, withStored, kept}
+use Rattle.slot.specs.Slot.{headOf, withHead, unfinished, withUnfinished}
 use Rattle.head.specs.Head.{startedHead, heldHead, wholeHead, droppedHead}
-use Rattle.head.specs.Move.{Move, started, held, whole, outOfStep, moveOf, moveNumber, movedHead}
+use Rattle.head.specs.Move.{Move, started, held, whole, outOfStep, moveNumber, movedHead, rowAt, placeAt}
 use Rattle.head.specs.declared.Head.{Head}
 use Rattle.runs.proofs.Parts.{put-part, put-length}
-use Rattle.slot.proofs.Laws.{unfinished-room, unfinished-put}
+use Rattle.slot.proofs.Laws.{unfinished-room, unfinished-length}
 use Rattle.packet.specs.declared.Reading.{Reading}
-use Rattle.group.specs.Group.{blockOf, placed, roomsMoved, slotMoved, slotDropped, takenNumber, takenAfter}
+use Rattle.group.specs.Group.{blockOf, placed, begunRoom, slotJoined, roomsKept, roomsMoved, slotMoved, slotDropped, takenNumber, takenAfter}
 
 -- in front of anything
 put-front : (at n : ℕ) (b r x : List ℕ) → at + n ≤ length r → put at n b (r ++ x) ≡ put at n b r ++ x
@@ -60,50 +66,85 @@ unfolding placed
 placed-length c b r l h lb =
     put-length (c * length b) (length b) b r (omega (arith, mul-le-mul-right (length b) h)) refl ∙ l
 
+pub begun-length : (c : ℕ) (r : List ℕ) → length r ≡ 360 → length (begunRoom c r) ≡ 360
+unfolding begunRoom
+begun-length zero r l = blank-length 360
+begun-length (suc c) r l = l
+
+begun-later : (c : ℕ) (r : List ℕ) → (c ≡ 0 → ⊥) → begunRoom c r ≡ r
+unfolding begunRoom
+begun-later zero r n = absurd (n refl)
+begun-later (suc c) r n = refl
+
+-- ---- a packet is joined on
+
+abbrev pub Begun : ℕ → List ℕ → List ℕ → Type 0
+Begun c s t = ((c ≡ 0) × (t ≡ withUnfinished (blank 360) s)) ⊎ ((c ≡ 0 → ⊥) × (t ≡ s))
+
+pub begun-long : (c : ℕ) (s t : List ℕ) → length s ≡ 736 → Begun c s t → length t ≡ 736
+begun-long c s t l (inl (z, e)) = ap length e ∙ unfinished-length (blank 360) s l (blank-length 360) ∙ l
+begun-long c s t l (inr (n, e)) = ap length e ∙ l
+
+module _ (c : ℕ) (s b : List ℕ) (l : length s ≡ 736) (h : c ≤ 3) (lb : length b ≤ 90) where
+  pub place-ends : c * length b + length b ≤ 360
+  place-ends = omega (arith, mul-le-mul-right (length b) h)
+
+  pub room-length : length (placed c b (begunRoom c (unfinished s))) ≡ 360
+  room-length = placed-length c b (begunRoom c (unfinished s)) (begun-length c (unfinished s) (unfinished-room s l)) h lb
+
+  pub joined-length : length (slotJoined c b s) ≡ 736
+  unfolding slotJoined
+  joined-length = unfinished-length (placed c b (begunRoom c (unfinished s))) s l room-length ∙ l
+
+  pub joined-does : (t u : List ℕ) → Begun c s t → u ≡ put (c * length b) (length b) b t → u ≡ slotJoined c b s
+  unfolding slotJoined placed begunRoom
+  joined-does t u (inl (z, et)) eu =
+      eu ∙ ap (put (c * length b) (length b) b) et ∙ room-put (c * length b) (length b) b (blank 360) s (blank-length 360) place-ends
+      ∙ ap (λ (x : ℕ). withUnfinished (put (c * length b) (length b) b (begunRoom x (unfinished s))) s) (sym z)
+  joined-does t u (inr (n, et)) eu =
+      eu ∙ ap (put (c * length b) (length b) b) et ∙ room-joined (c * length b) (length b) b s l place-ends
+      ∙ ap (λ (r : List ℕ). withUnfinished (put (c * length b) (length b) b r) s) (sym (begun-later c (unfinished s) n))
+
 -- ---- the rows
 
-module _ (s b : List ℕ) (h : Head) (l : length s ≡ 736) (e : h ≡ headOf s) (lb : length b ≤ 90) where
-  pub start-does : (t u v : List ℕ) (g : Head) → t ≡ withUnfinished (blank 360) s → u ≡ put 0 (length b) b t → g ≡ startedHead h
-      → v ≡ withHead g u → v ≡ slotMoved started 0 b s
-  unfolding slotMoved movedHead roomsMoved placed
-  start-does t u v g et eu eg ev =
-      let room : u ≡ withUnfinished (put (0 * length b) (length b) b (blank 360)) s =
-      eu ∙ ap₂ (λ (n : ℕ) (x : List ℕ). put n (length b) b x) (sym (zero-mul (length b))) et
-      ∙ room-put (0 * length b) (length b) b (blank 360) s (blank-length 360) (omega arith) in
-      ev ∙ ap₂ withHead (eg ∙ ap startedHead e) room
-
-  joined : (t : List ℕ) → h .awaited ≤ 3 → t ≡ put (h .awaited * length b) (length b) b s
-      → t ≡ withUnfinished (placed (h .awaited) b (unfinished s)) s
-  unfolding placed
-  joined t a et =
-      et ∙ room-joined (h .awaited * length b) (length b) b s l (omega (arith, mul-le-mul-right (length b) a))
-
-  pub held-does : (t v : List ℕ) (g : Head) → h .awaited ≤ 3 → t ≡ put (h .awaited * length b) (length b) b s → g ≡ heldHead h
-      → v ≡ withHead g t → v ≡ slotMoved held (h .awaited) b s
+module _ (c : ℕ) (s b : List ℕ) (h : Head) (e : h ≡ headOf s) (t v : List ℕ) (et : t ≡ slotJoined c b s) where
+  pub start-does : (g : Head) → g ≡ startedHead h → v ≡ withHead g t → v ≡ slotMoved started c b s
   unfolding slotMoved movedHead roomsMoved
-  held-does t v g a et eg ev = ev ∙ ap₂ withHead (eg ∙ ap heldHead e) (joined t a et)
+  start-does g eg ev = ev ∙ ap₂ withHead (eg ∙ ap startedHead e) et
 
-  pub whole-does : (t u w v : List ℕ) (g : Head) → h .awaited ≤ 3 → t ≡ put (h .awaited * length b) (length b) b s
-      → u ≡ withStored (kept (4 * length b) (unfinished t)) t → w ≡ withUnfinished (blank 360) u → g ≡ wholeHead h
-      → v ≡ withHead g w → v ≡ slotMoved whole (h .awaited) b s
+  pub held-does : (g : Head) → g ≡ heldHead h → v ≡ withHead g t → v ≡ slotMoved held c b s
   unfolding slotMoved movedHead roomsMoved
-  whole-does t u w v g a et eu ew eg ev =
-      let room = placed (h .awaited) b (unfinished s) in
-      let lr : length room ≡ 360 = placed-length (h .awaited) b (unfinished s) (unfinished-room s l) a lb in
-      let first : t ≡ withUnfinished room s = joined t a et in
-      let there : unfinished t ≡ room = ap unfinished first ∙ unfinished-put room s l lr in
-      ev ∙ ap₂ withHead (eg ∙ ap wholeHead e)
-      (ew ∙ ap (withUnfinished (blank 360)) (eu ∙ ap₂ (λ (x y : List ℕ). withStored (kept (4 * length b) x) y) there first))
+  held-does g eg ev = ev ∙ ap₂ withHead (eg ∙ ap heldHead e) et
 
-  pub drop-does : (t v : List ℕ) (g : Head) → t ≡ withUnfinished (blank 360) s → g ≡ droppedHead h → v ≡ withHead g t → v ≡ slotDropped s
-  unfolding slotDropped
-  drop-does t v g et eg ev = ev ∙ ap₂ withHead (eg ∙ ap droppedHead e) et
+  pub whole-does : (n : ℕ) → n ≡ (c + 1) * length b → v ≡ withHead (wholeHead h) (roomsKept n t) → v ≡ slotMoved whole c b s
+  unfolding slotMoved movedHead roomsMoved
+  whole-does n en ev = ev ∙ ap₂ withHead (ap wholeHead e) (ap₂ roomsKept en et)
+
+pub drop-does : (s : List ℕ) (h : Head) → h ≡ headOf s → (t v : List ℕ) (g : Head) → t ≡ withUnfinished (blank 360) s → g ≡ droppedHead h
+    → v ≡ withHead g t → v ≡ slotDropped s
+unfolding slotDropped
+drop-does s h e t v g et eg ev = ev ∙ ap₂ withHead (eg ∙ ap droppedHead e) et
 
 -- the row that was chosen, with its answer
-pub row-does : (mv : Move) (a c j n : ℕ) (b s v : List ℕ) → moveOf a c ≡ mv → j ≡ c → n ≡ moveNumber mv → v ≡ slotMoved mv j b s
-    → (n ≡ moveNumber (moveOf a c)) × (v ≡ slotMoved (moveOf a c) c b s)
-row-does mv a c j n b s v e ej en ev =
-    (en ∙ ap moveNumber (sym e), ev ∙ ap₂ (λ (x : Move) (i : ℕ). slotMoved x i b s) (sym e) ej)
+pub row-does : (mv : Move) (h : Head) (i n : ℕ) (b s v : List ℕ) → rowAt h i ≡ mv → n ≡ moveNumber mv → v ≡ slotMoved mv (placeAt h i) b s
+    → (n ≡ moveNumber (rowAt h i)) × (v ≡ slotMoved (rowAt h i) (placeAt h i) b s)
+row-does mv h i n b s v e en ev = (en ∙ ap moveNumber (sym e), ev ∙ ap (λ (x : Move). slotMoved x (placeAt h i) b s) (sym e))
+
+pub out-test : (c a : ℕ) → (not (eqb c 0) && not (eqb c a)) ≡ true → (c ≡ 0 → ⊥) × (c ≡ a → ⊥)
+out-test c a e = (
+  eqb-false c 0 (not-true (eqb c 0) (and-left (not (eqb c 0)) (not (eqb c a)) e)),
+  eqb-false c a (not-true (eqb c a) (and-right (not (eqb c 0)) (not (eqb c a)) e)),
+)
+
+pub at-test : (c a : ℕ) → (not (eqb c 0) && not (eqb c a)) ≡ false → (c ≡ 0) ⊎ (c ≡ a)
+at-test c a = go (eqb c 0) (eqb c a) refl refl
+  where
+    go : (f g : Bool) → eqb c 0 ≡ f → eqb c a ≡ g → (not f && not g) ≡ false → (c ≡ 0) ⊎ (c ≡ a)
+    go true g p q e = inl (eqb-true c 0 p)
+    go false true p q e = inr (eqb-true c a q)
+    go false false p q e =
+        let z : _≡_ {A = ℕ} 0 1 = cc in
+        absurd (omega arith)
 
 pub numbers : (moveNumber started ≡ 1) × (moveNumber held ≡ 2) × (moveNumber whole ≡ 3) × (moveNumber outOfStep ≡ 32)
 unfolding moveNumber
@@ -139,11 +180,11 @@ module _ (r : Reading) (h : Head) (s : List ℕ) (e : h ≡ headOf s) where
   unfolding takenNumber takenAfter
   taken-refused ne = (sym (further-refused (r .number) _ ne), sym (done-refused (r .number) _ (slotDropped s) ne))
 
-  pub taken-moved : (n : ℕ) (b t : List ℕ) → r .number ≡ 0 → n ≡ moveNumber (moveOf (h .awaited) (r .index)) → b ≡ take (blockOf h) (r .bytes)
-      → t ≡ slotMoved (moveOf (h .awaited) (r .index)) (r .index) b s → (n ≡ takenNumber r h) × (t ≡ takenAfter r s)
+  pub taken-moved : (n : ℕ) (b t : List ℕ) → r .number ≡ 0 → n ≡ moveNumber (rowAt h (r .index)) → b ≡ take (blockOf h) (r .bytes)
+      → t ≡ slotMoved (rowAt h (r .index)) (placeAt h (r .index)) b s → (n ≡ takenNumber r h) × (t ≡ takenAfter r s)
   unfolding takenNumber takenAfter
   taken-moved n b t z en eb et = (
     en ∙ sym (further-passed (r .number) _ z),
-    et ∙ ap₂ (λ (x : Head) (y : List ℕ). slotMoved (moveOf (x .awaited) (r .index)) (r .index) y s) e
+    et ∙ ap₂ (λ (x : Head) (y : List ℕ). slotMoved (rowAt x (r .index)) (placeAt x (r .index)) y s) e
         (eb ∙ ap (λ (x : Head). take (blockOf x) (r .bytes)) e) ∙ sym (done-passed (r .number) _ (slotDropped s) z),
   )

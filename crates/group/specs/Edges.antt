@@ -8,7 +8,7 @@ use mathlib.Core.List.{List, [], _∷_, _++_, map}
 use Prim.Native.Nat.{ℕ}
 use Rattle.bare.specs.Edges as below
 use Rattle.packet.specs.declared.Reading.{Reading}
-use Rattle.head.specs.Move.{moveOf, movedHead}
+use Rattle.head.specs.Move.{rowAt, movedHead}
 use Rattle.head.specs.declared.Head.{Head}
 use Rattle.group.specs.Group.{takenNumber}
 
@@ -23,7 +23,7 @@ Answers a c n = (r : Reading) (h : Head) → r .number ≡ 0 → r .index ≡ c 
 abbrev pub Holds : Edge → Type 0
 Holds (bare e) = below.Holds e
 Holds (answers a c n) = Answers a c n
-Holds (marks a c n) = Answers a c n × ((h : Head) → h .awaited ≡ a → movedHead (moveOf a c) h .gap ≡ 1)
+Holds (marks a c n) = Answers a c n × ((h : Head) → h .awaited ≡ a → movedHead (rowAt h c) h .gap ≡ 1)
 
 -- each of a list
 abbrev pub All : (Edge → Type 0) → List Edge → Type 0

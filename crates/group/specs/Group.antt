@@ -3,13 +3,16 @@
 --
 --   blockOf h            how many bytes a packet brings: 90 plain, 45 protected
 --   placed c b room      "at c times 90 or 45", no other byte of the room touched
---   roomsMoved mv c b s  both rooms after a row of the table; slotMoved: with the head
+--   begunRoom c room     what a packet with place c is put into: a cleared room where c is 0, otherwise the room as it is
+--   slotJoined c b s     the packet put into the slot's unfinished room
+--   roomsKept n s        the first n bytes of that room become the last whole group, and the room is cleared
+--   roomsMoved mv c b s  both rooms after a row of the table, c the packet's place in its group; slotMoved: with the head
 --   slotDropped s        "Refusals 28 to 32 clear the slot's unfinished group, mark its gap and make it await 0."
 --   takenNumber r h      the answer to reading r where the head is h
 --   takenAfter r s       the slot after it
 use mathlib.Core.Bool.{cond}
 use mathlib.Core.List.{List}
-use Prim.Native.Nat.{ℕ, _*_}
+use Prim.Native.Nat.{ℕ, zero, suc, _+_, _*_}
 use lib.Dec.{eqb}
 use lib.ListN.{length, take}
 use Rattle.bits.specs.Bits.{blank}
@@ -17,7 +20,7 @@ use Rattle.bits.specs.Rows.{further, done}
 use Rattle.runs.specs.Part.{put}
 use Rattle.slot.specs.Slot.{roomSize, headOf, withHead, unfinished, withUnfinished, withStored, kept}
 use Rattle.head.specs.Head.{droppedHead}
-use Rattle.head.specs.Move.{Move, started, held, whole, outOfStep, moveOf, moveNumber, movedHead}
+use Rattle.head.specs.Move.{Move, started, held, whole, outOfStep, moveNumber, movedHead, rowAt, placeAt}
 use Rattle.head.specs.declared.Head.{Head}
 use Rattle.packet.specs.declared.Reading.{Reading}
 
@@ -29,13 +32,22 @@ placed c b room = put (c * length b) (length b) b room
 
 -- "Answer 1 clears the unfinished room and puts the packet's 90 or 45 bytes first; answer 2 puts them at c times 90 or 45 and
 -- touches no other byte of the room; answer 3 does the same at 3 times, moves all 360 bytes to the whole group's room, with
--- 0 beyond 180 for protected groups, and clears the unfinished room."
+-- 0 beyond 180 for protected groups, and clears the unfinished room." So the room is cleared where c is 0, by whatever row, and
+-- c + 1 packets are kept.
+unfoldable pub begunRoom : ℕ → List ℕ → List ℕ
+begunRoom zero room = blank roomSize
+begunRoom (suc c) room = room
+
+unfoldable pub slotJoined : ℕ → List ℕ → List ℕ → List ℕ
+slotJoined c b s = withUnfinished (placed c b (begunRoom c (unfinished s))) s
+
+unfoldable pub roomsKept : ℕ → List ℕ → List ℕ
+roomsKept n s = withUnfinished (blank roomSize) (withStored (kept n (unfinished s)) s)
+
 unfoldable pub roomsMoved : Move → ℕ → List ℕ → List ℕ → List ℕ
-roomsMoved started c b s = withUnfinished (placed 0 b (blank roomSize)) s
-roomsMoved held c b s = withUnfinished (placed c b (unfinished s)) s
-roomsMoved whole c b s =
-    let room = placed c b (unfinished s) in
-    withUnfinished (blank roomSize) (withStored (kept (4 * length b) room) (withUnfinished room s))
+roomsMoved started c b s = slotJoined c b s
+roomsMoved held c b s = slotJoined c b s
+roomsMoved whole c b s = roomsKept ((c + 1) * length b) (slotJoined c b s)
 roomsMoved outOfStep c b s = withUnfinished (blank roomSize) s
 
 unfoldable pub slotMoved : Move → ℕ → List ℕ → List ℕ → List ℕ
@@ -45,9 +57,9 @@ unfoldable pub slotDropped : List ℕ → List ℕ
 slotDropped s = withHead (droppedHead (headOf s)) (withUnfinished (blank roomSize) s)
 
 unfoldable pub takenNumber : Reading → Head → ℕ
-takenNumber r h = further (r .number) (moveNumber (moveOf (h .awaited) (r .index)))
+takenNumber r h = further (r .number) (moveNumber (rowAt h (r .index)))
 
 unfoldable pub takenAfter : Reading → List ℕ → List ℕ
 takenAfter r s =
     let h = headOf s in
-    done (r .number) (slotMoved (moveOf (h .awaited) (r .index)) (r .index) (take (blockOf h) (r .bytes)) s) (slotDropped s)
+    done (r .number) (slotMoved (rowAt h (r .index)) (placeAt h (r .index)) (take (blockOf h) (r .bytes)) s) (slotDropped s)

@@ -3,22 +3,21 @@
 ghost use mathlib.Core.Path.{_≡_};
 ghost use Prim.Native.Nat.{_<_, _≤_};
 ghost use lib.ListN.{length};
-ghost use Rattle.slot.specs.Slot.{slotSize, headOf};
-ghost use Rattle.head.specs.Move.{started, held, whole, outOfStep, moveOf, moveNumber};
-ghost use Rattle.group.specs.Group.{blockOf, slotMoved, slotDropped, takenNumber, takenAfter};
+ghost use Rattle.slot.specs.Slot.{headOf, withHead};
+ghost use Rattle.head.specs.Head.{wholeHead};
+ghost use Rattle.head.specs.Move.{moveNumber, rowAt, placeAt};
+ghost use Rattle.group.specs.Group.{blockOf, slotJoined, roomsKept, slotMoved, slotDropped, takenNumber, takenAfter};
 use head::Head;
 use image::Packet;
 use packet::Reading;
 use slot::Slot;
 use slot::room;
 
-// A group is four packets (7.4.2.2), the last with index 3; each brings a fourth of what its slot has room for.
+// A group is four packets (7.4.2.2); each brings a fourth of what its slot has room for.
 pub struct Group {}
 
 impl Group {
     pub const PACKETS: usize = 4;
-
-    pub const LAST: u8 = 3;
 
     pub const PLAIN: usize = Slot::ROOM / Self::PACKETS;
 
@@ -57,64 +56,52 @@ fn block(head: Head) -> usize
     }
 }
 
-// A readable data packet: the row of section 4's table.
+// A readable data packet: the row of section 4's table, by the packet's place in its group.
 fn moved(slot: &mut [u8], head: Head, index: u8, bytes: &[u8]) -> u8
     requires { ⌜ length (now slot) ≡ slotSize ⌝ }
     requires { ⌜ head ≡ headOf (now slot) ⌝ }
     requires { ⌜ length (now bytes) ≤ 90 ⌝ }
-    ensures { λ r. ⌜ r ≡ moveNumber (moveOf (head .awaited) index) ⌝ }
-    ensures { λ _. ⌜ now (slot .exit) ≡ slotMoved (moveOf (head .awaited) index) index (now (bytes .entry)) (now (slot .entry)) ⌝ }
+    ensures { λ r. ⌜ r ≡ moveNumber (rowAt head index) ⌝ }
+    ensures { λ _. ⌜ now (slot .exit) ≡ slotMoved (rowAt head index) (placeAt head index) (now (bytes .entry)) (now (slot .entry)) ⌝ }
 {
-    if index == 0 {
-        started(slot, head, bytes);
-        return 1;
+    let place = index % head.per();
+    if (place != 0) & (place != head.awaited) {
+        dropped(slot, head);
+        return 32;
     }
-    if (index == head.awaited) & (index < Group::LAST) {
-        held(slot, head, bytes);
-        return 2;
-    }
-    if (index == head.awaited) & (index == Group::LAST) {
-        whole(slot, head, bytes);
+    joined(slot, place, bytes);
+    if head.needs() <= place + 1 {
+        whole(slot, head, (place as usize + 1) * bytes.len());
         return 3;
     }
-    dropped(slot, head);
-    32
-}
-
-// Answer 1: the unfinished group begins anew.
-fn started(slot: &mut [u8], head: Head, bytes: &[u8])
-    requires { ⌜ length (now slot) ≡ slotSize ⌝ }
-    requires { ⌜ head ≡ headOf (now slot) ⌝ }
-    requires { ⌜ length (now bytes) ≤ 90 ⌝ }
-    ensures { λ _. ⌜ now (slot .exit) ≡ slotMoved started 0 (now (bytes .entry)) (now (slot .entry)) ⌝ }
-{
-    room::empty(slot);
-    runs::copy(slot, Slot::UNFINISHED, bytes);
-    Slot::store(head.started(), slot);
-}
-
-// Answer 2: the packet is joined on.
-fn held(slot: &mut [u8], head: Head, bytes: &[u8])
-    requires { ⌜ length (now slot) ≡ slotSize ⌝ }
-    requires { ⌜ head ≡ headOf (now slot) ⌝ }
-    requires { ⌜ length (now bytes) ≤ 90 ⌝ }
-    requires { ⌜ head .awaited < 3 ⌝ }
-    ensures { λ _. ⌜ now (slot .exit) ≡ slotMoved held (head .awaited) (now (bytes .entry)) (now (slot .entry)) ⌝ }
-{
-    runs::copy(slot, head.awaited as usize * bytes.len(), bytes);
+    if place == 0 {
+        Slot::store(head.started(), slot);
+        return 1;
+    }
     Slot::store(head.held(), slot);
+    2
 }
 
-// Answer 3: it becomes the last whole group.
-fn whole(slot: &mut [u8], head: Head, bytes: &[u8])
+// A packet's bytes at their place; the first of a group begins it anew.
+fn joined(slot: &mut [u8], place: u8, bytes: &[u8])
     requires { ⌜ length (now slot) ≡ slotSize ⌝ }
-    requires { ⌜ head ≡ headOf (now slot) ⌝ }
+    requires { ⌜ place ≤ 3 ⌝ }
     requires { ⌜ length (now bytes) ≤ 90 ⌝ }
-    requires { ⌜ head .awaited ≡ 3 ⌝ }
-    ensures { λ _. ⌜ now (slot .exit) ≡ slotMoved whole (head .awaited) (now (bytes .entry)) (now (slot .entry)) ⌝ }
+    ensures { λ _. ⌜ now (slot .exit) ≡ slotJoined place (now (bytes .entry)) (now (slot .entry)) ⌝ }
 {
-    runs::copy(slot, head.awaited as usize * bytes.len(), bytes);
-    room::keep(slot, Group::PACKETS * bytes.len());
+    if place == 0 {
+        room::empty(slot);
+    }
+    runs::copy(slot, place as usize * bytes.len(), bytes);
+}
+
+// Answer 3: what is held becomes the last whole group.
+fn whole(slot: &mut [u8], head: Head, len: usize)
+    requires { ⌜ length (now slot) ≡ slotSize ⌝ }
+    requires { ⌜ len ≤ 360 ⌝ }
+    ensures { λ _. ⌜ now (slot .exit) ≡ withHead (wholeHead head) (roomsKept len (now (slot .entry))) ⌝ }
+{
+    room::keep(slot, len);
     room::empty(slot);
     Slot::store(head.whole(), slot);
 }

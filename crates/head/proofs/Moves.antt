@@ -1,41 +1,141 @@
 -- The rows of section 4's table, by what was awaited and what came.
 --
---   move-started, move-held, move-whole, move-out
---   held-test, whole-test    what the tests of the two middle rows say
+--   Row needs a c mv, row-is    what each row says of the place awaited and the one that came
+--   row-whole, row-started, row-held, row-out    which row it is
+--   four-table                  for groups of four packets that need all four it is document 01's table
+--   one-whole                   for groups of one it is always whole
+--   move-modulo                 an index counts modulo the packets of a group; move-row, move-whole: one that is below that
+--   per-bounds, needs-bounds    the two numbers of a slot; place-below: a place is below the first of them; row-at
+--   moved-sizes, dropped-sizes, aged-sizes    what a head changes to has the same
 --
 -- Assumes nothing.
-use mathlib.Core.Path.{_≡_, refl}
-use mathlib.Core.Bool.{Bool, true, false, cond, _&&_}
-use Prim.Native.Nat.{ℕ, _<_}
-use borrow.Author.Tests.{eq-eqb, ne-eqb, eqb-true, ltb-true}
-use lib.Dec.{eqb, ltb}
-use Rattle.bits.proofs.Search.{and-left, and-right}
-use Rattle.head.specs.Move.{Move, started, held, whole, outOfStep, moveOf}
+use mathlib.Core.Path.{_≡_, refl, ap, _∙_}
+use mathlib.Core.Bool.{Bool, true, false, cond, not, _&&_, _||_}
+use mathlib.Core.Logic.{_⊎_, inl, inr}
+use Prim.Native.Nat.{ℕ, zero, suc, _+_, _%_, _≤_, _<_}
+use native.Mathlib.Nat.{mod-eq-of-lt, mod-one, mod-mod, mod-lt}
+use native.Mathlib.Omega.{arith}
+use borrow.Author.Tests.{eq-eqb, ne-eqb, le-leb, lt-leb, eqb-true, eqb-false, leb-true, leb-false}
+use lib.Dec.{eqb, leb}
+use Rattle.head.specs.Move.{Move, started, held, whole, outOfStep, perOf, needsOf, rowOf, moveOf, tableOf, rowAt, placeAt, movedHead}
+use Rattle.head.specs.Head.{droppedHead, agedHead}
+use Rattle.head.specs.declared.Head.{Head}
 
--- the three tests in order
+-- the three tests: c is 0, c is awaited, c + 1 is at least what is needed
 abbrev chosen : Bool → Bool → Bool → Move
-chosen first second third = cond first started (cond second held (cond third whole outOfStep))
+chosen first same enough = cond ((first || same) && enough) whole (cond first started (cond same held outOfStep))
 
--- the row is chosen by the three tests
-by-tests : (a c : ℕ) (f g h : Bool) → eqb c 0 ≡ f → (eqb c a && ltb c 3) ≡ g → (eqb c a && eqb c 3) ≡ h → moveOf a c ≡ chosen f g h
+abbrev pub Row : ℕ → ℕ → ℕ → Move → Type 0
+Row needs a c started = (c ≡ 0) × (c + 1 < needs)
+Row needs a c held = (c ≡ a) × (0 < c) × (c + 1 < needs)
+Row needs a c whole = ((c ≡ 0) ⊎ (c ≡ a)) × (needs ≤ c + 1)
+Row needs a c outOfStep = (0 < c) × (c ≡ a → ⊥)
+
+module _ (needs a c : ℕ) where
+  pub row-is : Row needs a c (rowOf needs a c)
+  unfolding rowOf
+  row-is = go (eqb c 0) (eqb c a) (leb needs (c + 1)) refl refl refl
+    where
+      go : (first same enough : Bool) → eqb c 0 ≡ first → eqb c a ≡ same → leb needs (c + 1) ≡ enough
+          → Row needs a c (chosen first same enough)
+      go true same true f s e = (inl (eqb-true c 0 f), leb-true needs (c + 1) e)
+      go true same false f s e = (eqb-true c 0 f, leb-false needs (c + 1) e)
+      go false true true f s e = (inr (eqb-true c a s), leb-true needs (c + 1) e)
+      go false true false f s e =
+          let z = eqb-false c 0 f in
+          (eqb-true c a s, omega arith, leb-false needs (c + 1) e)
+      go false false enough f s e =
+          let z = eqb-false c 0 f in
+          (omega arith, eqb-false c a s)
+
+  by-tests : (first same enough : Bool) → eqb c 0 ≡ first → eqb c a ≡ same → leb needs (c + 1) ≡ enough
+      → rowOf needs a c ≡ chosen first same enough
+  unfolding rowOf
+  by-tests first same enough f s e = λ i. chosen (f i) (s i) (e i)
+
+  pub row-whole : (c ≡ 0) ⊎ (c ≡ a) → needs ≤ c + 1 → rowOf needs a c ≡ whole
+  row-whole (inl z) l = by-tests true _ true (eq-eqb c 0 z) refl (le-leb needs (c + 1) l)
+  row-whole (inr s) l = go (eqb c 0) refl
+    where
+      go : (first : Bool) → eqb c 0 ≡ first → rowOf needs a c ≡ whole
+      go true f = by-tests true true true f (eq-eqb c a s) (le-leb needs (c + 1) l)
+      go false f = by-tests false true true f (eq-eqb c a s) (le-leb needs (c + 1) l)
+
+  pub row-started : c ≡ 0 → c + 1 < needs → rowOf needs a c ≡ started
+  row-started z l = by-tests true _ false (eq-eqb c 0 z) refl (lt-leb needs (c + 1) l)
+
+  pub row-held : (c ≡ 0 → ⊥) → c ≡ a → c + 1 < needs → rowOf needs a c ≡ held
+  row-held n s l = by-tests false true false (ne-eqb c 0 n) (eq-eqb c a s) (lt-leb needs (c + 1) l)
+
+  pub row-out : (c ≡ 0 → ⊥) → (c ≡ a → ⊥) → rowOf needs a c ≡ outOfStep
+  row-out n d = by-tests false false _ (ne-eqb c 0 n) (ne-eqb c a d) refl
+
+-- ---- the two sizes
+
+-- a place that is awaited: held below the last, whole at it
+last-or-not : (same low : Bool)
+    → cond (same && not low) whole (cond same held outOfStep) ≡ cond (same && low) held (cond (same && not low) whole outOfStep)
+last-or-not true true = refl
+last-or-not true false = refl
+last-or-not false low = refl
+
+pub four-table : (a c : ℕ) → a < 4 → c < 4 → moveOf 4 4 a c ≡ tableOf a c
+unfolding moveOf rowOf tableOf
+four-table a zero k l = refl
+four-table a (suc zero) k l = last-or-not (eqb 1 a) true
+four-table a (suc (suc zero)) k l = last-or-not (eqb 2 a) true
+four-table a (suc (suc (suc zero))) k l = last-or-not (eqb 3 a) false
+four-table a (suc (suc (suc (suc c)))) k l = absurd (omega arith)
+
+pub one-whole : (a c : ℕ) → moveOf 1 1 a c ≡ whole
 unfolding moveOf
-by-tests a c f g h e p q = λ i. chosen (e i) (p i) (q i)
+one-whole a c = row-whole 1 a (c % 1) (inl (mod-one c)) (omega arith)
 
-module _ (a c : ℕ) where
-  pub move-started : c ≡ 0 → moveOf a c ≡ started
-  move-started e = by-tests a c true _ _ (eq-eqb c 0 e) refl refl
+-- ---- the index
 
-  pub move-held : (c ≡ 0 → ⊥) → (eqb c a && ltb c 3) ≡ true → moveOf a c ≡ held
-  move-held n p = by-tests a c false true _ (ne-eqb c 0 n) p refl
+pub move-modulo : (per needs a c : ℕ) → moveOf per needs a (c % per) ≡ moveOf per needs a c
+unfolding moveOf
+move-modulo per needs a c = ap (rowOf needs a) (mod-mod c per)
 
-  pub move-whole : (c ≡ 0 → ⊥) → (eqb c a && ltb c 3) ≡ false → (eqb c a && eqb c 3) ≡ true → moveOf a c ≡ whole
-  move-whole n p q = by-tests a c false false true (ne-eqb c 0 n) p q
+pub move-row : (per needs a c : ℕ) → c < per → Row needs a c (moveOf per needs a c)
+unfolding moveOf
+move-row per needs a c l = rw (mod-eq-of-lt l) (row-is needs a c)
 
-  pub move-out : (c ≡ 0 → ⊥) → (eqb c a && ltb c 3) ≡ false → (eqb c a && eqb c 3) ≡ false → moveOf a c ≡ outOfStep
-  move-out n p q = by-tests a c false false false (ne-eqb c 0 n) p q
+pub move-whole : (per needs a c : ℕ) → c < per → (c ≡ 0) ⊎ (c ≡ a) → needs ≤ c + 1 → moveOf per needs a c ≡ whole
+unfolding moveOf
+move-whole per needs a c l at enough = rw (mod-eq-of-lt l) (row-whole needs a c at enough)
 
-  pub held-test : (eqb c a && ltb c 3) ≡ true → (c ≡ a) × (c < 3)
-  held-test e = (eqb-true c a (and-left (eqb c a) _ e), ltb-true c 3 (and-right (eqb c a) _ e))
+-- ---- the two numbers of a slot
 
-  pub whole-test : (eqb c a && eqb c 3) ≡ true → (c ≡ a) × (c ≡ 3)
-  whole-test e = (eqb-true c a (and-left (eqb c a) _ e), eqb-true c 3 (and-right (eqb c a) _ e))
+pub per-bounds : (h : Head) → (0 < perOf h) × (perOf h ≤ 4)
+unfolding perOf
+per-bounds h = (omega arith, omega arith)
+
+pub needs-bounds : (h : Head) → (0 < needsOf h) × (needsOf h ≤ perOf h)
+unfolding perOf needsOf
+needs-bounds h = (omega arith, omega arith)
+
+pub place-below : (h : Head) (c : ℕ) → placeAt h c < perOf h
+place-below h c = mod-lt c (per-bounds h .0)
+
+pub row-at : (h : Head) (c : ℕ) → Row (needsOf h) (h .awaited) (placeAt h c) (rowAt h c)
+unfolding moveOf
+row-at h c = row-is (needsOf h) (h .awaited) (placeAt h c)
+
+abbrev pub SameSizes : Head → Head → Type 0
+SameSizes g h = (perOf g ≡ perOf h) × (needsOf g ≡ needsOf h)
+
+pub moved-sizes : (mv : Move) (h : Head) → SameSizes (movedHead mv h) h
+unfolding perOf needsOf movedHead
+moved-sizes started h = (refl, refl)
+moved-sizes held h = (refl, refl)
+moved-sizes whole h = (refl, refl)
+moved-sizes outOfStep h = (refl, refl)
+
+pub dropped-sizes : (h : Head) → SameSizes (droppedHead h) h
+unfolding perOf needsOf
+dropped-sizes h = (refl, refl)
+
+pub aged-sizes : (h : Head) → SameSizes (agedHead h) h
+unfolding perOf needsOf
+aged-sizes h = (refl, refl)

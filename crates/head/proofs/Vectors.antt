@@ -4,7 +4,9 @@
 --   addresses, protections, limits, awaiteds, groups, gaps, ages    which heads are good
 --   freshness             limit 2 at ages 0, 1 and 2, with and without a gap; no group
 --   ageing                up to 1,500, and only with a whole group
---   answers               awaited 0 to 3, and of each the indices 0 to 3: 1 started, 2 held, 3 whole, 32
+--   answers               groups of four: awaited 0 to 3, and of each the indices 0 to 3: 1 started, 2 held, 3 whole, 32
+--   singles               groups of one: whole, whatever is awaited and whatever the index
+--   stopping              groups of which the first two packets are enough: whole at index 1, the others out of step
 --   heads                 the head after each: awaited index, group mark, gap mark, age
 --   gap-kept, gap-cleared a start keeps a gap mark, a whole group clears it
 --
@@ -14,7 +16,7 @@ use mathlib.Core.Bool.{Bool, true, false}
 use mathlib.Core.List.{List, [], _∷_, map}
 use Prim.Native.Nat.{ℕ}
 use Rattle.head.specs.Head.{wishOf, goodWish, newHead, agedHead, shown, goodHead}
-use Rattle.head.specs.Move.{moveOf, moveNumber, movedHead}
+use Rattle.head.specs.Move.{rowOf, moveOf, moveNumber, movedHead}
 use Rattle.head.specs.declared.Head.{Head}
 
 -- address 17, protected, limit 2, with what changes
@@ -66,21 +68,31 @@ ageing = (refl, refl)
 
 -- ---- section 4's table
 
-pub answers : map (λ (a : ℕ). map (λ (c : ℕ). moveNumber (moveOf a c)) (0 ∷ 1 ∷ 2 ∷ 3 ∷ [])) (0 ∷ 1 ∷ 2 ∷ 3 ∷ [])
+pub answers : map (λ (a : ℕ). map (λ (c : ℕ). moveNumber (moveOf 4 4 a c)) (0 ∷ 1 ∷ 2 ∷ 3 ∷ [])) (0 ∷ 1 ∷ 2 ∷ 3 ∷ [])
     ≡ ((1 ∷ 32 ∷ 32 ∷ 32 ∷ [])
     ∷ (1 ∷ 2 ∷ 32 ∷ 32 ∷ [])
     ∷ (1 ∷ 32 ∷ 2 ∷ 32 ∷ [])
     ∷ (1 ∷ 32 ∷ 32 ∷ 3 ∷ [])
     ∷ [])
-unfolding moveOf moveNumber
+unfolding moveOf rowOf moveNumber
 answers = refl
+
+pub singles : map (λ (a : ℕ). map (λ (c : ℕ). moveNumber (moveOf 1 1 a c)) (0 ∷ 1 ∷ 2 ∷ 3 ∷ [])) (0 ∷ 1 ∷ [])
+    ≡ ((3 ∷ 3 ∷ 3 ∷ 3 ∷ []) ∷ (3 ∷ 3 ∷ 3 ∷ 3 ∷ []) ∷ [])
+unfolding moveOf rowOf moveNumber
+singles = refl
+
+pub stopping : map (λ (a : ℕ). map (λ (c : ℕ). moveNumber (moveOf 4 2 a c)) (0 ∷ 1 ∷ 2 ∷ 3 ∷ [])) (0 ∷ 1 ∷ [])
+    ≡ ((1 ∷ 32 ∷ 32 ∷ 32 ∷ []) ∷ (1 ∷ 3 ∷ 32 ∷ 32 ∷ []) ∷ [])
+unfolding moveOf rowOf moveNumber
+stopping = refl
 
 abbrev parts : Head → List ℕ
 parts h = h .awaited ∷ h .group ∷ h .gap ∷ h .age ∷ []
 
 -- of a head with a group of age 1 and no gap
 abbrev after : ℕ → ℕ → List ℕ
-after a c = parts (movedHead (moveOf a c) (head a 1 0 1))
+after a c = parts (movedHead (moveOf 4 4 a c) (head a 1 0 1))
 
 -- where 32 is answered
 abbrev out : List ℕ
@@ -92,15 +104,15 @@ pub heads : map (λ (a : ℕ). map (after a) (0 ∷ 1 ∷ 2 ∷ 3 ∷ [])) (0 �
     ∷ ((1 ∷ 1 ∷ 1 ∷ 1 ∷ []) ∷ out ∷ (3 ∷ 1 ∷ 0 ∷ 1 ∷ []) ∷ out ∷ [])
     ∷ ((1 ∷ 1 ∷ 1 ∷ 1 ∷ []) ∷ out ∷ out ∷ (0 ∷ 1 ∷ 0 ∷ 0 ∷ []) ∷ [])
     ∷ [])
-unfolding moveOf movedHead
+unfolding moveOf rowOf movedHead
 heads = refl
 
 -- a gap that was marked before: a start and a held packet keep it, a whole group clears it
-pub gap-kept : (parts (movedHead (moveOf 0 0) (head 0 1 1 1)) ≡ (1 ∷ 1 ∷ 1 ∷ 1 ∷ []))
-    × (parts (movedHead (moveOf 2 2) (head 2 1 1 1)) ≡ (3 ∷ 1 ∷ 1 ∷ 1 ∷ []))
-unfolding moveOf movedHead
+pub gap-kept : (parts (movedHead (moveOf 4 4 0 0) (head 0 1 1 1)) ≡ (1 ∷ 1 ∷ 1 ∷ 1 ∷ []))
+    × (parts (movedHead (moveOf 4 4 2 2) (head 2 1 1 1)) ≡ (3 ∷ 1 ∷ 1 ∷ 1 ∷ []))
+unfolding moveOf rowOf movedHead
 gap-kept = (refl, refl)
 
-pub gap-cleared : parts (movedHead (moveOf 3 3) (head 3 0 1 0)) ≡ (0 ∷ 1 ∷ 0 ∷ 0 ∷ [])
-unfolding moveOf movedHead
+pub gap-cleared : parts (movedHead (moveOf 4 4 3 3) (head 3 0 1 0)) ≡ (0 ∷ 1 ∷ 0 ∷ 0 ∷ [])
+unfolding moveOf rowOf movedHead
 gap-cleared = refl

@@ -3,6 +3,7 @@
 ghost use mathlib.Core.Path.{_≡_};
 ghost use Prim.Native.Nat.{_<_};
 ghost use Rattle.head.specs.Head.{wishOf, goodWish, wishAnswer, freeHead, newHead, startedHead, heldHead, wholeHead, droppedHead, agedHead, goodHead};
+ghost use Rattle.head.specs.Move.{perOf, needsOf};
 
 // What follow is asked: further wishes get their defaults in `new`.
 pub struct Wish {
@@ -88,6 +89,19 @@ impl Head {
             group: 0,
             gap: 0,
         }
+    }
+
+    // How many packets a group has, and how many of them make it whole.
+    pub fn per(self) -> u8
+        ensures { λ r. ⌜ r ≡ perOf self ⌝ }
+    {
+        4
+    }
+
+    pub fn needs(self) -> u8
+        ensures { λ r. ⌜ r ≡ needsOf self ⌝ }
+    {
+        self.per()
     }
 
     pub fn started(mut self) -> Self

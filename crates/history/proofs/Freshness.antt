@@ -5,7 +5,8 @@
 --                      unfinished group are held, and, where there is a group, its age
 --   tells-*            each event keeps that: a packet by any row of its table, a refused one, the end of a subframe
 --   tells-shown        where it holds, ask shows what the entries call for
---   freshness          so it is after any events whatever, from follow on
+--   freshness          so it is after any events whatever, from any slot that has no group, no gap marked and nothing held, whatever
+--                      the packets of a group; freshness-four: from follow on
 --
 -- Assumes nothing.
 use mathlib.Core.Path.{_≡_, refl, sym, ap, _∙_}
@@ -19,6 +20,7 @@ use borrow.Author.Tests.{ltb-true, ltb-false, lt-ltb, le-leb}
 use Rattle.head.specs.Head.{newHead, droppedHead, agedHead, shown}
 use Rattle.head.specs.Move.{Move, started, held, whole, outOfStep, moveOf, moveNumber, movedHead}
 use Rattle.head.specs.declared.Head.{Head}
+use Rattle.head.specs.declared.Wish.{Wish}
 use Rattle.history.specs.Followed.{Followed, Reason, typeUnreadable, typeReserved, typeScrambled, wordUnreadable, number, Event, packet, refused, ended, moved, dropped, aged, after, answer, followed, run}
 use Rattle.history.specs.Transcript.{Entry, answered, subframe, entry, told, isWhole, anyWhole, sinceWhole, ends, before, drops, marks, marked, called}
 
@@ -39,15 +41,23 @@ aged-next group age n g a = rw g (go (ltb age 1500) refl a)
     go false e (inr (p, q)) = inr (p, omega arith)
 
 pub record Tells (limit : ℕ) (h : Head) (t : List Entry) : Type 0 where
-  pub limited : h .limit ≡ limit
+  pub limited : h .wish .limit ≡ limit
   pub grouped : h .group ≡ cond (anyWhole t) 1 0
   pub gapped : h .gap ≡ cond (marked (sinceWhole t)) 1 0
   pub awaits : ltb 0 (h .awaited) ≡ (eqb (before (sinceWhole t)) 1 || eqb (before (sinceWhole t)) 2)
   pub age : anyWhole t ≡ true → Aged (h .age) (ends (sinceWhole t))
 
-pub tells-new : (a p limit : ℕ) → Tells limit (newHead a p limit) []
+pub tells-none : (h : Head) → h .awaited ≡ 0 → h .group ≡ 0 → h .gap ≡ 0 → Tells (h .wish .limit) h []
 unfolding anyWhole sinceWhole marked before ends
-tells-new a p limit = record { limited = refl; grouped = refl; gapped = refl; awaits = refl; age = λ e. inl refl }
+tells-none h w g m = record { limited = refl; grouped = g; gapped = m; awaits = rw w; age = λ e. none e }
+  where
+    none : false ≡ true → Aged (h .age) 0
+    none e =
+        let z : _≡_ {A = ℕ} 0 1 = cc in
+        absurd (omega arith)
+
+pub tells-new : (w : Wish) → Tells (w .limit) (newHead w) []
+tells-new w = tells-none (newHead w) refl refl refl
 
 cond-or : (a b : Bool) → cond a 1 (cond b 1 0) ≡ cond {A = ℕ} (a || b) 1 0
 cond-or true b = refl
@@ -114,7 +124,7 @@ module _ (limit : ℕ) (h : Head) (t : List Entry) (s : Tells limit h t) where
 tells-after : (limit : ℕ) (f : Followed) (t : List Entry) → Tells limit (f .head) t
     → (e : Event) → Tells limit (after e f .head) (entry e f ∷ t)
 unfolding after entry answer moved dropped aged
-tells-after limit f t s (packet c bytes) = tells-moved limit (f .head) t s (moveOf (f .head .awaited) c)
+tells-after limit f t s (packet c bytes) = tells-moved limit (f .head) t s (moveOf (f .per) (f .needs) (f .head .awaited) c)
 tells-after limit f t s (refused r) = tells-refused limit (f .head) t s r
 tells-after limit f t s ended = tells-aged limit (f .head) t s
 
@@ -124,7 +134,11 @@ unfolding run told
 tells-run limit k [] f t s = tells-shown limit (f .head) t s k
 tells-run limit k (e ∷ es) f t s = tells-run limit k es (after e f) (entry e f ∷ t) (tells-after limit f t s e)
 
-pub freshness : (a p limit : ℕ) → 1 ≤ limit → limit ≤ 1500 → (es : List Event)
-    → shown (run es (followed a p limit) .head) ≡ called limit (told es (followed a p limit) [])
+pub freshness : (f : Followed) → f .head .awaited ≡ 0 → f .head .group ≡ 0 → f .head .gap ≡ 0 → f .head .wish .limit ≤ 1500 → (es : List Event)
+    → shown (run es f .head) ≡ called (f .head .wish .limit) (told es f [])
+freshness f w g m k es = tells-run (f .head .wish .limit) k es f [] (tells-none (f .head) w g m)
+
+pub freshness-four : (w : Wish) → 1 ≤ w .limit → w .limit ≤ 1500 → (es : List Event)
+    → shown (run es (followed w) .head) ≡ called (w .limit) (told es (followed w) [])
 unfolding followed
-freshness a p limit h k es = tells-run limit k es (followed a p limit) [] (tells-new a p limit)
+freshness-four w h k es = freshness (followed w) refl refl refl k es

@@ -1,5 +1,7 @@
+pub mod Coming
 pub mod Exactness
 pub mod Freshness
+pub mod Full
 pub mod Laws
 pub mod Missing
 pub mod Sharp

@@ -12,14 +12,19 @@
 --   lost-shows                  a lost packet shows when the next one arrives: fresh before, doubtful after
 --   partial-shows               three packets of the next group, and none missing: fresh
 --   no-group-shows              nothing yet, though more subframes end than the limit
+--   single, singles             an address whose groups are one packet each; packets of it, with runs of more than three lost
+--   singles-in-order            that is in order, whatever was lost
+--   singles-hand-out            each readable packet is handed out by itself
+--   singles-show                a lost packet leaves no mark, a damaged one does
+--   single-begins-anew          what was held before is not joined to a group of one
 --
 -- Assumes nothing.
 use mathlib.Core.Path.{_≡_, refl}
 use mathlib.Core.List.{List, [], _∷_, _++_}
 use Prim.Native.Nat.{ℕ}
-use Rattle.head.specs.Head.{shown}
-use Rattle.head.specs.Move.{moveOf, moveNumber, movedHead}
-use Rattle.history.specs.Followed.{Followed, typeUnreadable, wordUnreadable, number, joined, lastOf, moved, dropped, aged, after, answer, followed, run, handedOut}
+use Rattle.head.specs.Head.{wishOf, shown}
+use Rattle.head.specs.Move.{perOf, needsOf, rowOf, moveOf, moveNumber, movedHead}
+use Rattle.history.specs.Followed.{Followed, typeUnreadable, wordUnreadable, number, begun, joined, lastOf, moved, dropped, aged, after, answer, followed, run, handedOut}
 use Rattle.history.specs.Sent.{Arrival, came, damaged, subframeEnd, event, events, InOrder}
 use Rattle.history.proofs.Laws.{isNext, ordered, ordered-holds}
 use Rattle.history.proofs.Sharp.{sent}
@@ -32,28 +37,28 @@ wholeGroup i = came i 0 ∷ came i 1 ∷ came i 2 ∷ came i 3 ∷ []
 unfoldable broken : List Arrival
 broken = came 0 0 ∷ came 0 3 ∷ came 1 0 ∷ damaged 1 1 wordUnreadable ∷ came 1 2 ∷ came 1 3 ∷ wholeGroup 2
 
-in-order : InOrder 3 0 broken
+in-order : InOrder 4 3 0 broken
 unfolding broken wholeGroup ordered isNext
-in-order = ordered-holds 3 0 broken refl
+in-order = ordered-holds 4 3 0 broken refl
 
-broken-recovers : handedOut (events sent broken) (followed 17 0 2) ≡ (8 ∷ 9 ∷ 10 ∷ 11 ∷ []) ∷ []
-unfolding broken wholeGroup sent events event followed handedOut after answer number moved joined lastOf dropped moveOf moveNumber movedHead
+broken-recovers : handedOut (events sent broken) (followed (wishOf 17 0 2)) ≡ (8 ∷ 9 ∷ 10 ∷ 11 ∷ []) ∷ []
+unfolding broken wholeGroup sent events event followed perOf needsOf handedOut after answer number moved begun joined lastOf dropped moveOf rowOf moveNumber movedHead
 broken-recovers = refl
 
 unfoldable midway : List Arrival
 midway = came 0 2 ∷ came 0 3 ∷ wholeGroup 1
 
-midway-in-order : InOrder 3 2 midway
+midway-in-order : InOrder 4 3 2 midway
 unfolding midway wholeGroup ordered isNext
-midway-in-order = ordered-holds 3 2 midway refl
+midway-in-order = ordered-holds 4 3 2 midway refl
 
-midway-hands-out : handedOut (events sent midway) (followed 17 0 2) ≡ (4 ∷ 5 ∷ 6 ∷ 7 ∷ []) ∷ []
-unfolding midway wholeGroup sent events event followed handedOut after answer moved joined lastOf moveOf moveNumber movedHead
+midway-hands-out : handedOut (events sent midway) (followed (wishOf 17 0 2)) ≡ (4 ∷ 5 ∷ 6 ∷ 7 ∷ []) ∷ []
+unfolding midway wholeGroup sent events event followed perOf needsOf handedOut after answer moved begun joined lastOf moveOf rowOf moveNumber movedHead
 midway-hands-out = refl
 
 -- seen in no group that is handed out, since the next begins anew
-out-of-step-clears : run (events sent (came 0 0 ∷ came 0 2 ∷ [])) (followed 17 0 2) .unfinished ≡ []
-unfolding sent events event followed run after moved joined moveOf movedHead
+out-of-step-clears : run (events sent (came 0 0 ∷ came 0 2 ∷ [])) (followed (wishOf 17 0 2)) .unfinished ≡ []
+unfolding sent events event followed perOf needsOf run after moved begun joined moveOf rowOf movedHead
 out-of-step-clears = refl
 
 -- ---- what ask shows
@@ -62,30 +67,60 @@ unfoldable shownAlong : List Arrival → Followed → List ℕ
 shownAlong [] f = []
 shownAlong (a ∷ h) f = shown (after (event sent a) f .head) ∷ shownAlong h (after (event sent a) f)
 
-silence-shows : shownAlong (wholeGroup 0 ++ (subframeEnd ∷ subframeEnd ∷ [])) (followed 17 0 2) ≡ 4 ∷ 4 ∷ 4 ∷ 5 ∷ 5 ∷ 7 ∷ []
-unfolding wholeGroup shownAlong event followed after moved aged moveOf movedHead shown
+silence-shows : shownAlong (wholeGroup 0 ++ (subframeEnd ∷ subframeEnd ∷ [])) (followed (wishOf 17 0 2)) ≡ 4 ∷ 4 ∷ 4 ∷ 5 ∷ 5 ∷ 7 ∷ []
+unfolding wholeGroup shownAlong event followed perOf needsOf after moved aged moveOf rowOf movedHead shown
 silence-shows = refl
 
-damage-shows : shownAlong (wholeGroup 0 ++ (damaged 1 0 typeUnreadable ∷ came 1 1 ∷ wholeGroup 2)) (followed 17 0 2)
+damage-shows : shownAlong (wholeGroup 0 ++ (damaged 1 0 typeUnreadable ∷ came 1 1 ∷ wholeGroup 2)) (followed (wishOf 17 0 2))
     ≡ 4 ∷ 4 ∷ 4 ∷ 5 ∷ 6 ∷ 6 ∷ 6 ∷ 6 ∷ 6 ∷ 5 ∷ []
-unfolding wholeGroup shownAlong event followed after moved dropped moveOf movedHead shown
+unfolding wholeGroup shownAlong event followed perOf needsOf after moved dropped moveOf rowOf movedHead shown
 damage-shows = refl
 
-early-start-shows : shownAlong (wholeGroup 0 ++ (came 1 0 ∷ came 1 1 ∷ wholeGroup 2)) (followed 17 0 2)
+early-start-shows : shownAlong (wholeGroup 0 ++ (came 1 0 ∷ came 1 1 ∷ wholeGroup 2)) (followed (wishOf 17 0 2))
     ≡ 4 ∷ 4 ∷ 4 ∷ 5 ∷ 5 ∷ 5 ∷ 6 ∷ 6 ∷ 6 ∷ 5 ∷ []
-unfolding wholeGroup shownAlong event followed after moved moveOf movedHead shown
+unfolding wholeGroup shownAlong event followed perOf needsOf after moved moveOf rowOf movedHead shown
 early-start-shows = refl
 
-lost-shows : shownAlong (wholeGroup 0 ++ (came 1 0 ∷ subframeEnd ∷ came 1 2 ∷ [])) (followed 17 0 2)
+lost-shows : shownAlong (wholeGroup 0 ++ (came 1 0 ∷ subframeEnd ∷ came 1 2 ∷ [])) (followed (wishOf 17 0 2))
     ≡ 4 ∷ 4 ∷ 4 ∷ 5 ∷ 5 ∷ 5 ∷ 6 ∷ []
-unfolding wholeGroup shownAlong event followed after moved aged moveOf movedHead shown
+unfolding wholeGroup shownAlong event followed perOf needsOf after moved aged moveOf rowOf movedHead shown
 lost-shows = refl
 
-partial-shows : shownAlong (wholeGroup 0 ++ (came 1 0 ∷ came 1 1 ∷ subframeEnd ∷ came 1 2 ∷ [])) (followed 17 0 2)
+partial-shows : shownAlong (wholeGroup 0 ++ (came 1 0 ∷ came 1 1 ∷ subframeEnd ∷ came 1 2 ∷ [])) (followed (wishOf 17 0 2))
     ≡ 4 ∷ 4 ∷ 4 ∷ 5 ∷ 5 ∷ 5 ∷ 5 ∷ 5 ∷ []
-unfolding wholeGroup shownAlong event followed after moved aged moveOf movedHead shown
+unfolding wholeGroup shownAlong event followed perOf needsOf after moved aged moveOf rowOf movedHead shown
 partial-shows = refl
 
-no-group-shows : shownAlong (came 0 0 ∷ subframeEnd ∷ subframeEnd ∷ subframeEnd ∷ []) (followed 17 0 2) ≡ 4 ∷ 4 ∷ 4 ∷ 4 ∷ []
-unfolding shownAlong event followed after moved aged moveOf movedHead shown
+no-group-shows : shownAlong (came 0 0 ∷ subframeEnd ∷ subframeEnd ∷ subframeEnd ∷ []) (followed (wishOf 17 0 2)) ≡ 4 ∷ 4 ∷ 4 ∷ 4 ∷ []
+unfolding shownAlong event followed perOf needsOf after moved aged moveOf rowOf movedHead shown
 no-group-shows = refl
+
+-- ---- groups of one packet
+
+unfoldable single : ℕ → List ℕ → Followed
+single awaited unfinished = record {
+  per = 1;
+  needs = 1;
+  head = record { address = 17; limit = 2; age = 0; protection = 0; awaited = awaited; group = 0; gap = 0 };
+  unfinished = unfinished;
+  last = [];
+}
+
+unfoldable singles : List Arrival
+singles = came 0 0 ∷ came 5 0 ∷ damaged 6 0 wordUnreadable ∷ came 60 0 ∷ []
+
+singles-in-order : InOrder 1 0 0 singles
+unfolding singles ordered isNext
+singles-in-order = ordered-holds 1 0 0 singles refl
+
+singles-hand-out : handedOut (events sent singles) (single 0 []) ≡ (0 ∷ []) ∷ (20 ∷ []) ∷ (240 ∷ []) ∷ []
+unfolding single singles sent events event handedOut after answer number moved begun joined lastOf dropped moveOf rowOf moveNumber movedHead
+singles-hand-out = refl
+
+singles-show : shownAlong singles (single 0 []) ≡ 5 ∷ 5 ∷ 6 ∷ 5 ∷ []
+unfolding single singles shownAlong event after moved dropped moveOf rowOf movedHead shown
+singles-show = refl
+
+single-begins-anew : handedOut (events sent (came 3 0 ∷ [])) (single 2 (98 ∷ 99 ∷ [])) ≡ (12 ∷ []) ∷ []
+unfolding single sent events event handedOut after answer moved begun joined lastOf moveOf rowOf moveNumber movedHead
+single-begins-anew = refl

@@ -1,6 +1,4 @@
 -- `group::dropped` meets its contract: the unfinished room cleared, then the head. Assumes nothing.
-use mathlib.Core.List.{[]}
-use native.Mathlib.Omega.{arith}
 use Rattle.group.proofs.Doing.{drop-does}
 use borrow.Author.Needs.{needs}
 use Rattle.group.proofs.dropped.Statement.{statement}
@@ -19,7 +17,13 @@ same-length : tie.Need-same-length
 same-length c = search needs
 
 returns : tie.Need-returns
-returns c = drop-does (c .before .before .before .before .before .before .before .before .before .before .args .slot .now) [] (c .before .before .before .before .before .before .before .before .before .before .args .head) (c .before .before .before .before .before .before .before .before .before .before .pre .0) (c .before .before .before .before .before .before .before .before .before .before .pre .1) (omega arith) _ _ _ (c .before .before .before .before .before .before .before .empty .ensures) (c .before .before .before .before .dropped .ensures) (c .before .before .store .ensures)
+returns c =
+    let stored = c .before .before in
+    let changed = stored .before .before in
+    let emptied = changed .before .before .before in
+    let start = emptied .before .before .before in
+    drop-does (start .args .slot .now) (start .args .head) (start .pre .1) _ _ _ (emptied .empty .ensures) (changed .dropped .ensures)
+    (stored .store .ensures)
 
 pub dropped-spec : {M : Type 1} → statement M
 dropped-spec =

@@ -1,13 +1,26 @@
 -- `group::taken` meets its contract: a refused reading drops, another one moves by its row. Assumes nothing.
-use Prim.Native.Nat.{ℕ}
-use lib.ListN.{take}
-use lib.Seq.{length-take-le}
-use mathlib.Core.Path.{sym, ap, _∙_}
+use mathlib.Core.Path.{_≡_, sym, ap, _∙_}
+use Prim.Native.Nat.{ℕ, _≤_}
 use native.Mathlib.Omega.{arith}
+use lib.ListN.{length, take}
+use lib.Seq.{length-take-le}
 use Rattle.group.proofs.Doing.{taken-refused, taken-moved, block-le}
 use borrow.Author.Needs.{needs}
 use Rattle.group.proofs.taken.Statement.{statement}
 use Rattle.group.proofs.taken.Tie as tie
+
+-- ---- the packet's bytes are known
+
+abbrev start : tie.After-block → tie.Start
+start c = c .before .before .before .before
+
+short : (c : tie.After-block) → c .block .result ≤ 90
+short c = omega (arith, c .block .ensures, block-le (start c .args .head))
+
+taken-long : (c : tie.After-block) → length (take (c .block .result) (start c .args .reading .bytes)) ≡ c .block .result
+taken-long c = length-take-le _ (start c .args .reading .bytes) (omega (arith, short c, start c .pre))
+
+-- ---- the answers
 
 dropped-requires : tie.Need-dropped-requires
 dropped-requires c κs = search needs
@@ -16,25 +29,37 @@ same-length : tie.Need-same-length
 same-length c = search needs
 
 returns : tie.Need-returns
-returns c = (let t = taken-refused (c .before .before .before .before .before .before .args .reading) (c .before .before .before .before .before .before .args .head) (c .before .before .before .before .before .before .args .slot .now) (c .before .before .before .before .before .before .pre .1 .0) (c .before .before .before .before .if1 .taken) in (t .0, c .before .before .dropped .ensures ∙ t .1))
+returns c =
+    let test = c .before .before .before .before in
+    let s = test .before .before in
+    let t = taken-refused (s .args .reading) (s .args .head) (s .args .slot .now) (s .pre .1 .0) (test .if1 .taken) in
+    (t .0, c .before .before .dropped .ensures ∙ t .1)
 
 block-requires : tie.Need-block-requires
 block-requires c κs = search needs
 
 array-share-prefix-bytes : tie.Need-array-share-prefix-bytes
-array-share-prefix-bytes c = omega (arith, c .before .block .ensures, block-le (c .before .before .before .before .before .args .head), c .before .before .before .before .before .pre)
+array-share-prefix-bytes c = omega (arith, short (c .before), start (c .before) .pre)
 
 slice-aggregate-moved : tie.Need-slice-aggregate-moved
-slice-aggregate-moved c = sym (length-take-le _ (c .before .before .before .before .before .before .args .reading .bytes) (omega (arith, c .before .before .block .ensures, block-le (c .before .before .before .before .before .before .args .head), c .before .before .before .before .before .before .pre)))
+slice-aggregate-moved c = sym (taken-long (c .before .before))
 
 moved-requires : tie.Need-moved-requires
-moved-requires c κs = (c .before .before .before .before .before .before .pre .0, (c .before .before .before .before .before .before .pre .1 .0, omega (arith, length-take-le (c .before .before .block .result) (c .before .before .before .before .before .before .args .reading .bytes) (omega (arith, c .before .before .block .ensures, block-le (c .before .before .before .before .before .before .args .head), c .before .before .before .before .before .before .pre)), c .before .before .block .ensures, block-le (c .before .before .before .before .before .before .args .head))))
+moved-requires c κs =
+    let b = c .before .before in
+    let s = start b in
+    (s .pre .0, (s .pre .1 .0, omega (arith, taken-long b, short b)))
 
 same-length-2 : tie.Need-same-length-2
 same-length-2 c = search needs
 
 returns-2 : tie.Need-returns-2
-returns-2 c = taken-moved (c .before .before .before .before .before .before .before .before .before .args .reading) (c .before .before .before .before .before .before .before .before .before .args .head) (c .before .before .before .before .before .before .before .before .before .args .slot .now) (c .before .before .before .before .before .before .before .before .before .pre .1 .0) _ _ _ (c .before .before .before .before .before .before .before .if1 .left) (c .before .before .moved .ensures .0) (ap (λ (n : ℕ). take n (c .before .before .before .before .before .before .before .before .before .args .reading .bytes)) (c .before .before .before .before .before .block .ensures)) (c .before .before .moved .ensures .1)
+returns-2 c =
+    let b = c .before .before .before .before .before in
+    let s = start b in
+    let r = s .args .reading in
+    taken-moved r (s .args .head) (s .args .slot .now) (s .pre .1 .0) _ _ _ (b .before .before .if1 .left) (c .before .before .moved .ensures .0)
+    (ap (λ (n : ℕ). take n (r .bytes)) (b .block .ensures)) (c .before .before .moved .ensures .1)
 
 pub taken-spec : {M : Type 1} → statement M
 taken-spec =

@@ -1,24 +1,13 @@
--- `group::whole` meets its contract: the packet's bytes at its place, the room kept and cleared, then the head. Assumes nothing.
-use Prim.Native.Nat.{ℕ, _*_}
-use lib.ListN.{length}
-use mathlib.Core.Path.{ap}
-use native.Mathlib.Omega.{arith}
-use Rattle.group.proofs.Doing.{whole-does}
+-- `group::whole` meets its contract: the room kept and cleared, then the head. Assumes nothing.
+use mathlib.Core.Path.{ap, ap₂, _∙_}
+use mathlib.Core.List.{List}
+use Prim.Native.Nat.{ℕ}
+use Rattle.bits.specs.Bits.{blank}
+use Rattle.slot.specs.Slot.{withHead, withUnfinished}
+use Rattle.group.specs.Group.{roomsKept}
 use borrow.Author.Needs.{needs}
 use Rattle.group.proofs.whole.Statement.{statement}
 use Rattle.group.proofs.whole.Tie as tie
-
-cast-copy : tie.Need-cast-copy
-cast-copy c = search needs
-
-mul-copy : tie.Need-mul-copy
-mul-copy c = omega (arith, c .before .before .before .before .pre, ap (λ (x : ℕ). x * length (c .before .before .before .before .args .bytes .now)) (c .before .before .before .before .pre .1 .1 .1))
-
-copy-requires : tie.Need-copy-requires
-copy-requires c κs = omega (arith, c .before .before .before .before .pre, ap (λ (x : ℕ). x * length (c .before .before .before .before .args .bytes .now)) (c .before .before .before .before .pre .1 .1 .1))
-
-mul-keep : tie.Need-mul-keep
-mul-keep c = search needs
 
 keep-requires : tie.Need-keep-requires
 keep-requires c κs = search needs
@@ -36,19 +25,16 @@ same-length : tie.Need-same-length
 same-length c = search needs
 
 returns : tie.Need-returns
-returns c = whole-does (c .before .before .before .before .before .before .before .before .before .before .before .before .before .before .before .before .before .before .before .before .args .slot .now) (c .before .before .before .before .before .before .before .before .before .before .before .before .before .before .before .before .before .before .before .before .args .bytes .now) (c .before .before .before .before .before .before .before .before .before .before .before .before .before .before .before .before .before .before .before .before .args .head) (c .before .before .before .before .before .before .before .before .before .before .before .before .before .before .before .before .before .before .before .before .pre .0) (c .before .before .before .before .before .before .before .before .before .before .before .before .before .before .before .before .before .before .before .before .pre .1 .0) (c .before .before .before .before .before .before .before .before .before .before .before .before .before .before .before .before .before .before .before .before .pre .1 .1 .0) _ _ _ _ _ (omega (arith, c .before .before .before .before .before .before .before .before .before .before .before .before .before .before .before .before .before .before .before .before .pre .1 .1 .1)) (c .before .before .before .before .before .before .before .before .before .before .before .before .before .before .before .copy .ensures) (c .before .before .before .before .before .before .before .before .before .before .before .keep .ensures) (c .before .before .before .before .before .before .before .empty .ensures) (c .before .before .before .before .whole .ensures) (c .before .before .store .ensures)
+unfolding roomsKept
+returns c =
+    let stored = c .before .before in
+    let changed = stored .before .before in
+    let emptied = changed .before .before .before in
+    let keeps = emptied .before .before .before .before in
+    stored .store .ensures
+    ∙ ap₂ withHead (changed .whole .ensures) (emptied .empty .ensures ∙ ap (withUnfinished (blank 360)) (keeps .keep .ensures))
 
 pub whole-spec : {M : Type 1} → statement M
 whole-spec =
     tie.close
-    (tie.spec
-    cast-copy
-    mul-copy
-    copy-requires
-    mul-keep
-    keep-requires
-    empty-requires
-    whole-requires
-    store-requires
-    same-length
-    returns)
+    (tie.spec keep-requires empty-requires whole-requires store-requires same-length returns)
