@@ -3,7 +3,7 @@
 ghost use mathlib.Core.Path.{_≡_};
 ghost use Prim.Native.Nat.{_<_, _≤_};
 ghost use lib.ListN.{length};
-ghost use Rattle.slot.specs.Slot.{headOf, withHead};
+ghost use Rattle.slot.specs.Slot.{slotSize, roomSize, headOf, withHead};
 ghost use Rattle.head.specs.Head.{wholeHead};
 ghost use Rattle.head.specs.Move.{moveNumber, rowAt, placeAt};
 ghost use Rattle.group.specs.Group.{blockOf, slotJoined, roomsKept, slotMoved, slotDropped, takenNumber, takenAfter};
@@ -98,7 +98,7 @@ fn joined(slot: &mut [u8], place: u8, bytes: &[u8])
 // Answer 3: what is held becomes the last whole group.
 fn whole(slot: &mut [u8], head: Head, len: usize)
     requires { ⌜ length (now slot) ≡ slotSize ⌝ }
-    requires { ⌜ len ≤ 360 ⌝ }
+    requires { ⌜ len ≤ roomSize ⌝ }
     ensures { λ _. ⌜ now (slot .exit) ≡ withHead (wholeHead head) (roomsKept len (now (slot .entry))) ⌝ }
 {
     room::keep(slot, len);

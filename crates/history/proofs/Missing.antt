@@ -22,7 +22,7 @@ use native.Mathlib.Omega.{arith}
 use native.Mathlib.Decide.{decLe}
 use lib.Dec.{leb, eqb, lit<}
 use borrow.Author.Tests.{le-leb, lt-leb}
-use Rattle.head.specs.Head.{newHead, shown}
+use Rattle.head.specs.Head.{wishOf, newHead, shown}
 use Rattle.head.specs.Move.{Move, started, held, whole, outOfStep, perOf, needsOf, moveOf, movedHead}
 use Rattle.head.specs.declared.Head.{Head}
 use Rattle.head.proofs.Moves.{move-whole}
@@ -234,7 +234,7 @@ rising-top i (k ∷ which) (l, r) =
 
 -- a slot that holds nothing
 unfoldable holding : ℕ → Followed
-holding per = record { per = per; needs = per; head = newHead 0 0 0; unfinished = []; last = [] }
+holding per = record { per = per; needs = per; head = newHead (wishOf 0 0 0); unfinished = []; last = [] }
 
 abbrev Ended : ℕ → List Arrival → Type 0
 Ended per h = ((i : ℕ) → Readable per h i → ⊥) ⊎ ((i : ℕ) × (l : List Arrival) × Last per h i l)

@@ -101,7 +101,7 @@ unfoldable single : ℕ → List ℕ → Followed
 single awaited unfinished = record {
   per = 1;
   needs = 1;
-  head = record { address = 17; limit = 2; age = 0; protection = 0; awaited = awaited; group = 0; gap = 0 };
+  head = record { wish = wishOf 17 0 2; age = 0; awaited = awaited; group = 0; gap = 0 };
   unfinished = unfinished;
   last = [];
 }
