@@ -35,7 +35,7 @@ use Rattle.packet.proofs.Vectors.{shielded, shielded-sent}
 use Rattle.runs.specs.Part.{part}
 use Rattle.slot.specs.Slot.{headOf}
 use Rattle.head.specs.Head.{wishOf, newHead}
-use Rattle.head.specs.Move.{moveOf, moveNumber}
+use Rattle.head.specs.Move.{perOf, needsOf, rowOf, moveOf, moveNumber}
 use Rattle.head.specs.declared.Head.{Head}
 use Rattle.table.specs.State.{slots, slotAt, find}
 use Rattle.table.proofs.Looking.{state-34}
@@ -167,5 +167,5 @@ shielded-read : received true shielded ≡ partAs 0 words.counting
 shielded-read = ap (received true) (sym shielded-sent) ∙ received-sent true 17 0 words.counting (lit≤ tt) (lit≤ tt) refl bytes
 
 pub starts : calls.packetAnswer followed shielded ≡ 1
-unfolding takenNumber further moveOf moveNumber headerOf spareOf number sent bitsOf
+unfolding takenNumber further perOf needsOf rowOf moveOf moveNumber headerOf spareOf number sent bitsOf
 starts = arrived shielded refl refl refl ∙ ap (λ (r : Reading). takenNumber r (newHead (wishOf 17 1 2))) shielded-read

@@ -28,13 +28,13 @@ use Rattle.packet.specs.declared.Reading.{Reading}
 use Rattle.packet.proofs.Answers.{received-length, received-either}
 use Rattle.slot.specs.Slot.{headOf, goodSlot}
 use Rattle.head.specs.Head.{droppedHead, goodHead}
-use Rattle.head.specs.Move.{Move, started, held, whole, outOfStep, moveOf, movedHead}
+use Rattle.head.specs.Move.{Move, started, held, whole, outOfStep, movedHead, rowAt, placeAt}
 use Rattle.head.specs.declared.Head.{Head}
 use Rattle.slot.proofs.Goods.{good-slot}
 use Rattle.head.proofs.Bounds.{good-dropped}
 use Rattle.group.specs.Group.{blockOf, slotMoved, slotDropped, takenNumber, takenAfter}
 use Rattle.group.proofs.Doing.{block-le}
-use Rattle.group.proofs.Laws.{Fits, moveOf-wants, moved-size, moved-good, moved-head, dropped-size, dropped-head}
+use Rattle.group.proofs.Laws.{Fits, row-fits, moved-size, moved-good, moved-head, dropped-size, dropped-head}
 use Rattle.history.specs.Followed.{Reason, typeUnreadable, typeReserved, typeScrambled, wordUnreadable, number, Event, ended, after, answer}
 use Rattle.history.specs.Followed as one
 use Rattle.adapter.specs.Calls.{addressOf, readingAt}
@@ -107,28 +107,28 @@ module _ (x image : List ℕ) (l : length x ≡ 736) (g : goodHead (headOf x) �
   b = take (dataSize p) (r .bytes)
 
   abbrev mv : Move
-  mv = moveOf (headOf x .awaited) (r .index)
+  mv = rowAt (headOf x) (r .index)
 
-  fits : Fits mv (r .index) b x
-  fits = record {
-    size = l;
-    good = g;
-    block = length-take-le (dataSize p) (r .bytes) (omega (arith, received-length p image, block-size (headOf x), block-le (headOf x))) ∙ block-size (headOf x);
-    index = moveOf-wants (headOf x .awaited) (r .index);
-  }
+  abbrev place : ℕ
+  place = placeAt (headOf x) (r .index)
+
+  fits : Fits mv place b x
+  fits =
+      row-fits (r .index) b x l g
+      (length-take-le (dataSize p) (r .bytes) (omega (arith, received-length p image, block-size (headOf x), block-le (headOf x))) ∙ block-size (headOf x))
 
   read-does : r .number ≡ 0 → Does (one.packet (r .index) b) x (takenAfter r x) (takenNumber r (headOf x))
   unfolding takenAfter takenNumber after answer seenIn
   read-does z =
-      let e : takenAfter r x ≡ slotMoved mv (r .index) b x =
+      let e : takenAfter r x ≡ slotMoved mv place b x =
       done-passed (r .number) _ (slotDropped x) z
-      ∙ ap (λ (n : ℕ). slotMoved mv (r .index) (take n (r .bytes)) x) (sym (block-size (headOf x))) in
-      let h : headOf (takenAfter r x) ≡ movedHead mv (headOf x) = ap headOf e ∙ moved-head mv (r .index) b x fits in
+      ∙ ap (λ (n : ℕ). slotMoved mv place (take n (r .bytes)) x) (sym (block-size (headOf x))) in
+      let h : headOf (takenAfter r x) ≡ movedHead mv (headOf x) = ap headOf e ∙ moved-head mv place b x fits in
       record {
-        size = ap length e ∙ moved-size mv (r .index) b x fits;
-        good = good-slot (takenAfter r x) (ap goodHead h ∙ moved-good mv (r .index) b x fits);
+        size = ap length e ∙ moved-size mv place b x fits;
+        good = good-slot (takenAfter r x) (ap goodHead h ∙ moved-good mv place b x fits);
         address = ap (λ (y : Head). y .address) h ∙ moved-address mv (headOf x);
-        seen = ap seenIn e ∙ view-moved mv (r .index) b x fits;
+        seen = ap seenIn e ∙ view-moved mv place b x fits;
         number = further-passed (r .number) _ z;
       }
 

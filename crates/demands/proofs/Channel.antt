@@ -56,7 +56,7 @@ worked = arrives 0 2 (as-sent 0 2) ∷ arrives 0 3 (as-sent 0 3) ∷ from-1
 -- packet c of group i follows the one before it, and its image is received with the number m
 comes : (i c m : ℕ) {image : List ℕ} → c < 4 → Receives i c image m → Comes true 17 worked-sent (4 * i + c) i c image
 comes i c m h r =
-    record { next = record { index = h; once = omega arith; lost = omega arith }; came = r .came; spare = r .spare }
+    record { next = record { index = h; once = omega arith; lost = λ l. omega arith }; came = r .came; spare = r .spare }
 
 -- the image is as it was sent
 whole : (i c : ℕ) → c < 4 → Comes true 17 worked-sent (4 * i + c) i c (as-sent i c)
@@ -65,14 +65,14 @@ whole i c h = comes i c 0 h (sent-receives i c h)
 -- packet 9 is awaited, and packet 12 comes
 late : Comes true 17 worked-sent 9 3 0 (as-sent 3 0)
 late = record {
-  next = record { index = lit< tt; once = lit≤ tt; lost = lit≤ tt };
+  next = record { index = lit< tt; once = lit≤ tt; lost = λ l. lit≤ tt };
   came = sent-receives 3 0 (lit< tt) .came;
   spare = sent-receives 3 0 (lit< tt) .spare;
 }
 
 -- so that exactly three were lost
-pub three-lost : Next 2 9 3 0 → ⊥
-three-lost q = omega (arith, q .lost)
+pub three-lost : Next 4 2 9 3 0 → ⊥
+three-lost q = omega (arith, q .lost (lit< tt))
 
 meets-5 : Channel true 17 worked-sent 20 from-5
 unfolding from-5 Channel

@@ -60,13 +60,13 @@ module _ (p : Bool) (a c : ℕ) (d image : List ℕ) (ha : a ≤ 1023) (hc : c <
 
 -- ---- arrivals
 
-next-by : (m n i c : ℕ) (h : List sent.Arrival) → sent.Next 3 n i c → sent.InOrder 3 (suc (4 * i + c)) h
-    → sent.InOrder 3 n (arrivalBy m i c ∷ h)
+next-by : (m n i c : ℕ) (h : List sent.Arrival) → sent.Next 4 3 n i c → sent.InOrder 4 3 (suc (4 * i + c)) h
+    → sent.InOrder 4 3 n (arrivalBy m i c ∷ h)
 unfolding arrivalBy sent.InOrder
 next-by zero n i c h x y = (x, y)
 next-by (suc m) n i c h x y = (x, y)
 
-passing-order : (x : Call) (n : ℕ) (h : List sent.Arrival) → sent.InOrder 3 n h → sent.InOrder 3 n (passing x ++ h)
+passing-order : (x : Call) (n : ℕ) (h : List sent.Arrival) → sent.InOrder 4 3 n h → sent.InOrder 4 3 n (passing x ++ h)
 unfolding passing sent.InOrder
 passing-order start n h o = o
 passing-order (follow b p l) n h o = o
@@ -75,7 +75,7 @@ passing-order (packet image) n h o = o
 passing-order subframeEnd n h o = o
 passing-order (ask b) n h o = o
 
-pub channel-order : (p : Bool) (a : ℕ) (s : sent.Sent) (n : ℕ) (h : List Happening) → Channel p a s n h → sent.InOrder 3 n (arrivals p h)
+pub channel-order : (p : Bool) (a : ℕ) (s : sent.Sent) (n : ℕ) (h : List Happening) → Channel p a s n h → sent.InOrder 4 3 n (arrivals p h)
 unfolding Channel arrivals sent.InOrder
 channel-order p a s n [] ch = tt
 channel-order p a s n (arrives i c image ∷ h) ch =

@@ -11,7 +11,7 @@ use mathlib.Core.Path.{_≡_, refl, sym, ap, ap₂, _∙_, subst}
 use mathlib.Core.Bool.{true, cond}
 use mathlib.Core.List.{List, _++_}
 use mathlib.Core.Logic.{_⊎_, inl, inr}
-use Prim.Native.Nat.{ℕ, zero, _+_, _-_, _*_, _≤_, _<_}
+use Prim.Native.Nat.{ℕ, zero, suc, _+_, _-_, _*_, _≤_, _<_}
 use native.Mathlib.Omega.{arith}
 use native.Mathlib.Nat.{one-mul, add-mul, mul-le-mul-right}
 use native.Mathlib.Decide.{ℕ-discrete}
@@ -26,7 +26,7 @@ use Rattle.packet.proofs.Answers.{received-length}
 use Rattle.runs.specs.Part.{part, put}
 use Rattle.slot.specs.Slot.{roomSize, slotSize, headOf, withHead, unfinished, stored, withUnfinished, kept, free, goodSlot}
 use Rattle.head.specs.Head.{newHead, agedHead, goodHead}
-use Rattle.head.specs.Move.{Move, started, held, whole, outOfStep, moveOf, movedHead}
+use Rattle.head.specs.Move.{Move, started, held, whole, outOfStep, movedHead, rowAt, placeAt}
 use Rattle.head.specs.declared.Head.{Head}
 use Rattle.runs.proofs.Parts.{part-length}
 use Rattle.slot.proofs.Laws.{unfinished-room, unfinished-put, unfinished-length}
@@ -40,14 +40,14 @@ use Rattle.table.proofs.Looking.{Passed, state-passed}
 use Rattle.table.proofs.Kept.{part-blank, Followed, follow-passed, leave-passed, done-either}
 use Rattle.table.proofs.Doing.{start-passed}
 use Rattle.asking.specs.Asking.{groupLength}
-use Rattle.group.specs.Group.{blockOf, placed, roomsMoved, slotMoved, slotDropped, takenAfter}
-use Rattle.group.proofs.Laws.{Wants, Fits, moveOf-wants, moved-head, started-stored, held-stored, whole-room, whole-stored, dropped-room, dropped-stored, dropped-head}
-use Rattle.group.proofs.Doing.{placed-length, out-drops, block-le}
+use Rattle.group.specs.Group.{blockOf, placed, begunRoom, slotJoined, roomsMoved, slotMoved, slotDropped, takenAfter}
+use Rattle.group.proofs.Laws.{Fits, row-fits, moved-head, started-stored, held-stored, whole-room, whole-stored, dropped-room, dropped-stored, dropped-head}
+use Rattle.group.proofs.Doing.{begun-length, room-length, joined-length, out-drops, block-le}
 use Rattle.adapter.specs.Calls.{addressOf, readingAt, packetAfter}
 use Rattle.adapter.proofs.Laws.{packet-refused}
 use Rattle.demands.specs.Machine.{Call, start, follow, leave, packet, subframeEnd, ask, ours, ourAfter}
 use Rattle.demands.specs.Clean.{heldLength, shownLength, CleanSlot, Clean, StaysClean}
-use Rattle.demands.proofs.View.{group-four}
+use Rattle.demands.proofs.View.{group-four, needs-four}
 use Rattle.demands.proofs.Serving.{here-size, here-good, older, ages-at}
 use Rattle.demands.proofs.Parts.{by-place, placed-serves, placed-here, placed-others}
 
@@ -114,45 +114,54 @@ held-next h g c b lb ep ea =
     ap₂ (λ (i j : ℕ). i * j) ea (ap (λ (p : ℕ). cond (eqb p 1) 45 90) ep ∙ sym lb) ∙ add-mul c 1 (length b)
     ∙ ap (λ (n : ℕ). c * length b + n) (one-mul (length b))
 
+-- what a packet is joined on to is clear behind the packets before it
+begun-clear : (c : ℕ) (b x : List ℕ) → CleanSlot x → (c ≡ 0) ⊎ (c ≡ headOf x .awaited) → length b ≡ blockOf (headOf x)
+    → Clear (c * length b) (begunRoom c (unfinished x))
+unfolding begunRoom heldLength
+begun-clear zero b x k at e = blank-clear (0 * length b)
+begun-clear (suc c) b x k (inl z) e = absurd (omega arith)
+begun-clear (suc c) b x k (inr p) e = clear-by _ _ _ _ (ap₂ (λ (i j : ℕ). i * j) p e) refl (k .unfinished)
+
 module _ (c : ℕ) (b x : List ℕ) (k : CleanSlot x) where
-  started-clean : Fits started c b x → CleanSlot (slotMoved started c b x)
-  unfolding slotMoved roomsMoved movedHead
-  started-clean f =
+  abbrev room : List ℕ
+  room = placed c b (begunRoom c (unfinished x))
+
+  -- c packets are held and one more
+  joined-clean : (mv : Move) → Fits mv c b x → (c ≡ 0) ⊎ (c ≡ headOf x .awaited) → movedHead mv (headOf x) .awaited ≡ c + 1
+      → movedHead mv (headOf x) .protection ≡ headOf x .protection → movedHead mv (headOf x) .group ≡ headOf x .group
+      → slotMoved mv c b x ≡ withHead (movedHead mv (headOf x)) (withUnfinished room x) → stored (slotMoved mv c b x) ≡ stored x
+      → CleanSlot (slotMoved mv c b x)
+  joined-clean mv f at ea ep eg es et =
       let h = headOf x in
       let lb : length b ≤ 90 = omega (arith, f .block, block-le h) in
-      let room = placed 0 b (blank roomSize) in
-      let head = moved-head started c b x f in
-      clean-by (slotMoved started c b x) _ _ room (stored x) (ap heldLength head ∙ held-next h _ 0 b (f .block) refl refl)
-      (ap shownLength head ∙ shown-same _ h refl refl)
-      (room-now _ room x (f .size) (placed-length 0 b (blank roomSize) (blank-length roomSize) (omega arith) lb)) (started-stored c b x f)
-      (placed-clear 0 b (blank roomSize) (blank-length roomSize) (omega arith) lb (blank-clear (0 * length b))) (k .whole)
+      let head = moved-head mv c b x f in
+      clean-by (slotMoved mv c b x) _ _ room (stored x) (ap heldLength head ∙ held-next h _ c b (f .block) ep ea)
+      (ap shownLength head ∙ shown-same _ h eg ep)
+      (ap unfinished es ∙ room-now _ room x (f .size) (room-length c x b (f .size) (f .place) lb)) et
+      (placed-clear c b (begunRoom c (unfinished x)) (begun-length c (unfinished x) (unfinished-room x (f .size))) (f .place) lb
+      (begun-clear c b x k at (f .block))) (k .whole)
+
+  started-clean : Fits started c b x → CleanSlot (slotMoved started c b x)
+  unfolding slotMoved roomsMoved slotJoined movedHead
+  started-clean f =
+      joined-clean started f (inl (f .row .0)) (ap (λ (i : ℕ). i + 1) (sym (f .row .0))) refl refl refl (started-stored c b x f)
 
   held-clean : Fits held c b x → CleanSlot (slotMoved held c b x)
-  unfolding slotMoved roomsMoved movedHead heldLength Wants
-  held-clean f =
-      let h = headOf x in
-      let lb : length b ≤ 90 = omega (arith, f .block, block-le h) in
-      let lu = unfinished-room x (f .size) in
-      let most : c ≤ 3 = omega (arith, f .index .1) in
-      let room = placed c b (unfinished x) in
-      let head = moved-head held c b x f in
-      let before : c * length b ≡ heldLength h = ap₂ (λ (i j : ℕ). i * j) (f .index .0) (f .block) in
-      clean-by (slotMoved held c b x) _ _ room (stored x)
-      (ap heldLength head ∙ held-next h _ c b (f .block) refl (ap (λ (i : ℕ). i + 1) (sym (f .index .0))))
-      (ap shownLength head ∙ shown-same _ h refl refl)
-      (room-now _ room x (f .size) (placed-length c b (unfinished x) lu most lb)) (held-stored c b x f)
-      (placed-clear c b (unfinished x) lu most lb (clear-by _ _ _ _ before refl (k .unfinished))) (k .whole)
+  unfolding slotMoved roomsMoved slotJoined movedHead
+  held-clean f = joined-clean held f (inr (f .row .0)) (ap (λ (i : ℕ). i + 1) (sym (f .row .0))) refl refl refl (held-stored c b x f)
 
   whole-clean : Fits whole c b x → CleanSlot (slotMoved whole c b x)
-  unfolding movedHead shownLength Wants blockOf
+  unfolding movedHead shownLength blockOf
   whole-clean f =
       let h = headOf x in
       let lb : length b ≤ 90 = omega (arith, f .block, block-le h) in
-      let room = placed c b (unfinished x) in
-      let lr = placed-length c b (unfinished x) (unfinished-room x (f .size)) (omega (arith, f .index .1)) lb in
-      clean-by (slotMoved whole c b x) _ (4 * length b) _ _ refl
-      (ap shownLength (moved-head whole c b x f) ∙ group-four (movedHead whole h) ∙ ap (λ (n : ℕ). 4 * n) (sym (f .block)))
-      (whole-room c b x f) (whole-stored c b x f) (blank-clear _) (kept-clear (4 * length b) room (omega arith))
+      let n = (c + 1) * length b in
+      let four : 4 ≡ c + 1 = omega (arith, f .place, f .row .1, needs-four h) in
+      let size : n ≡ 4 * length b = ap (λ (i : ℕ). i * length b) (sym four) in
+      let long = unfinished-room (slotJoined c b x) (joined-length c x b (f .size) (f .place) lb) in
+      clean-by (slotMoved whole c b x) _ n _ _ refl
+      (ap shownLength (moved-head whole c b x f) ∙ group-four (movedHead whole h) ∙ ap₂ (λ (i j : ℕ). i * j) four (sym (f .block)))
+      (whole-room c b x f) (whole-stored c b x f) (blank-clear _) (kept-clear n (unfinished (slotJoined c b x)) (omega arith))
 
 moved-clean : (mv : Move) (c : ℕ) (b x : List ℕ) → Fits mv c b x → CleanSlot x → CleanSlot (slotMoved mv c b x)
 moved-clean started c b x f k = started-clean c b x k f
@@ -167,14 +176,10 @@ taken-clean x image l g k = go (ℕ-discrete (r .number) 0)
     r : Reading
     r = readingAt x image
 
-    fits : Fits (moveOf (headOf x .awaited) (r .index)) (r .index) (take (blockOf (headOf x)) (r .bytes)) x
-    fits = record {
-      size = l;
-      good = g;
-      block = length-take-le (blockOf (headOf x)) (r .bytes)
-          (omega (arith, received-length (eqb (headOf x .protection) 1) image, block-le (headOf x)));
-      index = moveOf-wants (headOf x .awaited) (r .index);
-    }
+    fits : Fits (rowAt (headOf x) (r .index)) (placeAt (headOf x) (r .index)) (take (blockOf (headOf x)) (r .bytes)) x
+    fits =
+        row-fits (r .index) (take (blockOf (headOf x)) (r .bytes)) x l g
+        (length-take-le (blockOf (headOf x)) (r .bytes) (omega (arith, received-length (eqb (headOf x .protection) 1) image, block-le (headOf x))))
 
     go : Dec (r .number ≡ 0) → CleanSlot (takenAfter r x)
     go (yes z) = subst CleanSlot (sym (done-passed (r .number) _ (slotDropped x) z)) (moved-clean _ _ _ x fits k)

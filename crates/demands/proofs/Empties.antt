@@ -19,7 +19,7 @@ use lib.ListN.{getD}
 use Rattle.bits.specs.Bits.{blank}
 use Rattle.bits.proofs.Storing.{blank-length}
 use Rattle.head.specs.Head.{shown}
-use Rattle.head.specs.Move.{moveOf, moveNumber, movedHead}
+use Rattle.head.specs.Move.{perOf, needsOf, rowOf, moveOf, moveNumber, movedHead}
 use Rattle.table.specs.State.{find}
 use Rattle.table.specs.Calls.{followAnswer, followAfter, endAfter}
 use Rattle.table.proofs.Looking.{leave-27}
@@ -46,7 +46,7 @@ use Rattle.demands.proofs.Turns.{begun-at, first-step, four, four-event
 
 -- ---- what any machine that meets the demand hands out of the group of zeros
 
-module _ (out : List (List ℕ)) (x : Exactly zeros (Arrived false whole-group) out) where
+module _ (out : List (List ℕ)) (x : Exactly 4 zeros (Arrived false whole-group) out) where
   -- something
   something : out ≡ [] → ⊥
   unfolding groups In
@@ -56,7 +56,7 @@ module _ (out : List (List ℕ)) (x : Exactly zeros (Arrived false whole-group) 
       isSome [] = false
       isSome (y ∷ ys) = true
 
-      go : (which : List ℕ) → In 0 which → groups zeros which ≡ [] → ⊥
+      go : (which : List ℕ) → In 0 which → groups 4 zeros which ≡ [] → ⊥
       go [] i q = i
       go (j ∷ which) i q = subst T (ap isSome q) tt
 
@@ -74,7 +74,7 @@ module _ (out : List (List ℕ)) (x : Exactly zeros (Arrived false whole-group) 
       isSome [] = false
       isSome (y ∷ ys) = true
 
-      go : (which : List ℕ) → groups zeros which ≡ [] ∷ rest → ⊥
+      go : (which : List ℕ) → groups 4 zeros which ≡ [] ∷ rest → ⊥
       go [] q = subst T (sym (ap isSome q)) tt
       go (j ∷ which) q = subst T (ap first q) tt
 
@@ -88,7 +88,7 @@ module _ (m : Machine) (d : Demand3 m) where
   abbrev begun : List ℕ
   begun = m .after (follow 17 0 2) empty-state
 
-  handed : Exactly zeros (Arrived false whole-group) (handedOut m 17 (calls whole-group) begun)
+  handed : Exactly 4 zeros (Arrived false whole-group) (handedOut m 17 (calls whole-group) begun)
   handed = d .exactly empty-state 17 0 2 yes-2 zeros zeros-carried 0 whole-group whole-channel
 
 -- ---- one fixed answer
@@ -195,7 +195,7 @@ nod-step c image h s ei ea =
     ∙ ap (λ (n : ℕ). cond (eqb n 3) (askPart s 17 ∷ handedOut nodding 17 h s) (handedOut nodding 17 h s)) (nods-same c (packetAnswer s image))
 
 pub nodding-fails : Demand3 nodding → ⊥
-unfolding calls callOf handedOut handsOut leaving answerTo leaves nods one.followed one.after one.answer one.moved one.lastOf moveOf moveNumber
+unfolding calls callOf handedOut handsOut leaving answerTo leaves nods one.followed one.after one.answer one.moved one.begun one.lastOf perOf needsOf rowOf moveOf moveNumber
 nodding-fails d =
     let t = begun-at 2 in
     let one-step = first-step 2 yes-2 in
@@ -224,7 +224,7 @@ module _ (m : Machine) (d : Demand3 m) (h : List Call) (st : AllStay 17 (four ++
       ∙ ap (λ (es : List one.Event). called 1 (told es (one.followed 17 0 1) [])) (four-then h)
 
 pub still-fails : Demand3 still → ⊥
-unfolding told entry run leaving AllStay Stays ourAnswer eventsOf eventsAt one.followed one.after one.answer one.moved one.joined one.lastOf one.aged moveOf moveNumber movedHead shown called anyWhole isWhole sinceWhole ends marked
+unfolding told entry run leaving AllStay Stays ourAnswer eventsOf eventsAt one.followed one.after one.answer one.moved one.begun one.joined one.lastOf one.aged perOf needsOf rowOf moveOf moveNumber movedHead shown called anyWhole isWhole sinceWhole ends marked
 still-fails d =
     let same : (f : one.Followed) → f .head .protection ≡ f .head .protection = λ f. refl in
     let fresh : asked _ 17 .number ≡ 5 = asks 1 yes-1 (λ s. s) (λ f. f) (λ s f k. k) same in
@@ -233,7 +233,7 @@ still-fails d =
     omega arith
 
 pub aging-fails : Demand3 aging → ⊥
-unfolding told entry run leaving AllStay Stays ourAnswer eventsOf one.followed one.after one.answer one.moved one.joined one.lastOf one.aged moveOf moveNumber movedHead shown called anyWhole isWhole sinceWhole ends marked
+unfolding told entry run leaving AllStay Stays ourAnswer eventsOf one.followed one.after one.answer one.moved one.begun one.joined one.lastOf one.aged perOf needsOf rowOf moveOf moveNumber movedHead shown called anyWhole isWhole sinceWhole ends marked
 aging-fails d =
     let same : (f : one.Followed) → one.aged f .head .protection ≡ f .head .protection = λ f. refl in
     let stale : asked _ 17 .number ≡ 7 = asks 1 yes-1 endAfter one.aged end-step same in

@@ -97,7 +97,7 @@ pub comes-at : (a : ℕ) → a ≤ 1023 → (c : ℕ) → c < 4 → Comes false 
 comes-at a ha c h =
     let image = sentImage false a c (blank 90) in
     record {
-      next = record { index = h; once = omega arith; lost = omega arith };
+      next = record { index = h; once = omega arith; lost = λ l. omega arith };
       came = corrected-came false image image (sent-corrected false a c (blank 90));
       spare = sent-spare false a c (blank 90) ha (omega arith) (blank-length 90) (bytes-zero 90);
     }

@@ -27,7 +27,7 @@ use Rattle.packet.proofs.Answers.{received-either}
 use Rattle.runs.specs.Part.{part}
 use Rattle.slot.specs.Slot.{headOf, unfinished, stored}
 use Rattle.head.specs.Head.{shown}
-use Rattle.head.specs.Move.{Move, started, held, whole, outOfStep, moveOf, moveNumber}
+use Rattle.head.specs.Move.{Move, started, held, whole, outOfStep, moveNumber, rowAt, placeAt}
 use Rattle.head.specs.declared.Head.{Head}
 use Rattle.table.specs.State.{stateSize, slotAt, find}
 use Rattle.table.specs.Calls.{startAnswer, startAfter, followAnswer, followAfter, leaveAnswer, leaveAfter, endAnswer, endAfter}
@@ -115,7 +115,7 @@ refused-in r (inr (inr (inr e))) = inr (inr (inr (inl e)))
 
 taken-in : (r : Reading) (h : Head) → (r .number ≡ 0) ⊎ Refused r → In (takenNumber r h) placedNumbers
 unfolding takenNumber
-taken-in r h (inl z) = subst (λ (n : ℕ). In n placedNumbers) (sym (further-passed (r .number) _ z)) (move-in (moveOf (h .awaited) (r .index)))
+taken-in r h (inl z) = subst (λ (n : ℕ). In n placedNumbers) (sym (further-passed (r .number) _ z)) (move-in (rowAt h (r .index)))
 taken-in r h (inr f) =
     subst (λ (n : ℕ). In n placedNumbers) (sym (further-refused (r .number) _ (refused-not-zero r f)))
     (in-every (r .number) dropping placedNumbers tt (refused-in r f))
@@ -137,7 +137,7 @@ taken-drops : (r : Reading) (x : List ℕ) → (r .number ≡ 0) ⊎ Refused r �
 unfolding takenNumber takenAfter
 taken-drops r x (inl z) h =
     done-passed (r .number) _ (slotDropped x) z
-    ∙ move-drops (moveOf (headOf x .awaited) (r .index)) (r .index) _ x (subst (λ (n : ℕ). In n dropping) (further-passed (r .number) _ z) h)
+    ∙ move-drops (rowAt (headOf x) (r .index)) (placeAt (headOf x) (r .index)) _ x (subst (λ (n : ℕ). In n dropping) (further-passed (r .number) _ z) h)
 taken-drops r x (inr f) h = done-refused (r .number) _ (slotDropped x) (refused-not-zero r f)
 
 module _ (s image : List ℕ) (p : Placed s image) where

@@ -10,19 +10,24 @@ use mathlib.Core.Path.{_≡_, refl, sym, ap, ap₂, _∙_, subst}
 use mathlib.Core.Bool.{Bool, true, false, cond, not, _&&_, _||_}
 use mathlib.Core.List.{List, [], _∷_}
 use mathlib.Core.Logic.{inl, inr}
-use Prim.Native.Nat.{ℕ, zero, suc, _≤_}
+use Prim.Native.Nat.{ℕ, zero, suc, _+_, _^_, _<_}
+use native.Mathlib.Nat.{mod-eq-of-lt}
 use native.Mathlib.Omega.{arith}
-use native.Mathlib.Decide.{ℕ-discrete}
+use native.Mathlib.Decide.{ℕ-discrete, decLt}
 use borrow.Author.Tests.{eqb-true, eqb-false, ltb-false, eq-eqb}
 use lib.Dec.{leb, ltb, eqb}
 use lib.ListN.{length}
 use Rattle.bits.specs.Rows.{Row, row, refusal, further, given}
 use Rattle.bits.proofs.Rows.{further-passed, further-refused}
 use Rattle.bare.specs.Bare.{headerRead, headerWritten, wordRead, wordWritten, typeRead, typeWritten}
+use Rattle.bare.specs.declared.Header.{Header}
+use Rattle.bare.proofs.Bare.{header-large}
+use Rattle.bare.proofs.Theorems.{header-exactly}
+use Rattle.image.specs.Image.{headerOf}
 use Rattle.packet.specs.Received.{typeOf, usefulOf, unreadable, receivedNumber, received}
 use Rattle.slot.specs.Slot.{headOf}
 use Rattle.head.specs.Head.{shown, within}
-use Rattle.head.specs.Move.{started, held, whole, outOfStep, moveOf, moveNumber}
+use Rattle.head.specs.Move.{started, held, whole, outOfStep, perOf, needsOf, rowOf, moveOf, moveNumber}
 use Rattle.head.specs.declared.Head.{Head}
 use Rattle.table.specs.State.{slotAt, find}
 use Rattle.table.specs.Calls.{startAnswer, followAnswer, leaveAnswer, endAnswer}
@@ -34,8 +39,7 @@ use Rattle.adapter.specs.Calls.{addressOf, unplaced, readingAt, slotAnswer, pac
 use Rattle.adapter.proofs.Laws.{Placed, placed-zero, packet-refused}
 use Rattle.demands.specs.Machine.{Call, start, follow, leave, packet, subframeEnd, ask, ourAnswer, Bare, readHeader, writeHeader, readWord, writeWord, readType, writeType, bareNumber}
 use Rattle.demands.specs.Rows.{indexOf, slotRows, rowsOf, ownNumbers, writeRows, bareRows, Answers}
-use Rattle.demands.proofs.Serving.{here-bounds}
-use Rattle.demands.proofs.Parts.{asked-number, by-place, placed-serves, placed-answer}
+use Rattle.demands.proofs.Parts.{asked-number, by-place, placed-answer}
 
 -- where the answer is what the order gives, 0 is the only number of the call's own
 answers-same : (rows : List Row) (n : ℕ) → n ≡ refusal rows → Answers rows (0 ∷ []) n
@@ -53,7 +57,7 @@ stepRows b28 b3F bC7 bF8 b31 out = row b28 28 ∷ row (b3F || bC7) 29 ∷ row bF
 abbrev stepNumber : Bool → Bool → Bool → Bool → Bool → ℕ → ℕ → ℕ
 stepNumber b28 b3F bC7 bF8 b31 a c =
     let n = refusal (readingRows b28 b3F bC7 bF8 b31) in
-    further n (moveNumber (moveOf a (given n c)))
+    further n (moveNumber (moveOf 4 4 a (given n c)))
 
 -- a number that is refused
 record Refuses (rows : List Row) (n : ℕ) : Type 0 where
@@ -63,22 +67,31 @@ record Refuses (rows : List Row) (n : ℕ) : Type 0 where
 refused-answers : (rows : List Row) (own : List ℕ) (n : ℕ) → Refuses rows n → Answers rows own n
 refused-answers rows own n r = record { refused = λ ne. r .same; accepted = λ z. absurd (r .not-zero (r .same ∙ z)) }
 
--- section 4's table, by the two indices
-move-answers : (a c : ℕ) → a ≤ 3
-    → Answers (row (not (eqb c 0) && not (eqb c a)) 32 ∷ []) (1 ∷ 2 ∷ 3 ∷ []) (moveNumber (moveOf a c))
-unfolding moveOf moveNumber refusal In
-move-answers a c h = go (eqb c 0) (eqb c a) (ltb c 3) (eqb c 3) refl refl refl
+-- an index has two bits
+index-small : (n : ℕ) → headerRead n .index < 4
+index-small n = go (decLt n (2 ^ 23))
   where
-    go : (z s l t : Bool) → eqb c a ≡ s → ltb c 3 ≡ l → eqb c 3 ≡ t
-        → Answers (row (not z && not s) 32 ∷ []) (1 ∷ 2 ∷ 3 ∷ [])
-        (moveNumber (cond z started (cond (s && l) held (cond (s && t) whole outOfStep))))
-    go true s l t e q r = record { refused = λ ne. absurd (ne refl); accepted = λ k. inl refl }
-    go false true true t e q r = record { refused = λ ne. absurd (ne refl); accepted = λ k. inr (inl refl) }
-    go false true false true e q r = record { refused = λ ne. absurd (ne refl); accepted = λ k. inr (inr (inl refl)) }
-    go false true false false e q r = absurd (eqb-false c 3 r (omega (arith, eqb-true c a e, ltb-false c 3 q)))
-    go false false l t e q r = record { refused = λ ne. refl; accepted = λ k. absurd (omega (arith, k)) }
+    go : Dec (n < 2 ^ 23) → headerRead n .index < 4
+    go (yes h) =
+        let r = header-exactly n h in
+        omega (arith, ap (λ (x : Header). x .index) (r .reads), r .information)
+    go (no h) = omega (arith, ap (λ (x : Header). x .index) (header-large n (omega arith)))
 
-slot-answers : (b28 b3F bC7 bF8 b31 : Bool) (a c : ℕ) → a ≤ 3
+-- section 4's table, by the two indices
+move-answers : (a c : ℕ) → c < 4
+    → Answers (row (not (eqb c 0) && not (eqb c a)) 32 ∷ []) (1 ∷ 2 ∷ 3 ∷ []) (moveNumber (moveOf 4 4 a c))
+unfolding moveOf rowOf moveNumber refusal In
+move-answers a c h = rw (mod-eq-of-lt h) (go (eqb c 0) (eqb c a) (leb 4 (c + 1)))
+  where
+    go : (z s l : Bool) → Answers (row (not z && not s) 32 ∷ []) (1 ∷ 2 ∷ 3 ∷ [])
+        (moveNumber (cond ((z || s) && l) whole (cond z started (cond s held outOfStep))))
+    go true s true = record { refused = λ ne. absurd (ne refl); accepted = λ k. inr (inr (inl refl)) }
+    go true s false = record { refused = λ ne. absurd (ne refl); accepted = λ k. inl refl }
+    go false true true = record { refused = λ ne. absurd (ne refl); accepted = λ k. inr (inr (inl refl)) }
+    go false true false = record { refused = λ ne. absurd (ne refl); accepted = λ k. inr (inl refl) }
+    go false false l = record { refused = λ ne. refl; accepted = λ k. absurd (omega (arith, k)) }
+
+slot-answers : (b28 b3F bC7 bF8 b31 : Bool) (a c : ℕ) → c < 4
     → Answers (stepRows b28 b3F bC7 bF8 b31 (not (eqb c 0) && not (eqb c a))) (1 ∷ 2 ∷ 3 ∷ []) (stepNumber b28 b3F bC7 bF8 b31 a c)
 unfolding refusal further given
 slot-answers true b3F bC7 bF8 b31 a c h = refused-answers _ _ 28 (record { same = refl; not-zero = λ z. omega arith })
@@ -91,18 +104,18 @@ slot-answers false false false false false a c h =
     record { refused = k .refused; accepted = k .accepted }
 
 -- a reading of 94 bytes at a head
-taken-answers : (h : Head) (image : List ℕ) → length image ≡ 94 → h .awaited ≤ 3
+taken-answers : (h : Head) (image : List ℕ) → length image ≡ 94
     → Answers (slotRows h image) (1 ∷ 2 ∷ 3 ∷ []) (takenNumber (received (eqb (h .protection) 1) image) h)
-unfolding takenNumber received receivedNumber refusal
-taken-answers h image l b =
+unfolding takenNumber received receivedNumber refusal perOf needsOf
+taken-answers h image l =
     let t = typeOf image in
     let u = unreadable (eqb (h .protection) 1) (usefulOf image) in
     let n : refusal (row (not (eqb (length image) 94)) 20 ∷ readingRows (leb 256 t) (eqb t 0x3F) (eqb t 0xC7) (eqb t 0xF8) u)
     ≡ refusal (readingRows (leb 256 t) (eqb t 0x3F) (eqb t 0xC7) (eqb t 0xF8) u) =
     ap (λ (x : Bool). cond (not x) 20 (refusal (readingRows (leb 256 t) (eqb t 0x3F) (eqb t 0xC7) (eqb t 0xF8) u))) (eq-eqb (length image) 94 l) in
     subst (Answers (slotRows h image) (1 ∷ 2 ∷ 3 ∷ []))
-    (sym (ap (λ (m : ℕ). further m (moveNumber (moveOf (h .awaited) (given m (indexOf image))))) n))
-    (slot-answers (leb 256 t) (eqb t 0x3F) (eqb t 0xC7) (eqb t 0xF8) u (h .awaited) (indexOf image) b)
+    (sym (ap (λ (m : ℕ). further m (moveNumber (moveOf 4 4 (h .awaited) (given m (indexOf image))))) n))
+    (slot-answers (leb 256 t) (eqb t 0x3F) (eqb t 0xC7) (eqb t 0xF8) u (h .awaited) (indexOf image) (index-small (headerOf image)))
 
 -- ---- a packet
 
@@ -136,9 +149,8 @@ module _ (s image : List ℕ) where
   placed-packet : Placed s image → Answers (rowsOf (packet image) s) (1 ∷ 2 ∷ 3 ∷ []) (packetAnswer s image)
   unfolding readingAt
   placed-packet p =
-      let v = placed-serves s image p in
       let e : refusal (rowsOf (packet image) s) ≡ refusal (slotRows h image) = packet-rows ∙ further-passed (unplaced s image) _ (placed-zero s image p) in
-      let k = taken-answers h image (p .size) (here-bounds s (addressOf image) v .awaited-to) in
+      let k = taken-answers h image (p .size) in
       let n = placed-answer s image p in
       record {
         refused = λ ne. n ∙ k .refused (λ z. ne (e ∙ z)) ∙ sym e;

@@ -30,13 +30,13 @@ use Rattle.packet.proofs.Damages.{header-came, received-corrected, sent-correct
 use Rattle.runs.specs.Part.{part}
 use Rattle.slot.specs.Slot.{headOf}
 use Rattle.head.specs.Head.{shown}
-use Rattle.head.specs.Move.{Move, started, held, whole, outOfStep, moveOf, moveNumber, movedHead}
+use Rattle.head.specs.Move.{Move, started, held, whole, outOfStep, perOf, needsOf, rowOf, moveOf, moveNumber, movedHead}
 use Rattle.head.specs.declared.Head.{Head}
 use Rattle.runs.proofs.Parts.{part-cat, part-length}
 use Rattle.table.specs.State.{slotAt, addressAt, find}
 use Rattle.table.proofs.States.{find-has, address-is, used-one}
 use Rattle.asking.proofs.Laws.{shown-5}
-use Rattle.history.specs.Followed.{Followed, Event, moved, joined, lastOf, after, answer}
+use Rattle.history.specs.Followed.{Followed, Event, moved, begun, joined, lastOf, after, answer}
 use Rattle.history.specs.Followed as one
 use Rattle.adapter.specs.Calls.{addressOf, groupSize, imagesSize, packetOf, groupImages, packetAnswer, packetAfter, writeAnswer, writeAfter}
 use Rattle.adapter.proofs.Writing.{packet-length, write-0}
@@ -172,7 +172,7 @@ moved-protection outOfStep h = refl
 
 after-protection : (i : ℕ) (d : List ℕ) (f : Followed) → after (one.packet i d) f .head .protection ≡ f .head .protection
 unfolding after moved
-after-protection i d f = moved-protection (moveOf (f .head .awaited) i) (f .head)
+after-protection i d f = moved-protection (moveOf (f .per) (f .needs) (f .head .awaited) i) (f .head)
 
 seen-protection : (s : List ℕ) (a : ℕ) (f : Followed) → view s a ≡ f → protectedAt s a ≡ eqb (f .head .protection) 1
 unfolding view seenIn
@@ -260,19 +260,23 @@ module _ (f : Followed) (d : ℕ → List ℕ) where
   abbrev f4 : Followed
   f4 = after (one.packet 3 (d 3)) f3
 
+module _ (s : List ℕ) (a : ℕ) (d : ℕ → List ℕ) where
+  abbrev seen : Followed
+  seen = view s a
+
   -- "1 started", "2 held" twice, "3 whole", whatever was awaited
-  four-answers : (answer (one.packet 0 (d 0)) f ∷ answer (one.packet 1 (d 1)) f1
-      ∷ answer (one.packet 2 (d 2)) f2 ∷ answer (one.packet 3 (d 3)) f3 ∷ []) ≡ 1 ∷ 2 ∷ 2 ∷ 3 ∷ []
-  unfolding after answer moved moveOf moveNumber movedHead
+  four-answers : (answer (one.packet 0 (d 0)) seen ∷ answer (one.packet 1 (d 1)) (f1 seen d)
+      ∷ answer (one.packet 2 (d 2)) (f2 seen d) ∷ answer (one.packet 3 (d 3)) (f3 seen d) ∷ []) ≡ 1 ∷ 2 ∷ 2 ∷ 3 ∷ []
+  unfolding view seenIn after answer moved perOf needsOf rowOf moveOf moveNumber movedHead
   four-answers = refl
 
-  four-group : f4 .last ≡ (((d 0 ++ d 1) ++ d 2) ++ d 3)
-  unfolding after moved moveOf movedHead joined lastOf
+  four-group : f4 seen d .last ≡ (((d 0 ++ d 1) ++ d 2) ++ d 3)
+  unfolding view seenIn after moved perOf needsOf rowOf moveOf movedHead begun joined lastOf
   four-group = refl
 
-  four-fresh : 1 ≤ f .head .limit → shown (f4 .head) ≡ 5
-  unfolding after moved moveOf movedHead
-  four-fresh h = shown-5 (f4 .head) (λ e. omega (arith, e)) h (λ e. omega (arith, e))
+  four-fresh : 1 ≤ seen .head .limit → shown (f4 seen d .head) ≡ 5
+  unfolding view seenIn after moved perOf needsOf rowOf moveOf movedHead
+  four-fresh h = shown-5 (f4 seen d .head) (λ e. omega (arith, e)) h (λ e. omega (arith, e))
 
 module _ (s : List ℕ) (a p : ℕ) (m o t0 t1 t2 t3 : List ℕ) (w : Follows s a p) (lm : length m ≡ groupSize (eqb p 1)) (bm : Bytes m)
     (lo : length o ≡ imagesSize) where
@@ -348,9 +352,9 @@ module _ (s : List ℕ) (a p : ℕ) (m o t0 t1 t2 t3 : List ℕ) (w : Follows s 
         let r = step-3 .next in
         record {
           size = r .serves .size ∙ sym (w .size);
-          answers = (λ i. step-0 .number i ∷ step-1 .number i ∷ step-2 .number i ∷ step-3 .number i ∷ []) ∙ four-answers f d;
-          fresh = ask-here s4 a (r .serves) ∙ ap (λ (g : Followed). shown (g .head)) (r .seen) ∙ four-fresh f d limit-from;
-          group = shown-here s4 a (r .serves) ∙ ap (λ (g : Followed). g .last) (r .seen) ∙ four-group f d ∙ fourths-whole q m lm;
+          answers = (λ i. step-0 .number i ∷ step-1 .number i ∷ step-2 .number i ∷ step-3 .number i ∷ []) ∙ four-answers s a d;
+          fresh = ask-here s4 a (r .serves) ∙ ap (λ (g : Followed). shown (g .head)) (r .seen) ∙ four-fresh s a d limit-from;
+          group = shown-here s4 a (r .serves) ∙ ap (λ (g : Followed). g .last) (r .seen) ∙ four-group s a d ∙ fourths-whole q m lm;
           others = λ j h ne. step-3 .others j ne ∙ step-2 .others j ne ∙ step-1 .others j ne ∙ step-0 .others j ne;
         }
 

@@ -27,7 +27,7 @@ use Rattle.packet.proofs.Damages.{sent-corrected, corrected-came, sent-spare, r
 use Rattle.runs.specs.Part.{put}
 use Rattle.slot.specs.Slot.{slotSize, headOf, withHead}
 use Rattle.head.specs.Head.{shown, goodHead}
-use Rattle.head.specs.Move.{moveOf, moveNumber, movedHead}
+use Rattle.head.specs.Move.{perOf, needsOf, rowOf, moveOf, moveNumber, movedHead}
 use Rattle.head.specs.declared.Head.{Head}
 use Rattle.slot.proofs.Goods.{good-load, good-store}
 use Rattle.slot.proofs.Heads.{withHead-length}
@@ -129,7 +129,7 @@ then-kept c h =
 -- the group is fresh, and the next is begun
 torn-here : cond (ltb 0 (headOf (slotAt (find (run ours (then 0) begun) 17) (run ours (then 0) begun)) .awaited)
     && eqb (asked (run ours (then 0) begun) 17 .number) 5) (blank 360) (askPart (run ours (then 0) begun) 17) ≡ blank 360
-unfolding view seenIn one.run one.followed one.after one.moved moveOf movedHead shown
+unfolding view seenIn one.run one.followed one.after one.moved one.begun perOf needsOf rowOf moveOf movedHead shown
 torn-here =
     let k = then-kept 0 (lit< tt) in
     let s = run ours (then 0) begun in
@@ -137,7 +137,7 @@ torn-here =
     (ask-here s 17 (k .serves) ∙ ap (λ (f : one.Followed). shown (f .head)) (k .seen))
 
 pub torn-fails : Demand3 torn → ⊥
-unfolding run ourAfter one.followed one.handedOut one.answer one.after one.moved one.joined one.lastOf moveOf moveNumber movedHead latest blank
+unfolding run ourAfter one.followed one.handedOut one.answer one.after one.moved one.begun one.joined one.lastOf perOf needsOf rowOf moveOf moveNumber movedHead latest blank
 torn-fails d =
     let e = d .follows empty-state 17 0 2 yes-2 .shows (then 0) (then-stays 0)
     ∙ ap (λ (es : List one.Event). latest [] (one.handedOut es (one.followed 17 0 2))) (then-is 0 (lit< tt)) in
@@ -147,7 +147,7 @@ torn-fails d =
 -- ---- silent about damage
 
 pub silent-fails : Demand3 silent → ⊥
-unfolding byCall run AllStay eventsOf one.run one.followed one.answer moveOf moveNumber drops
+unfolding byCall run AllStay eventsOf one.run one.followed one.answer perOf needsOf rowOf moveOf moveNumber drops
 silent-fails d =
     let arrives = is-arrives 17 (clean 1) (clean-arrives 1 (lit< tt)) in
     let k = follow-serves empty-state 17 0 2 yes-2 in
@@ -162,7 +162,7 @@ silent-fails d =
 -- ---- a board that shows a doubtful group
 
 pub bold-fails : Demand3 bold → ⊥
-unfolding ourAnswer run one.run one.followed one.after one.moved one.dropped one.joined one.lastOf moveOf movedHead shown
+unfolding ourAnswer run one.run one.followed one.after one.moved one.begun one.dropped one.joined one.lastOf perOf needsOf rowOf moveOf movedHead shown
 bold-fails d =
     let k = then-kept 2 (lit< tt) in
     let s = run ours (then 2) begun in
@@ -248,15 +248,15 @@ trusting-fails d =
     omega arith
 
 pub hasty-fails : Demand3 hasty → ⊥
-unfolding byCall run AllStay eventsOf one.run one.answer moveOf moveNumber seenIn
+unfolding byCall run AllStay eventsOf one.run one.answer perOf needsOf rowOf moveOf moveNumber seenIn
 hasty-fails d =
     let arrives = is-arrives 17 (clean 1) (clean-arrives 1 (lit< tt)) in
     let at : addressOf (clean 1) ≡ 17 = clean-arrives 1 (lit< tt) .address in
     let x = slotAt (find made 17) made in
     let head : headOf x ≡ hand = ap headOf made-slot ∙ slot-head in
     let said : hasty .answer (packet (clean 1)) made ≡ 32 = d .holds made 17 0 made-follows .answers [] tt (clean 1) arrives
-    ∙ ap (λ (h : Head). one.answer (eventOf (eqb (h .protection) 1) (clean 1)) (record { head = h; unfinished = seenIn x .unfinished; last = seenIn x .last })) head
-    ∙ ap (λ (e : one.Event). one.answer e (record { head = hand; unfinished = seenIn x .unfinished; last = seenIn x .last })) (clean-read-event 1 (lit< tt)) in
+    ∙ ap (λ (h : Head). one.answer (eventOf (eqb (h .protection) 1) (clean 1)) (record { per = perOf h; needs = needsOf h; head = h; unfinished = seenIn x .unfinished; last = seenIn x .last })) head
+    ∙ ap (λ (e : one.Event). one.answer e (record { per = perOf hand; needs = needsOf hand; head = hand; unfinished = seenIn x .unfinished; last = seenIn x .last })) (clean-read-event 1 (lit< tt)) in
     let three : cond (dirty (slotAt (find made (addressOf (clean 1))) made) && eqb (indexOf (clean 1)) 1) 3 (packetAnswer made (clean 1)) ≡ 3 =
     ap (λ (a : ℕ). cond (dirty (slotAt (find made a) made) && eqb (indexOf (clean 1)) 1) 3 (packetAnswer made (clean 1))) at
     ∙ ap₂ (λ (b : Bool) (c : ℕ). cond (b && eqb c 1) 3 (packetAnswer made (clean 1))) made-dirty (clean-index 1 (lit< tt)) in

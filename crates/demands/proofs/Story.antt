@@ -8,7 +8,7 @@
 -- The crate history has more of them, without bytes: damage and recovery, a follow in mid-stream, an early start. Assumes nothing.
 use mathlib.Core.Path.{_≡_, refl, sym, ap, ap₂, _∙_}
 use mathlib.Core.Bool.{Bool, false, cond}
-use mathlib.Core.List.{List, [], _∷_, _++_, append-assoc}
+use mathlib.Core.List.{List, [], _∷_, _++_}
 use Prim.Native.Nat.{ℕ, zero, _≤_, _<_}
 use native.Mathlib.Omega.{arith}
 use native.Mathlib.Decide.{decLt, ℕ-discrete}
@@ -19,7 +19,7 @@ use Rattle.bits.specs.Bits.{blank}
 use Rattle.bits.proofs.Rows.{done-passed}
 use Rattle.bits.proofs.Storing.{blank-length}
 use Rattle.head.specs.Head.{shown, newHead}
-use Rattle.head.specs.Move.{moveOf, movedHead}
+use Rattle.head.specs.Move.{perOf, needsOf, rowOf, moveOf, movedHead}
 use Rattle.slot.specs.Slot.{withHead}
 use Rattle.head.specs.declared.Head.{Head}
 use Rattle.head.proofs.Bounds.{good-new}
@@ -87,24 +87,24 @@ module _ (s : List ℕ) (f : one.Followed) (k : Kept s 17 f) (notice : List ℕ)
   board-silent ne =
       ap (λ (b : Bool). cond b (askPart s 17) notice) (ne-eqb (asked s 17 .number) 5 (λ q. ne (sym says ∙ q)))
 
-four-zeros : (((blank 90 ++ blank 90) ++ blank 90) ++ blank 90) ≡ group zeros 0
+four-zeros : (((blank 90 ++ blank 90) ++ blank 90) ++ blank 90) ≡ group 4 zeros 0
 unfolding group
-four-zeros = append-assoc (blank 90 ++ blank 90) (blank 90) (blank 90) ∙ append-assoc (blank 90) (blank 90) (blank 90 ++ blank 90)
+four-zeros = refl
 
 -- the board shows the group, and a subframe later it still does; at two it is stale, and the board shows the notice
 abbrev Shows : List ℕ → ℕ → List ℕ → List ℕ → Type 0
 Shows s n notice text = (asked s 17 .number ≡ n) × (boardText s 17 notice ≡ text)
 
-pub arrived-fresh : (notice : List ℕ) → Shows (told-story []) 5 notice (group zeros 0)
-unfolding shown one.followed one.after one.moved one.joined one.lastOf moveOf movedHead
+pub arrived-fresh : (notice : List ℕ) → Shows (told-story []) 5 notice (group 4 zeros 0)
+unfolding shown one.followed one.after one.moved one.begun one.joined one.lastOf perOf needsOf rowOf moveOf movedHead
 arrived-fresh notice = (says _ as-arrived kept notice, board-fresh _ as-arrived kept notice refl ∙ four-zeros)
 
-pub silent-fresh : (notice : List ℕ) → Shows (told-story (subframeEnd ∷ [])) 5 notice (group zeros 0)
-unfolding shown one.followed one.after one.moved one.joined one.lastOf one.aged moveOf movedHead
+pub silent-fresh : (notice : List ℕ) → Shows (told-story (subframeEnd ∷ [])) 5 notice (group 4 zeros 0)
+unfolding shown one.followed one.after one.moved one.begun one.joined one.lastOf one.aged perOf needsOf rowOf moveOf movedHead
 silent-fresh notice = (says _ _ kept-1 notice, board-fresh _ _ kept-1 notice refl ∙ four-zeros)
 
 pub silent-stale : (notice : List ℕ) → Shows (told-story (subframeEnd ∷ subframeEnd ∷ [])) 7 notice notice
-unfolding shown one.followed one.after one.moved one.joined one.lastOf one.aged moveOf movedHead
+unfolding shown one.followed one.after one.moved one.begun one.joined one.lastOf one.aged perOf needsOf rowOf moveOf movedHead
 silent-stale notice = (says _ _ kept-2 notice, board-silent _ _ kept-2 notice (λ q. stale q))
   where
     stale : _≡_ {A = ℕ} 7 5 → ⊥
@@ -238,8 +238,8 @@ second-follow =
 
 -- the calls are the same, and each address is handed out what was sent to it
 pub interleaved : (calls at-17 ≡ calls at-18)
-    × Exactly zeros (Arrived false at-17) (handedOut ours 17 (calls at-17) both-followed)
-    × Exactly zeros (Arrived false at-18) (handedOut ours 18 (calls at-18) both-followed)
+    × Exactly 4 zeros (Arrived false at-17) (handedOut ours 17 (calls at-17) both-followed)
+    × Exactly 4 zeros (Arrived false at-18) (handedOut ours 18 (calls at-18) both-followed)
 unfolding calls callOf ourAfter Channel Apart Arrived ReadableIn handedOut handsOut
 interleaved = (
   refl,

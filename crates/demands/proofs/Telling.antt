@@ -10,7 +10,7 @@ use mathlib.Core.Path.{_≡_, refl, sym, ap, ap₂, _∙_, subst}
 use mathlib.Core.Bool.{Bool, true, false, cond, not, _&&_, _||_}
 use mathlib.Core.List.{List, [], _∷_, _++_}
 use mathlib.Core.Logic.{inl, inr}
-use Prim.Native.Nat.{ℕ, zero, suc, _<_}
+use Prim.Native.Nat.{ℕ, zero, suc, _%_, _<_}
 use native.Mathlib.Omega.{arith}
 use native.Mathlib.Decide.{ℕ-discrete}
 use borrow.Author.Tests.{eq-eqb, ne-eqb}
@@ -47,7 +47,7 @@ moved-protection outOfStep h = refl
 
 pub after-protection : (e : one.Event) (f : one.Followed) → one.after e f .head .protection ≡ f .head .protection
 unfolding one.after one.moved one.dropped one.aged
-after-protection (one.packet c b) f = moved-protection (moveOf (f .head .awaited) c) (f .head)
+after-protection (one.packet c b) f = moved-protection (moveOf (f .per) (f .needs) (f .head .awaited) c) (f .head)
 after-protection (one.refused r) f = refl
 after-protection one.ended f = refl
 
@@ -59,9 +59,9 @@ run-protection (e ∷ es) f = run-protection es (one.after e f) ∙ after-protec
 -- no event but one that is answered 3 changes the group that is shown
 pub last-kept : (e : one.Event) (f : one.Followed) → eqb (one.answer e f) 3 ≡ false → one.after e f .last ≡ f .last
 unfolding one.after one.answer one.moved one.dropped one.aged one.lastOf moveNumber
-last-kept (one.packet c b) f q = go (moveOf (f .head .awaited) c) q
+last-kept (one.packet c b) f q = go (moveOf (f .per) (f .needs) (f .head .awaited) c) q
   where
-    go : (mv : Move) → eqb (moveNumber mv) 3 ≡ false → one.lastOf mv (f .unfinished) b (f .last) ≡ f .last
+    go : (mv : Move) → eqb (moveNumber mv) 3 ≡ false → one.lastOf mv (c % f .per) (f .unfinished) b (f .last) ≡ f .last
     go started z = refl
     go held z = refl
     go whole z = absurd (subst T z tt)
@@ -144,7 +144,7 @@ module _ (s : List ℕ) (a : ℕ) (v : Serves s a) (image : List ℕ) (r : Arriv
   readable-answered z =
       subst (λ (n : ℕ). In n (1 ∷ 2 ∷ 3 ∷ 32 ∷ []))
       (sym (answer-by s a v image r ∙ ap (λ (e : one.Event). one.answer e (view s a)) (event-read (by (view s a)) image z)))
-      (number-in (moveOf (view s a .head .awaited) (came-as .index)))
+      (number-in (moveOf (view s a .per) (view s a .needs) (view s a .head .awaited) (came-as .index)))
 
   pub unreadable-answered : Refused came-as → packetAnswer s image ≡ came-as .number
   unfolding one.answer

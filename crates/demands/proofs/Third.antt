@@ -28,9 +28,9 @@ use Rattle.history.specs.Followed as one
 use Rattle.history.specs.Sent.{Readable, Exactly, events}
 use Rattle.history.specs.Transcript.{Entry}
 use Rattle.history.specs.Missing.{Judged}
-use Rattle.history.proofs.Exactness.{exactly}
+use Rattle.history.proofs.Exactness.{exactly-four}
 use Rattle.history.proofs.Freshness.{Tells, tells-new, tells-run}
-use Rattle.history.proofs.Missing.{nothing-missed}
+use Rattle.history.proofs.Missing.{nothing-missed-four}
 use Rattle.adapter.specs.Calls.{addressOf, packetAnswer}
 use Rattle.demands.specs.Machine.{Call, start, follow, leave, packet, subframeEnd, ask, ours, ourAnswer, ourAfter, ourBoard, run}
 use Rattle.demands.specs.Demand3.{Stays, AllStay, Carries, Happening, calls, Channel, Arrived, handedOut, arrivals, Goes, concerns, only, answersAt, Demand3, arrivals}
@@ -124,11 +124,11 @@ module _ (s : List ℕ) (a p l : ℕ) (e : followAnswer s a p l ≡ 0) where
   begun-goes = goes-as t a (begun .serves) (one.followed a p l) (begun .seen) [] limit-to (tells-new a p l)
 
   exact : (sent : ℕ → ℕ → List ℕ) → Carries (eqb p 1) sent → (n : ℕ) (h : List Happening) → Channel (eqb p 1) a sent n h
-      → Exactly sent (Arrived (eqb p 1) h) (handedOut ours a (calls h) t)
+      → Exactly 4 sent (Arrived (eqb p 1) h) (handedOut ours a (calls h) t)
   unfolding Arrived Readable
   exact sent k n h ch =
       let st = channel-stays (eqb p 1) a sent n h ch in
-      let x = exactly a p l sent n (arrivals (eqb p 1) h) (channel-order (eqb p 1) a sent n h ch) in
+      let x = exactly-four a p l sent n (arrivals (eqb p 1) h) (channel-order (eqb p 1) a sent n h ch) in
       let same : handedOut ours a (calls h) t ≡ _ =
       handed-same (calls h) t a (begun .serves) st
       ∙ ap₂ (λ (b : Bool) (f : one.Followed). one.handedOut (eventsOf a b (calls h)) f) begun-by (begun .seen)
@@ -142,7 +142,7 @@ module _ (s : List ℕ) (a p l : ℕ) (e : followAnswer s a p l ≡ 0) where
       }
 
   missed : (sent : ℕ → ℕ → List ℕ) → Carries (eqb p 1) sent → (n : ℕ) (h : List Happening) → Channel (eqb p 1) a sent n h
-      → Judged l (arrivals (eqb p 1) h) (ourAnswer (ask a) (run ours (calls h) t))
+      → Judged 4 l (arrivals (eqb p 1) h) (ourAnswer (ask a) (run ours (calls h) t))
   unfolding ourAnswer
   missed sent k n h ch =
       let r = run-acts (calls h) t a (begun .serves) (channel-stays (eqb p 1) a sent n h ch) in
@@ -150,8 +150,8 @@ module _ (s : List ℕ) (a p l : ℕ) (e : followAnswer s a p l ≡ 0) where
       ask-here (run ours (calls h) t) a (r .serves) ∙ ap (λ (f : one.Followed). shown (f .head)) (r .seen)
       ∙ ap₂ (λ (b : Bool) (f : one.Followed). shown (one.run (eventsOf a b (calls h)) f .head)) begun-by (begun .seen)
       ∙ ap (λ (es : List one.Event). shown (one.run es (one.followed a p l) .head)) (sym (channel-events (eqb p 1) a sent low k n h ch)) in
-      subst (Judged l (arrivals (eqb p 1) h)) (sym same)
-      (nothing-missed a p l limit-from limit-to sent n (arrivals (eqb p 1) h) (channel-order (eqb p 1) a sent n h ch))
+      subst (Judged 4 l (arrivals (eqb p 1) h)) (sym same)
+      (nothing-missed-four a p l limit-from limit-to sent n (arrivals (eqb p 1) h) (channel-order (eqb p 1) a sent n h ch))
 
 -- ---- what concerns the address, in two states in which it is the same
 

@@ -8,32 +8,35 @@
 use mathlib.Core.Path.{_≡_, refl, sym, ap, ap₂, _∙_}
 use mathlib.Core.Bool.{Bool, true, false, cond}
 use mathlib.Core.List.{List, [], _++_}
-use Prim.Native.Nat.{ℕ, _+_, _*_}
-use native.Mathlib.Nat.{zero-mul, one-mul, add-mul}
+use mathlib.Core.Logic.{_⊎_, inl, inr}
+use Prim.Native.Nat.{ℕ, zero, suc, _+_, _*_}
+use native.Mathlib.Nat.{zero-mul}
+use native.Mathlib.Omega.{arith}
 use lib.Dec.{eqb}
 use lib.ListN.{length}
 use Rattle.runs.specs.Part.{part}
 use Rattle.slot.specs.Slot.{headOf, withHead, unfinished, stored}
 use Rattle.head.specs.Head.{newHead, droppedHead, agedHead, goodHead}
-use Rattle.head.specs.Move.{Move, started, held, whole, outOfStep, movedHead}
+use Rattle.head.specs.Move.{Move, started, held, whole, outOfStep, perOf, needsOf, movedHead}
 use Rattle.head.specs.declared.Head.{Head}
+use Rattle.head.proofs.Moves.{moved-sizes, dropped-sizes, aged-sizes}
 use Rattle.slot.proofs.Goods.{good-load}
 use Rattle.head.proofs.Bounds.{good-aged}
 use Rattle.slot.proofs.Heads.{store-unfinished, store-stored}
 use Rattle.asking.specs.Asking.{groupLength}
-use Rattle.history.specs.Followed.{Followed, moved, joined, lastOf, dropped, aged, followed}
-use Rattle.group.specs.Group.{blockOf, slotMoved, slotDropped}
-use Rattle.group.proofs.Laws.{Wants, Fits, moved-head, started-room, started-stored, held-room, held-stored, whole-group, dropped-head, dropped-stored}
+use Rattle.history.specs.Followed.{Followed, moved, begun, joined, lastOf, dropped, aged, followed}
+use Rattle.group.specs.Group.{blockOf, begunRoom, slotMoved, slotDropped}
+use Rattle.group.proofs.Laws.{Fits, moved-head, started-room, started-stored, held-room, held-stored, whole-group, dropped-head, dropped-stored}
 use Rattle.group.proofs.Doing.{out-drops}
 use Rattle.demands.specs.Seen.{lastIn, heldIn, seenIn}
 
--- a view by its three parts
-view-is : (x : List ℕ) (h : Head) (u v : List ℕ) → headOf x ≡ h → heldIn h (unfinished x) ≡ u → lastIn h (stored x) ≡ v
-    → seenIn x ≡ record { head = h; unfinished = u; last = v }
+-- a view by its parts
+view-is : (x : List ℕ) (p m : ℕ) (h : Head) (u v : List ℕ) → headOf x ≡ h → (perOf h ≡ p) × (needsOf h ≡ m) → heldIn h (unfinished x) ≡ u
+    → lastIn h (stored x) ≡ v → seenIn x ≡ record { per = p; needs = m; head = h; unfinished = u; last = v }
 unfolding seenIn
-view-is x h u v eh eu ev =
-    ap (λ (g : Head). record { head = g; unfinished = heldIn g (unfinished x); last = lastIn g (stored x) }) eh
-    ∙ ap₂ (λ (y z : List ℕ). record { head = h; unfinished = y; last = z }) eu ev
+view-is x p m h u v eh ep eu ev =
+    ap (λ (g : Head). record { per = perOf g; needs = needsOf g; head = g; unfinished = heldIn g (unfinished x); last = lastIn g (stored x) }) eh
+    ∙ (λ i. record { per = ep .0 i; needs = ep .1 i; head = h; unfinished = eu i; last = ev i })
 
 -- nothing is held where 0 is awaited
 held-none : (h : Head) (room : List ℕ) → h .awaited ≡ 0 → heldIn h room ≡ []
@@ -69,46 +72,63 @@ unfolding lastIn
 last-by h room n e en =
     ap₂ (λ (m k : ℕ). cond (eqb m 0) [] (part 0 k room)) e (group-four h ∙ en)
 
-dropped-view : (x : List ℕ) → length x ≡ 736 → goodHead (headOf x) ≡ true
-    → seenIn (slotDropped x) ≡ record { head = droppedHead (headOf x); unfinished = []; last = lastIn (headOf x) (stored x) }
+dropped-view : (x : List ℕ) → length x ≡ 736 → goodHead (headOf x) ≡ true → let h = headOf x in
+    seenIn (slotDropped x)
+    ≡ record { per = perOf h; needs = needsOf h; head = droppedHead h; unfinished = []; last = lastIn h (stored x) }
 dropped-view x l g =
-    view-is (slotDropped x) (droppedHead (headOf x)) [] _ (dropped-head x l g) (held-none (droppedHead (headOf x)) _ refl)
-    (last-same (droppedHead (headOf x)) (headOf x) _ _ refl refl (dropped-stored x l g))
+    let h = headOf x in
+    view-is (slotDropped x) (perOf h) (needsOf h) (droppedHead h) [] _ (dropped-head x l g) (dropped-sizes h) (held-none (droppedHead h) _ refl)
+    (last-same (droppedHead h) h _ _ refl refl (dropped-stored x l g))
 
 pub view-dropped : (x : List ℕ) → length x ≡ 736 → goodHead (headOf x) ≡ true → seenIn (slotDropped x) ≡ dropped (seenIn x)
 unfolding dropped seenIn
 view-dropped x l g = dropped-view x l g
 
-pub view-moved : (mv : Move) (c : ℕ) (b x : List ℕ) → Fits mv c b x → seenIn (slotMoved mv c b x) ≡ moved mv b (seenIn x)
-unfolding moved joined lastOf seenIn movedHead Wants
+-- what a packet is joined on to: nothing where it is the first, otherwise what is held
+begun-view : (c : ℕ) (b x : List ℕ) → (c ≡ 0) ⊎ (c ≡ headOf x .awaited) → length b ≡ blockOf (headOf x)
+    → part 0 (c * length b) (begunRoom c (unfinished x)) ≡ begun c (heldIn (headOf x) (unfinished x))
+unfolding begun begunRoom part
+begun-view zero b x at e = ap (λ (n : ℕ). part 0 n (begunRoom 0 (unfinished x))) (zero-mul (length b))
+begun-view (suc c) b x (inl z) e = absurd (omega arith)
+begun-view (suc c) b x (inr p) e =
+    sym (held-by (headOf x) (unfinished x) (suc c * length b) (ap₂ (λ (i j : ℕ). i * j) (sym p) (sym e)))
+
+-- all four are needed
+pub needs-four : (h : Head) → needsOf h ≡ 4
+unfolding needsOf perOf
+needs-four h = refl
+
+pub view-moved : (mv : Move) (c : ℕ) (b x : List ℕ) → Fits mv c b x → seenIn (slotMoved mv c b x) ≡ moved mv c b (seenIn x)
+unfolding moved joined lastOf seenIn movedHead
 view-moved started c b x f =
     let h = movedHead started (headOf x) in
-    view-is (slotMoved started c b x) h b _ (moved-head started c b x f)
-    (held-by h _ (length b) (one-mul (blockOf h) ∙ block-same h (headOf x) refl ∙ sym (f .block)) ∙ started-room c b x f)
+    let m : h .awaited * blockOf h ≡ (c + 1) * length b =
+    ap₂ (λ (i j : ℕ). (i + 1) * j) (sym (f .row .0)) (block-same h (headOf x) refl ∙ sym (f .block)) in
+    view-is (slotMoved started c b x) _ _ h _ _ (moved-head started c b x f) (moved-sizes started (headOf x))
+    (held-by h _ ((c + 1) * length b) m ∙ started-room c b x f ((c + 1) * length b) refl
+    ∙ ap (λ (y : List ℕ). y ++ b) (begun-view c b x (inl (f .row .0)) (f .block)))
     (last-same h (headOf x) _ _ refl refl (started-stored c b x f))
 view-moved held c b x f =
     let h = movedHead held (headOf x) in
-    let n : headOf x .awaited * blockOf (headOf x) ≡ c * length b = ap₂ (λ (i j : ℕ). i * j) (sym (f .index .0)) (sym (f .block)) in
-    let m : h .awaited * blockOf h ≡ c * length b + length b =
-    ap₂ (λ (i j : ℕ). (i + 1) * j) (sym (f .index .0)) (block-same h (headOf x) refl ∙ sym (f .block))
-    ∙ add-mul c 1 (length b) ∙ ap (λ (k : ℕ). c * length b + k) (one-mul (length b)) in
-    view-is (slotMoved held c b x) h _ _ (moved-head held c b x f)
-    (held-by h _ (c * length b + length b) m ∙ held-room c b x f (c * length b + length b) refl
-    ∙ ap (λ (y : List ℕ). y ++ b) (sym (held-by (headOf x) (unfinished x) (c * length b) n)))
+    let m : h .awaited * blockOf h ≡ (c + 1) * length b =
+    ap₂ (λ (i j : ℕ). (i + 1) * j) (sym (f .row .0)) (block-same h (headOf x) refl ∙ sym (f .block)) in
+    view-is (slotMoved held c b x) _ _ h _ _ (moved-head held c b x f) (moved-sizes held (headOf x))
+    (held-by h _ ((c + 1) * length b) m ∙ held-room c b x f ((c + 1) * length b) refl
+    ∙ ap (λ (y : List ℕ). y ++ b) (begun-view c b x (inr (f .row .0)) (f .block)))
     (last-same h (headOf x) _ _ refl refl (held-stored c b x f))
 view-moved whole c b x f =
     let h = movedHead whole (headOf x) in
-    let n : headOf x .awaited * blockOf (headOf x) ≡ c * length b = ap₂ (λ (i j : ℕ). i * j) (sym (f .index .0)) (sym (f .block)) in
-    view-is (slotMoved whole c b x) h [] _ (moved-head whole c b x f) (held-none h _ refl)
-    (last-by h _ (4 * length b) refl (ap (λ (k : ℕ). 4 * k) (block-same h (headOf x) refl ∙ sym (f .block))) ∙ whole-group c b x f
-    ∙ ap (λ (y : List ℕ). y ++ b) (sym (held-by (headOf x) (unfinished x) (c * length b) n)))
+    let four : 4 ≡ c + 1 = omega (arith, f .place, f .row .1, needs-four (headOf x)) in
+    view-is (slotMoved whole c b x) _ _ h [] _ (moved-head whole c b x f) (moved-sizes whole (headOf x)) (held-none h _ refl)
+    (last-by h _ ((c + 1) * length b) refl (ap₂ (λ (i j : ℕ). i * j) four (block-same h (headOf x) refl ∙ sym (f .block)))
+    ∙ whole-group c b x f ((c + 1) * length b) refl ∙ ap (λ (y : List ℕ). y ++ b) (begun-view c b x (f .row .0) (f .block)))
 view-moved outOfStep c b x f = ap seenIn (sym (out-drops c b x)) ∙ dropped-view x (f .size) (f .good)
 
 pub view-aged : (x : List ℕ) → length x ≡ 736 → goodHead (headOf x) ≡ true → seenIn (withHead (agedHead (headOf x)) x) ≡ aged (seenIn x)
 unfolding aged seenIn
 view-aged x l g =
     let h = agedHead (headOf x) in
-    view-is (withHead h x) h _ _ (good-load h (good-aged (headOf x) g) x l)
+    view-is (withHead h x) _ _ h _ _ (good-load h (good-aged (headOf x) g) x l) (aged-sizes (headOf x))
     (held-by h _ (headOf x .awaited * blockOf (headOf x)) (ap (λ (k : ℕ). headOf x .awaited * k) (block-same h (headOf x) refl))
     ∙ ap (part 0 (headOf x .awaited * blockOf (headOf x))) (store-unfinished h x l)
     ∙ sym (held-by (headOf x) (unfinished x) (headOf x .awaited * blockOf (headOf x)) refl))
@@ -117,4 +137,4 @@ view-aged x l g =
 pub view-new : (a p l : ℕ) (x : List ℕ) → length x ≡ 736 → goodHead (newHead a p l) ≡ true → seenIn (withHead (newHead a p l) x) ≡ followed a p l
 unfolding followed lastIn
 view-new a p l x lx g =
-    view-is (withHead (newHead a p l) x) (newHead a p l) [] [] (good-load (newHead a p l) g x lx) (held-none (newHead a p l) _ refl) refl
+    view-is (withHead (newHead a p l) x) _ _ (newHead a p l) [] [] (good-load (newHead a p l) g x lx) (refl, refl) (held-none (newHead a p l) _ refl) refl

@@ -15,7 +15,7 @@ use Prim.Native.Nat.{ℕ, zero, suc, _≤_, _<_}
 use native.Mathlib.Omega.{arith}
 use lib.Dec.{eqb, lit<, lit≤}
 use borrow.Author.Tests.{eq-eqb, eqb-true}
-use Rattle.head.specs.Move.{moveOf, moveNumber, movedHead}
+use Rattle.head.specs.Move.{perOf, needsOf, rowOf, moveOf, moveNumber, movedHead}
 use Rattle.table.specs.State.{find}
 use Rattle.table.specs.Calls.{followAnswer, followAfter}
 use Rattle.table.proofs.Looking.{follow-0}
@@ -190,8 +190,8 @@ worked-only i q = go (worked-has i q 0 (lit< tt)) (second (worked-has i q 1 (lit
 
 -- ---- what is handed out
 
-pub worked-out : one.handedOut (events worked-sent worked-came) (one.followed 17 1 2) ≡ group worked-sent 1 ∷ group worked-sent 5 ∷ []
-unfolding worked-came came-1 came-2 came-3 came-4 came-5 worked-sent events event group one.followed one.handedOut one.after one.answer one.number one.moved one.joined one.lastOf one.dropped one.aged moveOf moveNumber movedHead
+pub worked-out : one.handedOut (events worked-sent worked-came) (one.followed 17 1 2) ≡ group 4 worked-sent 1 ∷ group 4 worked-sent 5 ∷ []
+unfolding worked-came came-1 came-2 came-3 came-4 came-5 worked-sent events event group one.followed one.handedOut one.after one.answer one.number one.moved one.begun one.joined one.lastOf one.dropped one.aged perOf needsOf rowOf moveOf moveNumber movedHead
 worked-out = refl
 
 pub worked-accepted : followAnswer empty-state 17 1 2 ≡ 0
@@ -200,7 +200,7 @@ worked-accepted =
     (follow-passed empty-state 17 0 2 (accepted 2 refl) .room)
 
 -- the same of our calls, on bytes
-pub worked-handed : handedOut ours 17 (calls worked) (followAfter empty-state 17 1 2) ≡ group worked-sent 1 ∷ group worked-sent 5 ∷ []
+pub worked-handed : handedOut ours 17 (calls worked) (followAfter empty-state 17 1 2) ≡ group 4 worked-sent 1 ∷ group 4 worked-sent 5 ∷ []
 unfolding one.followed
 worked-handed =
     let k = follow-serves empty-state 17 1 2 worked-accepted in
@@ -213,19 +213,19 @@ worked-handed =
 
 -- ---- by demand 3
 
-pub worked-exactly : Exactly worked-sent (Arrived true worked) (handedOut ours 17 (calls worked) (ourAfter (follow 17 1 2) empty-state))
+pub worked-exactly : Exactly 4 worked-sent (Arrived true worked) (handedOut ours 17 (calls worked) (ourAfter (follow 17 1 2) empty-state))
 worked-exactly = demand-3 .exactly empty-state 17 1 2 worked-accepted worked-sent worked-carried 2 worked worked-channel
 
-came-readable-all : (i : ℕ) → Readable worked-came i → Arrived true worked i
+came-readable-all : (i : ℕ) → Readable 4 worked-came i → Arrived true worked i
 unfolding Readable Arrived
 came-readable-all i q c h = came-readable true i c worked (subst (CameIn i c) (sym worked-arrivals) (q c h))
 
-readable-all : (i : ℕ) → Arrived true worked i → Readable worked-came i
+readable-all : (i : ℕ) → Arrived true worked i → Readable 4 worked-came i
 unfolding Readable Arrived
 readable-all i q c h = subst (CameIn i c) worked-arrivals (readable-came true i c worked (q c h))
 
 -- group 5 is the last, and nothing came since
-worked-last : Last worked-came 5 []
+worked-last : Last 4 worked-came 5 []
 unfolding worked-came came-1 came-2 came-3 came-4 came-5
 worked-last = record {
   before = came 0 2 ∷ came 0 3 ∷ came 1 0 ∷ came 1 1 ∷ came 1 2 ∷ subframeEnd ∷ came 1 3 ∷ came 2 0 ∷ came 3 0 ∷ damaged 3 1 one.wordUnreadable
@@ -242,6 +242,6 @@ worked-last = record {
 pub worked-fresh : ourAnswer (ask 17) (run ours (calls worked) (ourAfter (follow 17 1 2) empty-state)) ≡ 5
 unfolding endings Reached
 worked-fresh =
-    let j = subst (λ (h : List Arrival). Judged 2 h (ourAnswer (ask 17) (run ours (calls worked) (ourAfter (follow 17 1 2) empty-state)))) worked-arrivals
+    let j = subst (λ (h : List Arrival). Judged 4 2 h (ourAnswer (ask 17) (run ours (calls worked) (ourAfter (follow 17 1 2) empty-state)))) worked-arrivals
     (demand-3 .missing empty-state 17 1 2 worked-accepted worked-sent worked-carried 2 worked worked-channel) in
     j .fresh 5 [] worked-last (lit< tt) (λ m. m .reached)

@@ -87,7 +87,7 @@ Apart a subframeEnd = Unit {0}
 Apart a (ask b) = Unit {0}
 
 pub record Comes (p : Bool) (a : ℕ) (sent : Sent) (n i c : ℕ) (image : List ℕ) : Type 0 where
-  pub next : Next 3 n i c
+  pub next : Next 4 3 n i c
   pub came : Came p (sentImage p a c (sent i c)) image
   pub spare : spareOf image ≡ 0
 
@@ -177,13 +177,13 @@ pub record Demand3 (m : Machine) : Type 0 where
   -- where the rows of section 6 accept a follow, it is accepted
   pub accepted : (s : List ℕ) (a p l : ℕ) → followAnswer s a p l ≡ 0 → m .answer (follow a p l) s ≡ 0
   pub exactly : (s : List ℕ) (a p l : ℕ) → followAnswer s a p l ≡ 0 → (sent : Sent) → Carries (eqb p 1) sent → (n : ℕ) (h : List Happening)
-      → Channel (eqb p 1) a sent n h → Exactly sent (Arrived (eqb p 1) h) (handedOut m a (calls h) (m .after (follow a p l) s))
+      → Channel (eqb p 1) a sent n h → Exactly 4 sent (Arrived (eqb p 1) h) (handedOut m a (calls h) (m .after (follow a p l) s))
   -- whatever the channel does: from a follow on, and from every good state, one made by hand too, at every address that its slots hold
   pub follows : (s : List ℕ) (a p l : ℕ) → followAnswer s a p l ≡ 0 → Goes m a (followed a p l) [] (m .after (follow a p l) s)
   pub holds : (s : List ℕ) (a p : ℕ) → Follows s a p → let x = slotAt (find s a) s in Goes m a (seenIn x) (marksOf (headOf x)) s
   -- fresh means that nothing was missed: by what was sent and what came
   pub missing : (s : List ℕ) (a p l : ℕ) → followAnswer s a p l ≡ 0 → (sent : Sent) → Carries (eqb p 1) sent → (n : ℕ) (h : List Happening)
-      → Channel (eqb p 1) a sent n h → Judged l (arrivals (eqb p 1) h) (m .answer (ask a) (run m (calls h) (m .after (follow a p l) s)))
+      → Channel (eqb p 1) a sent n h → Judged 4 l (arrivals (eqb p 1) h) (m .answer (ask a) (run m (calls h) (m .after (follow a p l) s)))
   -- board text: in each case ask's number; the group exactly where it is 5, otherwise the whole notice
   pub boards : (a : ℕ) (notice s : List ℕ) → m .board a notice s .number ≡ m .answer (ask a) s
   pub texts : (a : ℕ) (notice s : List ℕ) → m .board a notice s .text ≡ cond (eqb (m .answer (ask a) s) 5) (m .shown a s) notice

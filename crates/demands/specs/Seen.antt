@@ -17,6 +17,7 @@ use Rattle.packet.specs.Received.{received}
 use Rattle.packet.specs.Damage.{dataSize}
 use Rattle.runs.specs.Part.{part}
 use Rattle.slot.specs.Slot.{headOf, unfinished, stored}
+use Rattle.head.specs.Move.{perOf, needsOf}
 use Rattle.head.specs.declared.Head.{Head}
 use Rattle.asking.specs.Asking.{groupLength}
 use Rattle.group.specs.Group.{blockOf}
@@ -69,7 +70,9 @@ unfoldable pub heldIn : Head → List ℕ → List ℕ
 heldIn h room = part 0 (h .awaited * blockOf h) room
 
 unfoldable pub seenIn : List ℕ → Followed
-seenIn x = record { head = headOf x; unfinished = heldIn (headOf x) (unfinished x); last = lastIn (headOf x) (stored x) }
+seenIn x =
+    let h = headOf x in
+    record { per = perOf h; needs = needsOf h; head = h; unfinished = heldIn h (unfinished x); last = lastIn h (stored x) }
 
 -- the newest first: a packet held where an index above 0 is awaited, a refusal where the gap is marked, as many subframe ends as its
 -- age, and the 3 that handed its group out, unless there is none

@@ -13,7 +13,7 @@ use Prim.Native.Nat.{ℕ, suc, _+_, _*_, _≤_, _<_}
 use native.Mathlib.Omega.{arith}
 use native.Mathlib.Decide.{ℕ-discrete}
 use Rattle.history.specs.Followed.{Reason}
-use Rattle.history.specs.Sent.{Arrival, came, damaged, subframeEnd, Next, InOrder, CameIn, Readable}
+use Rattle.history.specs.Sent.{Arrival, came, damaged, subframeEnd, InOrder, CameIn, Readable}
 
 -- ---- what is to come
 

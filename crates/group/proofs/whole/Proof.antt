@@ -1,7 +1,5 @@
 -- `group::whole` meets its contract: the room kept and cleared, then the head. Assumes nothing.
 use mathlib.Core.Path.{ap, ap₂, _∙_}
-use mathlib.Core.List.{List}
-use Prim.Native.Nat.{ℕ}
 use Rattle.bits.specs.Bits.{blank}
 use Rattle.slot.specs.Slot.{withHead, withUnfinished}
 use Rattle.group.specs.Group.{roomsKept}
