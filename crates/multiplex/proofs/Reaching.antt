@@ -1,7 +1,8 @@
 -- From one frame that is heard to the next, up to 128 frames later.
 --
 --   near-same, near-change     the next frame is heard, in the same configuration or as the first of the next one
---   far-same, far-change       frames are missed before it
+--   gap-before                 frames are missed behind that one, and no change falls among them
+--   far-change                 frames are missed before a change
 --   first-before               nothing was heard before
 --
 -- Assumes nothing.
@@ -11,17 +12,17 @@ use mathlib.Core.List.{List, [], _∷_}
 use Prim.Native.Nat.{ℕ, zero, suc, _+_, _-_, _*_, _≤_, _<_}
 use native.Mathlib.Omega.{arith}
 use borrow.Author.Tests.{eq-eqb, eqb-true}
-use lib.ListN.{getD}
+use lib.ListN.{length, getD}
 use Rattle.bits.proofs.Search.{and-left, and-right}
 use native.Mathlib.Decide.{ℕ-discrete}
 use lib.Dec.{T, eqb, lit<, lit≤}
 use Rattle.bits.specs.Bits.{blank}
 use Rattle.bits.proofs.Storing.{blank-length}
 use Rattle.slot.proofs.Laws.{blank-at}
-use Rattle.structure.specs.Structure.{structureSize, headOf, certainly}
+use Rattle.structure.specs.Structure.{structureSize, headOf, certainly, spoiled}
 use Rattle.structure.specs.declared.Structure.{Structure}
 use Rattle.structure.proofs.Gathering.{Empty}
-use Rattle.structure.proofs.Runs.{empty}
+use Rattle.structure.proofs.Runs.{empty, spoiled-empty}
 use Rattle.map.specs.Map.{ids, mapSize, blockSize, structureAt, eachFrom, changedFrom, spoiledBoth}
 use Rattle.map.proofs.Places.{structure-length}
 use Rattle.map.proofs.Changing.{blank-empty, part-blank, gap-length, gap-structure, from-length}
@@ -33,7 +34,7 @@ use Rattle.multiplex.specs.Sound.{anyBefore, Word, unheard, absent, ther
 use Rattle.multiplex.proofs.Distances.{epoch-step, epoch-mono}
 use Rattle.multiplex.proofs.Knowing.{Front, some, all, Next, none, delete, piece, sure, full, Silent, Past, Settled, stays-so, told, ends, front-gap, next-gap, front-unsure, front-sure}
 use Rattle.multiplex.proofs.Words.{Words, Sure, sure-as, sure-gap, sure-change, words-as, words-gap, words-change, unheard-there, absent-unheard, Goes, goes-to}
-use Rattle.multiplex.proofs.Rounding.{Right, Turns, unbegun, Came, none-is, right-sure, right-kept, right-gone, right-round}
+use Rattle.multiplex.proofs.Rounding.{Right, Turns, unbegun, Came, none-is, right-gap, right-sure, right-kept, right-gone, right-round}
 use Rattle.multiplex.proofs.Rounding as rounding
 use Rattle.multiplex.proofs.Listening.{Known, Before, front-as, next-as}
 
@@ -85,13 +86,16 @@ came-as {c} {c'} {zs} {zs'} {due} {due'} {l} {l'} {A} ec ez ed el w =
 none-came : {c : ℕ} {zs : List ℕ} {due l : ℕ} {A : List ℕ} → c ≡ 0 → Came c zs due l A
 none-came z = unbegun z
 
--- behind frames that were missed nothing is asked of it
+-- behind frames that were missed nothing is counted
 record Lost (a : Air) (hears : ℕ → Bool) (n : ℕ) : Type 0 where
-  wholly : whollyBefore a hears n ≡ false
-  ready : (id : ℕ) → readyBefore a hears id n ≡ false
+  wholly : whollyBefore a hears n ≡ change (timed a) n
   rounds : (id : ℕ) → roundsBefore a hears id n ≡ 0
   announced : (id : ℕ) → newRoundsBefore a hears id n ≡ 0
   alone : aloneBefore a hears n ≡ false
+
+or-no : (x : Bool) → (x || false) ≡ x
+or-no true = refl
+or-no false = refl
 
 off-cond : {A : Type 0} (x y : A) (b : Bool) → b ≡ false → cond b x y ≡ y
 off-cond x y true e = absurd (subst T e tt)
@@ -107,28 +111,41 @@ heardReady a hears id n =
 unsure-any : {g : Bool} {xs zs F A : List ℕ} → Sure false xs zs F A → Sure g xs zs F A
 unsure-any w = record { front = w .front; next = w .next; gone = λ z c. absurd (subst T (sym (w .gone z c)) tt) }
 
--- that it is not there stays heard, over frames that were missed within a configuration
-absent-kept : (a : Air) (hears : ℕ → Bool) (id t n : ℕ) → t < n → Gap hears t n → epoch (timed a) n ≡ epoch (timed a) t → absentBefore a hears id n ≡ absentTo a hears id t
-unfolding absentBefore absentBy
-absent-kept a hears id t zero l gap on = absurd (omega arith)
-absent-kept a hears id t (suc n) l gap on = go (change (timed a) (suc n)) refl (ℕ-discrete t n) (absent-kept a hears id t n)
+-- a frame that was missed
+unheard-at : (hears : ℕ → Bool) (t n v : ℕ) → Gap hears t n → t < v → v < n → hears v ≡ false
+unheard-at hears t n v gap lo hi = go (hears v) refl
   where
-    go : (b : Bool) → change (timed a) (suc n) ≡ b → Dec (t ≡ n)
-        → (t < n → Gap hears t n → epoch (timed a) n ≡ epoch (timed a) t → absentBefore a hears id n ≡ absentTo a hears id t)
-        → cond (change (timed a) (suc n)) (hears n && (whollyBefore a hears n && isAbsent (comingTo a hears id n))) (absentTo a hears id n) ≡ absentTo a hears id t
-    go true c d r = absurd (omega (arith, on, epoch-step (timed a) n true c, epoch-mono (timed a) t n (omega (arith, l))))
-    go false c (yes e) r =
-        ap (λ (b : Bool). cond b (hears n && (whollyBefore a hears n && isAbsent (comingTo a hears id n))) (absentTo a hears id n)) c
-        ∙ ap (λ (v : ℕ). absentTo a hears id v) (sym e)
-    go false c (no e) r =
-        ap (λ (b : Bool). cond b (hears n && (whollyBefore a hears n && isAbsent (comingTo a hears id n))) (absentTo a hears id n)) c
-        ∙ ap (λ (b : Bool). absentBy (cond b (presentIn id (a .carries n)) unheard) (absentBefore a hears id n)) (off (hears n) refl)
-        ∙ r (omega (arith, l, e)) (λ v hv hh. gap v (omega (arith, hv)) hh)
-        (omega (arith, on, epoch-step (timed a) n false c))
-      where
-        off : (b : Bool) → hears n ≡ b → hears n ≡ false
-        off true q = absurd (omega (arith, l, e, gap n (omega arith) q))
-        off false q = q
+    go : (b : Bool) → hears v ≡ b → hears v ≡ false
+    go true e = absurd (omega (arith, lo, gap v hi e))
+    go false e = e
+
+-- up to the frame before, by whether the next one is the first that was missed
+missed-ind : (P : ℕ → Type 0) (hears : ℕ → Bool) (t n : ℕ) → t < n → Gap hears t n → P (suc t) → ((v : ℕ) → t < v → v < n → hears v ≡ false → P v → P (suc v)) → P n
+missed-ind P hears t zero l gap base step = absurd (omega arith)
+missed-ind P hears t (suc n) l gap base step = go (ℕ-discrete t n) (missed-ind P hears t n)
+  where
+    go : Dec (t ≡ n) → (t < n → Gap hears t n → P (suc t) → ((v : ℕ) → t < v → v < n → hears v ≡ false → P v → P (suc v)) → P n) → P (suc n)
+    go (yes e) r = subst (λ (x : ℕ). P (suc x)) e base
+    go (no e) r =
+        step n (omega (arith, l, e)) (omega arith) (unheard-at hears t (suc n) n gap (omega (arith, l, e)) (omega arith))
+        (r (omega (arith, l, e)) (λ v hv hh. gap v (omega (arith, hv)) hh) base (λ v lo hi h p. step v lo (omega (arith, hi)) h p))
+
+-- that it is not there stays heard, over frames that were missed within a configuration
+absent-kept : (a : Air) (hears : ℕ → Bool) (id t n : ℕ) → t < n → Gap hears t n → epoch (timed a) n ≡ epoch (timed a) (suc t)
+    → absentBefore a hears id n ≡ absentBefore a hears id (suc t)
+unfolding absentBefore absentBy
+absent-kept a hears id t n l gap =
+    missed-ind (λ (n : ℕ). epoch (timed a) n ≡ epoch (timed a) (suc t) → absentBefore a hears id n ≡ absentBefore a hears id (suc t)) hears t n l gap (λ on. refl)
+    (λ v lo hi off r on. go v lo off r on (change (timed a) (suc v)) refl)
+  where
+    go : (v : ℕ) → t < v → hears v ≡ false → (epoch (timed a) v ≡ epoch (timed a) (suc t) → absentBefore a hears id v ≡ absentBefore a hears id (suc t))
+        → epoch (timed a) (suc v) ≡ epoch (timed a) (suc t) → (b : Bool) → change (timed a) (suc v) ≡ b
+        → cond (change (timed a) (suc v)) (hears v && (whollyBefore a hears v && isAbsent (comingTo a hears id v))) (absentTo a hears id v) ≡ absentBefore a hears id (suc t)
+    go v lo off r on true c = absurd (omega (arith, on, epoch-step (timed a) v true c, epoch-mono (timed a) (suc t) v (omega (arith, lo))))
+    go v lo off r on false c =
+        ap (λ (b : Bool). cond b (hears v && (whollyBefore a hears v && isAbsent (comingTo a hears id v))) (absentTo a hears id v)) c
+        ∙ ap (λ (b : Bool). absentBy (cond b (presentIn id (a .carries v)) unheard) (absentBefore a hears id v)) off
+        ∙ r (sym (epoch-step (timed a) v false c) ∙ on)
 
 any-heard : (hears : ℕ → Bool) (t v : ℕ) → t < v → hears t ≡ true → anyBefore hears v ≡ true
 unfolding anyBefore
@@ -143,23 +160,53 @@ any-heard hears t (suc v) l h = go (ℕ-discrete t v) (any-heard hears t v)
     go (yes e) r = ap (λ (b : Bool). b || anyBefore hears v) (ap hears (sym e) ∙ h)
     go (no e) r = ap (λ (b : Bool). hears v || b) (r (omega (arith, l, e)) h) ∙ or-yes (hears v)
 
+ready-missed : (a : Air) (hears : ℕ → Bool) (id v : ℕ) → hears v ≡ false → anyBefore hears v ≡ true
+    → readyBefore a hears id (suc v) ≡ (not (change (timed a) (suc v)) && readyBefore a hears id v)
+unfolding readyBefore
+ready-missed a hears id v off any =
+    off-cond (heardReady a hears id v) (cond (anyBefore hears v) (not (change (timed a) (suc v)) && readyBefore a hears id v) (not (broadcast.some (inForce a (suc v) id)))) (hears v) off
+    ∙ ap (λ (b : Bool). cond b (not (change (timed a) (suc v)) && readyBefore a hears id v) (not (broadcast.some (inForce a (suc v) id)))) any
+
+-- it stays right over frames that were missed, up to the next change
+ready-kept : (a : Air) (hears : ℕ → Bool) (id t n : ℕ) → t < n → Gap hears t n → hears t ≡ true → readyBefore a hears id n ≡ true
+    → (epoch (timed a) n ≡ epoch (timed a) (suc t)) × (readyBefore a hears id (suc t) ≡ true)
+ready-kept a hears id t n l gap h =
+    missed-ind (λ (n : ℕ). readyBefore a hears id n ≡ true → (epoch (timed a) n ≡ epoch (timed a) (suc t)) × (readyBefore a hears id (suc t) ≡ true))
+    hears t n l gap (λ ok. (refl, ok)) (λ v lo hi off r ok. go v r (change (timed a) (suc v)) refl (sym (ready-missed a hears id v off (any-heard hears t v lo h)) ∙ ok))
+  where
+    go : (v : ℕ) → (readyBefore a hears id v ≡ true → (epoch (timed a) v ≡ epoch (timed a) (suc t)) × (readyBefore a hears id (suc t) ≡ true))
+        → (b : Bool) → change (timed a) (suc v) ≡ b → (not (change (timed a) (suc v)) && readyBefore a hears id v) ≡ true
+        → (epoch (timed a) (suc v) ≡ epoch (timed a) (suc t)) × (readyBefore a hears id (suc t) ≡ true)
+    go v r true c ok = absurd (subst T (sym (sym (ap (λ (b : Bool). not b && readyBefore a hears id v) c) ∙ ok)) tt)
+    go v r false c ok =
+        let y = r (sym (ap (λ (b : Bool). not b && readyBefore a hears id v) c) ∙ ok) in
+        (epoch-step (timed a) v false c ∙ y .0, y .1)
+
 lost-at : (a : Air) (hears : ℕ → Bool) (t n : ℕ) → suc t < n → Gap hears t n → hears t ≡ true → Lost a hears n
-unfolding whollyBefore aloneBefore readyBefore roundsBefore newRoundsBefore
+unfolding whollyBefore aloneBefore roundsBefore newRoundsBefore
 lost-at a hears t zero l gap h = absurd (omega arith)
 lost-at a hears t (suc n) l gap h =
-    let off : hears n ≡ false = unheard-at (hears n) refl in
+    let off : hears n ≡ false = unheard-at hears t (suc n) n gap (omega (arith, l)) (omega arith) in
     let any : anyBefore hears n ≡ true = any-heard hears t n (omega (arith, l)) h in
     record {
-      wholly = λ i. cond (off i) (change (timed a) (suc n) || whollyBefore a hears n) (cond (any i) false (change (timed a) (suc n)));
-      ready = λ id. off-cond (heardReady a hears id n) (cond (anyBefore hears n) false (not (broadcast.some (inForce a (suc n) id)))) (hears n) off ∙ ap (λ (b : Bool). cond b false (not (broadcast.some (inForce a (suc n) id)))) any;
+      wholly = ap (λ (b : Bool). change (timed a) (suc n) || (b && whollyBefore a hears n)) off ∙ or-no (change (timed a) (suc n));
       rounds = λ id. off-cond (cond (change (timed a) (suc n)) 0 (roundsTo a hears id n)) 0 (hears n) off;
       announced = λ id. off-cond (cond (change (timed a) (suc n)) 0 (newRoundsTo a hears id n)) 0 (hears n) off;
       alone = λ i. cond (off i) (not (change (timed a) (suc n)) && aloneBefore a hears n) (not (any i));
     }
-  where
-    unheard-at : (b : Bool) → hears n ≡ b → hears n ≡ false
-    unheard-at true e = absurd (omega (arith, l, gap n (omega arith) e))
-    unheard-at false e = e
+
+starts : (a : Air) (n : ℕ) → change (timed a) n ≡ true → begun (timed a) n ≡ true
+unfolding begun
+starts a zero c = c
+starts a (suc n) c = ap (λ (b : Bool). b || begun (timed a) n) c
+
+none-yet : (a : Air) (n id : ℕ) → change (timed a) n ≡ true → (newBefore a id n ≡ 0) × ((goneBefore a id n ≡ false) × (lastNew a id n ≡ 0))
+unfolding newBefore goneBefore lastNew
+none-yet a zero id c = (refl, (refl, refl))
+none-yet a (suc n) id c = (
+  ap (λ (b : Bool). cond b 0 (newTo a id n)) c,
+  (ap (λ (b : Bool). cond b false (goneTo a id n)) c, ap (λ (b : Bool). cond b 0 (later (newIn id (a .carries n)) (lastNew a id n))) c),
+)
 
 module _ (a : Air) (w : Orderly a) (hears : ℕ → Bool) (t : ℕ) (m : List ℕ) (u : Bool) (k : Known a hears t m u) where
   abbrev e : ℕ
@@ -176,9 +223,7 @@ module _ (a : Air) (w : Orderly a) (hears : ℕ → Bool) (t : ℕ) (m : List �
 
   wholly-next : (b : Bool) → change (timed a) (suc t) ≡ b → whollyBefore a hears (suc t) ≡ (b || whollyBefore a hears t)
   unfolding whollyBefore
-  wholly-next b c =
-      ap (λ (x : Bool). cond x (change (timed a) (suc t) || whollyBefore a hears t) (cond (anyBefore hears t) false (change (timed a) (suc t)))) (k .heard)
-      ∙ ap (λ (x : Bool). x || whollyBefore a hears t) c
+  wholly-next b c = λ i. c i || (k .heard i && whollyBefore a hears t)
 
   -- over a change
   crossed : ℕ → Bool
@@ -187,7 +232,8 @@ module _ (a : Air) (w : Orderly a) (hears : ℕ → Bool) (t : ℕ) (m : List �
   ready-next : (id : ℕ) → readyBefore a hears id (suc t) ≡ cond (change (timed a) (suc t)) (crossed id) (readyTo a hears id t)
   unfolding readyBefore crossed
   ready-next id =
-      ap (λ (x : Bool). cond x (cond (change (timed a) (suc t)) (crossed id) (readyTo a hears id t)) (cond (anyBefore hears t) false (not (broadcast.some (inForce a (suc t) id))))) (k .heard)
+      ap (λ (x : Bool). cond x (cond (change (timed a) (suc t)) (crossed id) (readyTo a hears id t))
+      (cond (anyBefore hears t) (not (change (timed a) (suc t)) && readyBefore a hears id t) (not (broadcast.some (inForce a (suc t) id))))) (k .heard)
 
   alone-next : (b : Bool) → change (timed a) (suc t) ≡ b → aloneBefore a hears (suc t) ≡ (not b && aloneBefore a hears t)
   unfolding aloneBefore
@@ -342,86 +388,151 @@ module _ (a : Air) (w : Orderly a) (hears : ℕ → Bool) (t : ℕ) (m : List �
         came = λ id hid. none-came (new-next id ∙ ap (λ (b : Bool). cond b 0 (newRoundsTo a hears id t)) c);
       }
 
-  -- ---- frames are missed
+  -- ---- a change of which the last frame before was missed
 
-  module _ (n : ℕ) (missed : suc t < n) (gap : Gap hears t n) where
-    later-on : t < n
-    later-on = omega (arith, missed)
+  module _ (n : ℕ) (missed : suc t < n) (gap : Gap hears t n) (on : epoch (timed a) n ≡ suc e) (late : change (timed a) (suc t) ≡ false) where
+    abbrev behind : List ℕ
+    behind = changedFrom ids 0 false m
 
     abbrev gaps : List ℕ
-    gaps = eachFrom ids 0 spoiledBoth m
+    gaps = eachFrom ids 0 spoiledBoth behind
 
-    gap-front : (id : ℕ) → id < ids → (due : ℕ) → Front a hears (suc t) e id due (structureAt id 0 gaps)
-    gap-front id hid due = subst (Front a hears (suc t) e id due) (sym (gap-structure m (k .size) id 0 hid (lit< tt))) (front-gap a hears (suc t) e id _ due _ (k .front id hid))
+    lb : length behind ≡ mapSize
+    lb = from-length false ids 0 m (lit≤ tt) (k .size)
 
-    gap-next : (id : ℕ) → id < ids → (due count links : ℕ) (g : Bool) → Next a hears (suc t) e id due count links g false (structureAt id 1 gaps)
-    gap-next id hid due count links g =
-        subst (Next a hears (suc t) e id due count links g false) (sym (gap-structure m (k .size) id 1 hid (lit< tt)))
-        (next-gap a hears (suc t) e id _ _ _ _ u _ (k .next id hid) due count links g)
+    at : (id v : ℕ) → id < ids → v < 2 → structureAt id v gaps ≡ spoiled (structureAt id v behind)
+    at id v hid hv = gap-structure behind lb id v hid hv
 
-    gap-words : (id : ℕ) → id < ids → Words (presentTo a hears id t) (comingTo a hears id t) (structureAt id 0 gaps) (structureAt id 1 gaps)
-    gap-words id hid =
-        words-as (words-gap _ _ _ _ (structure-length m (k .size) id 0 hid (lit< tt)) (structure-length m (k .size) id 1 hid (lit< tt)) (k .words id hid)) refl refl
-        (sym (gap-structure m (k .size) id 0 hid (lit< tt))) (sym (gap-structure m (k .size) id 1 hid (lit< tt)))
-
-    gap-sure : (id : ℕ) → id < ids → Sure (absentTo a hears id t) (inForce a t id) (coming a t id) (structureAt id 0 gaps) (structureAt id 1 gaps)
-    gap-sure id hid =
-        sure-as (sym (gap-structure m (k .size) id 0 hid (lit< tt))) (sym (gap-structure m (k .size) id 1 hid (lit< tt)))
-        (sure-gap (absentTo a hears id t) _ _ _ _ (structure-length m (k .size) id 0 hid (lit< tt)) (structure-length m (k .size) id 1 hid (lit< tt)) (k .sure id hid))
-
-    -- the frame before was missed
     lost : Lost a hears n
     lost = lost-at a hears t n missed gap (k .heard)
 
-    no : {A : Type 0} → false ≡ true → A
-    no z = absurd (subst T (sym z) tt)
+    far-both : (id : ℕ) → id < ids → Front a hears (suc t) (suc e) id 0 (structureAt id 0 behind) × Empty (structureAt id 1 behind)
+    far-both id hid = front-unsure a hears (suc t) e id past hid m (k .size) (w .linked (suc e) id hid) _ 0 _ _ _ _ u (k .front id hid) (k .next id hid)
 
-    lost-turns : (id : ℕ) {xs F : List ℕ} {due l : ℕ} → Turns (readyBefore a hears id n) (aloneBefore a hears n) (roundsBefore a hears id n) xs due l F
-    lost-turns id = record { rightly = λ z. no (sym (lost .ready id) ∙ z); round = unbegun (lost .rounds id); only = λ z. no (sym (lost .alone) ∙ z) }
+    far-front : (id : ℕ) → id < ids → Front a hears n (suc e) id (lastOld a id n) (structureAt id 0 gaps)
+    far-front id hid =
+        subst (Front a hears n (suc e) id (lastOld a id n)) (sym (at id 0 hid (lit< tt)))
+        (front-later a hears t n gap (suc e) id _ _ (front-gap a hears (suc t) (suc e) id 0 (lastOld a id n) _ (far-both id hid .0)))
 
-    pub far-same : epoch (timed a) n ≡ e → Before a hears n gaps false
-    far-same on = record {
-      size = gap-length m (k .size);
-      begun = λ z. no z;
-      front = λ id hid. subst (λ (x : ℕ). Front a hears n x id (lastOld a id n) (structureAt id 0 gaps)) (sym on)
-          (front-later a hears t n gap e id _ _ (gap-front id hid (lastOld a id n)));
-      next = λ id hid. subst (λ (x : ℕ). Next a hears n x id (lastNew a id n) (newBefore a id n) (linksNew a id n) (goneBefore a id n) false (structureAt id 1 gaps)) (sym on)
-          (next-later a hears t n gap e id _ _ _ _ false _ (gap-next id hid (lastNew a id n) (newBefore a id n) (linksNew a id n) (goneBefore a id n)));
-      words = λ id hid.
-          let g = goes n later-on gap id .before on in
-          words-as (gap-words id hid) (sym (g .1)) (sym (g .0)) refl refl;
-      sure = λ id hid. subst (λ (x : ℕ). Sure (absentBefore a hears id n) (a .config x id) (a .config (suc x) id) (structureAt id 0 gaps) (structureAt id 1 gaps)) (sym on)
-          (subst (λ (g : Bool). Sure g (inForce a t id) (coming a t id) (structureAt id 0 gaps) (structureAt id 1 gaps)) (sym (absent-kept a hears id t n later-on gap on)) (gap-sure id hid));
+    far-words : (id : ℕ) → id < ids → Words (presentBefore a hears id n) (comingBefore a hears id n) (structureAt id 0 gaps) (structureAt id 1 gaps)
+    far-words id hid =
+        let g = goes n (omega (arith, missed)) gap id .behind on in
+        words-as (words-gap _ _ _ _ (structure-length behind lb id 0 hid (lit< tt)) (structure-length behind lb id 1 hid (lit< tt))
+        (words-change false m (k .size) id hid _ _ (k .words id hid))) (sym (g .1)) (sym (g .0)) (sym (at id 0 hid (lit< tt))) (sym (at id 1 hid (lit< tt)))
+
+    far-sure : (id : ℕ) → id < ids → Sure (absentBefore a hears id n) (coming a t id) (a .config (suc (suc e)) id) (structureAt id 0 gaps) (structureAt id 1 gaps)
+    far-sure id hid =
+        unsure-any (sure-as (sym (at id 0 hid (lit< tt))) (sym (at id 1 hid (lit< tt)))
+        (sure-gap false _ _ _ _ (structure-length behind lb id 0 hid (lit< tt)) (structure-length behind lb id 1 hid (lit< tt))
+        (sure-change false m (k .size) id hid _ _ (k .words id hid) (absentTo a hears id t) _ _ _ (k .sure id hid))))
+
+    pub far-change : Before a hears n gaps (change (timed a) n)
+    far-change = record {
+      size = gap-length behind lb;
+      begun = starts a n;
+      front = λ id hid. subst (λ (x : ℕ). Front a hears n x id (lastOld a id n) (structureAt id 0 gaps)) (sym on) (far-front id hid);
+      next = λ id hid. fresh n gap on (change (timed a) n) (λ j z. none-yet a n j z) id _
+          (subst Empty (sym (at id 1 hid (lit< tt))) (spoiled-empty _ (far-both id hid .1)));
+      words = far-words;
+      sure = λ id hid.
+          subst (λ (x : ℕ). Sure (absentBefore a hears id n) (a .config x id) (a .config (suc x) id) (structureAt id 0 gaps) (structureAt id 1 gaps)) (sym on) (far-sure id hid);
       wholly = sym (lost .wholly);
-      turns = λ id hid. lost-turns id;
+      turns = λ id hid. record {
+        rightly = λ z. absurd (omega (arith, on, ready-kept a hears id t n (omega (arith, missed)) gap (k .heard) z .0, epoch-step (timed a) t false late));
+        round = unbegun (lost .rounds id);
+        only = λ z. absurd (subst T (sym (sym (lost .alone) ∙ z)) tt);
+      };
       came = λ id hid. none-came (lost .announced id);
     }
 
-    far-both : (id : ℕ) → id < ids
-        → Front a hears (suc t) (suc e) id (lastOld a id n) (structureAt id 0 (changedFrom ids 0 false gaps)) × Empty (structureAt id 1 (changedFrom ids 0 false gaps))
-    far-both id hid =
-        front-unsure a hears (suc t) e id past hid gaps (gap-length m (k .size)) (w .linked (suc e) id hid) 0 (lastOld a id n) 0 0 0 false false
-        (gap-front id hid 0) (gap-next id hid 0 0 0 false)
+-- ---- frames are missed within a configuration
 
-    pub far-change : epoch (timed a) n ≡ suc e → Before a hears n (changedFrom ids 0 false gaps) false
-    far-change on =
-        let lg = gap-length m (k .size) in
-        record {
-          size = from-length false ids 0 gaps (lit≤ tt) lg;
-          begun = λ z. no z;
-          front = λ id hid. subst (λ (x : ℕ). Front a hears n x id (lastOld a id n) (structureAt id 0 (changedFrom ids 0 false gaps))) (sym on)
-              (front-later a hears t n gap (suc e) id _ _ (far-both id hid .0));
-          next = λ id hid. fresh n gap on false (λ j z. no z) id _ (far-both id hid .1);
-          words = λ id hid.
-              let g = goes n later-on gap id .behind on in
-              words-as (words-change false gaps lg id hid _ _ (gap-words id hid)) (sym (g .1)) (sym (g .0)) refl refl;
-          sure = λ id hid.
-              subst (λ (x : ℕ). Sure (absentBefore a hears id n) (a .config x id) (a .config (suc x) id) (structureAt id 0 (changedFrom ids 0 false gaps)) (structureAt id 1 (changedFrom ids 0 false gaps)))
-              (sym on) (unsure-any (sure-change false gaps lg id hid _ _ (gap-words id hid) (absentTo a hears id t) _ _ _ (gap-sure id hid)));
-          wholly = sym (lost .wholly);
-          turns = λ id hid. lost-turns id;
-          came = λ id hid. none-came (lost .announced id);
-        }
+module _ (a : Air) (hears : ℕ → Bool) (t n : ℕ) (missed : suc t < n) (gap : Gap hears t n) (heard : hears t ≡ true) (on : epoch (timed a) n ≡ epoch (timed a) (suc t))
+    (m : List ℕ) (u : Bool) (k : Before a hears (suc t) m u) where
+  abbrev spoilt : List ℕ
+  spoilt = eachFrom ids 0 spoiledBoth m
+
+  abbrev then : ℕ
+  then = epoch (timed a) (suc t)
+
+  no : {A : Type 0} → false ≡ true → A
+  no z = absurd (subst T (sym z) tt)
+
+  held : (id v : ℕ) → id < ids → v < 2 → structureAt id v spoilt ≡ spoiled (structureAt id v m)
+  held id v hid hv = gap-structure m (k .size) id v hid hv
+
+  long : (id v : ℕ) → id < ids → v < 2 → length (structureAt id v m) ≡ structureSize
+  long id v hid hv = structure-length m (k .size) id v hid hv
+
+  nothing-counted : Lost a hears n
+  nothing-counted = lost-at a hears t n missed gap heard
+
+  no-change : change (timed a) n ≡ false
+  no-change = go n missed on
+    where
+      go : (n : ℕ) → suc t < n → epoch (timed a) n ≡ then → change (timed a) n ≡ false
+      go zero l z = absurd (omega arith)
+      go (suc v) l z = by (change (timed a) (suc v)) refl
+        where
+          by : (b : Bool) → change (timed a) (suc v) ≡ b → change (timed a) (suc v) ≡ false
+          by true c = absurd (omega (arith, z, epoch-step (timed a) v true c, epoch-mono (timed a) (suc t) v (omega (arith, l))))
+          by false c = c
+
+  -- what was heard last is what it was
+  same-words : (id : ℕ) → (comingBefore a hears id (suc t) ≡ comingBefore a hears id n) × (presentBefore a hears id (suc t) ≡ presentBefore a hears id n)
+  same-words id = go (change (timed a) (suc t)) refl
+    where
+      near : Goes a hears id t (suc t)
+      near = goes-to a hears id t (suc t) 0 (ap suc (plain t)) (λ v hv hh. hv)
+        where
+          plain : (x : ℕ) → x ≡ 0 + x
+          plain x = omega arith
+
+      far : Goes a hears id t n
+      far = goes-to a hears id t n (n - suc t) (omega (arith, missed)) gap
+
+      go : (b : Bool) → change (timed a) (suc t) ≡ b → (comingBefore a hears id (suc t) ≡ comingBefore a hears id n) × (presentBefore a hears id (suc t) ≡ presentBefore a hears id n)
+      go true c =
+          let z = epoch-step (timed a) t true c in
+          (near .behind z .0 ∙ sym (far .behind (on ∙ z) .0), near .behind z .1 ∙ sym (far .behind (on ∙ z) .1))
+      go false c =
+          let z = epoch-step (timed a) t false c in
+          (near .before z .0 ∙ sym (far .before (on ∙ z) .0), near .before z .1 ∙ sym (far .before (on ∙ z) .1))
+
+  gap-right : (id : ℕ) → id < ids → readyBefore a hears id n ≡ true → Right (inForce a n id) (lastOld a id n) (structureAt id 0 spoilt)
+  gap-right id hid z =
+      subst (λ (x : ℕ). Right (a .config x id) (lastOld a id n) (structureAt id 0 spoilt)) (sym on)
+      (subst (Right (a .config then id) (lastOld a id n)) (sym (held id 0 hid (lit< tt)))
+      (right-gap _ (lastOld a id (suc t)) _ _ (k .turns id hid .rightly (ready-kept a hears id t n (omega (arith, missed)) gap heard z .1))))
+
+  pub gap-before : Before a hears n spoilt (change (timed a) n)
+  gap-before = record {
+    size = gap-length m (k .size);
+    begun = starts a n;
+    front = λ id hid. subst (λ (x : ℕ). Front a hears n x id (lastOld a id n) (structureAt id 0 spoilt)) (sym on)
+        (front-later a hears t n gap then id _ _
+        (subst (Front a hears (suc t) then id (lastOld a id n)) (sym (held id 0 hid (lit< tt))) (front-gap a hears (suc t) then id _ (lastOld a id n) _ (k .front id hid))));
+    next = λ id hid. subst (λ (x : ℕ). Next a hears n x id (lastNew a id n) (newBefore a id n) (linksNew a id n) (goneBefore a id n) (change (timed a) n) (structureAt id 1 spoilt)) (sym on)
+        (next-later a hears t n gap then id _ _ _ _ (change (timed a) n) _
+        (subst (Next a hears (suc t) then id (lastNew a id n) (newBefore a id n) (linksNew a id n) (goneBefore a id n) (change (timed a) n)) (sym (held id 1 hid (lit< tt)))
+        (subst (λ (b : Bool). Next a hears (suc t) then id (lastNew a id n) (newBefore a id n) (linksNew a id n) (goneBefore a id n) b (spoiled (structureAt id 1 m))) (sym no-change)
+        (next-gap a hears (suc t) then id _ _ _ _ u _ (k .next id hid) (lastNew a id n) (newBefore a id n) (linksNew a id n) (goneBefore a id n)))));
+    words = λ id hid.
+        words-as (words-gap _ _ _ _ (long id 0 hid (lit< tt)) (long id 1 hid (lit< tt)) (k .words id hid)) (same-words id .1) (same-words id .0)
+        (sym (held id 0 hid (lit< tt))) (sym (held id 1 hid (lit< tt)));
+    sure = λ id hid. subst (λ (x : ℕ). Sure (absentBefore a hears id n) (a .config x id) (a .config (suc x) id) (structureAt id 0 spoilt) (structureAt id 1 spoilt)) (sym on)
+        (subst (λ (g : Bool). Sure g (a .config then id) (a .config (suc then) id) (structureAt id 0 spoilt) (structureAt id 1 spoilt))
+        (sym (absent-kept a hears id t n (omega (arith, missed)) gap on))
+        (sure-as (sym (held id 0 hid (lit< tt))) (sym (held id 1 hid (lit< tt)))
+        (sure-gap (absentBefore a hears id (suc t)) _ _ _ _ (long id 0 hid (lit< tt)) (long id 1 hid (lit< tt)) (k .sure id hid))));
+    wholly = sym (nothing-counted .wholly);
+    turns = λ id hid. record {
+      rightly = gap-right id hid;
+      round = unbegun (nothing-counted .rounds id);
+      only = λ z. no (sym (nothing-counted .alone) ∙ z);
+    };
+    came = λ id hid. none-came (nothing-counted .announced id);
+  }
 
 -- ---- nothing was heard before
 
@@ -437,19 +548,6 @@ blank-certain id hid =
 certainly-mark : (h : Structure) → certainly h ≡ true → eqb (h .certain) 1 ≡ true
 unfolding certainly
 certainly-mark h c = and-left (eqb (h .certain) 1) _ c
-
-starts : (a : Air) (n : ℕ) → change (timed a) n ≡ true → begun (timed a) n ≡ true
-unfolding begun
-starts a zero c = c
-starts a (suc n) c = ap (λ (b : Bool). b || begun (timed a) n) c
-
-none-yet : (a : Air) (n id : ℕ) → change (timed a) n ≡ true → (newBefore a id n ≡ 0) × ((goneBefore a id n ≡ false) × (lastNew a id n ≡ 0))
-unfolding newBefore goneBefore lastNew
-none-yet a zero id c = (refl, (refl, refl))
-none-yet a (suc n) id c = (
-  ap (λ (b : Bool). cond b 0 (newTo a id n)) c,
-  (ap (λ (b : Bool). cond b false (goneTo a id n)) c, ap (λ (b : Bool). cond b 0 (later (newIn id (a .carries n)) (lastNew a id n))) c),
-)
 
 -- nothing was heard of any
 unspoken : (a : Air) (hears : ℕ → Bool) (id t : ℕ) → ((v : ℕ) → v < t → hears v ≡ true → ⊥) → (presentBefore a hears id t ≡ unheard) × (comingBefore a hears id t ≡ unheard)
@@ -502,8 +600,9 @@ first-at a hears (suc n) q =
     let off : hears n ≡ false = off-at (hears n) refl in
     let any : anyBefore hears n ≡ false = none-heard hears n (λ v hv. q v (omega (arith, hv))) in
     record {
-      wholly = λ i. cond (off i) (change (timed a) (suc n) || whollyBefore a hears n) (cond (any i) false (change (timed a) (suc n)));
-      ready = λ id. off-cond (heardReady a hears id n) (cond (anyBefore hears n) false (not (broadcast.some (inForce a (suc n) id)))) (hears n) off ∙ ap (λ (b : Bool). cond b false (not (broadcast.some (inForce a (suc n) id)))) any;
+      wholly = ap (λ (b : Bool). change (timed a) (suc n) || (b && whollyBefore a hears n)) off ∙ or-no (change (timed a) (suc n));
+      ready = λ id. off-cond (heardReady a hears id n) (cond (anyBefore hears n) (not (change (timed a) (suc n)) && readyBefore a hears id n) (not (broadcast.some (inForce a (suc n) id)))) (hears n) off
+          ∙ ap (λ (b : Bool). cond b (not (change (timed a) (suc n)) && readyBefore a hears id n) (not (broadcast.some (inForce a (suc n) id)))) any;
       rounds = λ id. off-cond (cond (change (timed a) (suc n)) 0 (roundsTo a hears id n)) 0 (hears n) off;
       announced = λ id. off-cond (cond (change (timed a) (suc n)) 0 (newRoundsTo a hears id n)) 0 (hears n) off;
     }

@@ -5,7 +5,7 @@
 --   roundsBefore, roundsTo       how often a repetition of a component's present structure was heard to begin in the running configuration, with no
 --                          frame missed since
 --   newRoundsBefore, newRoundsTo    the same of its coming structure
---   whollyBefore           every frame of the running configuration was heard so far, and the one before its first, if any was before
+--   whollyBefore           every frame of the running configuration was heard so far
 --   aloneBefore            every frame that was heard is of the running configuration, and none was missed since the first of them
 --   found alone n          so many beginnings are enough
 --   news                   something was said of the component's change in the running configuration
@@ -55,8 +55,7 @@ newRoundsTo a hears id t = newRoundsBefore a hears id t + first (newIn id (a .ca
 
 unfoldable pub whollyBefore : Air → (ℕ → Bool) → ℕ → Bool
 whollyBefore a hears zero = change (timed a) zero
-whollyBefore a hears (suc t) =
-    cond (hears t) (change (timed a) (suc t) || whollyBefore a hears t) (cond (anyBefore hears t) false (change (timed a) (suc t)))
+whollyBefore a hears (suc t) = change (timed a) (suc t) || (hears t && whollyBefore a hears t)
 
 unfoldable pub aloneBefore : Air → (ℕ → Bool) → ℕ → Bool
 aloneBefore a hears zero = true
@@ -77,16 +76,17 @@ overChange unheard ready a hears id t = ready && same (inForce a t id) (coming a
 overChange absent ready a hears id t = not (some (coming a t id))
 overChange there ready a hears id t = leb 2 (newRoundsTo a hears id t)
 
--- A start finds nothing, which is right of a component that there is not. From then on: it stays right from frame to frame; at a change behind a
--- configuration that was wholly heard, it is right if it was so before or the change was announced; and from the third beginning of a
--- repetition within one configuration on, whatever was heard or missed before, or from the second in the configuration of the start.
+-- A start finds nothing, which is right of a component that there is not. From then on: it stays right from frame to frame, heard or missed, up to
+-- the next change; at a change behind a configuration that was wholly heard, it is right if it was so before or the change was announced,
+-- though frames behind the change are missed; and from the third beginning of a repetition within one configuration on, whatever was heard
+-- or missed before, or from the second in the configuration of the start. What a change does whose last frame before was missed nobody knows.
 unfoldable pub readyBefore : Air → (ℕ → Bool) → ℕ → ℕ → Bool
 readyBefore a hears id zero = not (some (inForce a zero id))
 readyBefore a hears id (suc t) =
     let ready = readyBefore a hears id t || found (aloneBefore a hears t) (roundsTo a hears id t) in
     cond (hears t)
     (cond (change (timed a) (suc t)) (cond (whollyBefore a hears t) (ready || news a id t) (overChange (comingTo a hears id t) ready a hears id t)) ready)
-    (cond (anyBefore hears t) false (not (some (inForce a (suc t) id))))
+    (cond (anyBefore hears t) (not (change (timed a) (suc t)) && readyBefore a hears id t) (not (some (inForce a (suc t) id))))
 
 abbrev pub readyTo : Air → (ℕ → Bool) → ℕ → ℕ → Bool
 readyTo a hears id t = readyBefore a hears id t || found (aloneBefore a hears t) (roundsTo a hears id t)
