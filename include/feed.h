@@ -216,8 +216,7 @@ uint8_t feed_map_heard(const uint8_t *map, size_t map_len, uint8_t id, uint8_t c
 
 /*
  * How far what was heard reaches. *row is how many frames were heard in a row since the start or the last missed one, up to 255, from
- * where on *unknown above is 0; *unbroken is 1 where every frame of the running configuration was heard, up to the last one,
- * and the frame before its first, if the map was started by then.
+ * where on *unknown above is 0; *unbroken is 1 where every frame of the running configuration was heard, from its first on.
  * *components is how many components are in force in the frame with a count, whole or unfinished: a multiplex never has more than 128,
  * so that more than 128 mean that deletions were missed, and some that are shown are gone.
  * Refused, in this order, and then every value is 0: 20, 34.
