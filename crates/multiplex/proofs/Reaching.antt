@@ -29,7 +29,8 @@ use Rattle.map.proofs.Changing.{blank-empty, part-blank, gap-length, gap-struct
 use Rattle.multiplex.specs.Broadcast.{change, epoch, begun, Linked}
 use Rattle.multiplex.specs.Broadcast as broadcast
 use Rattle.multiplex.specs.Air.{Air, timed, newIn, oldIn, later, same, lastOld, lastNew, linkOf, linksOld, linksNew, newBefore, newTo, goneBefore, goneTo, inForce, coming, Said, nothing, described, deleted, Orderly}
-use Rattle.multiplex.specs.Finding.{isAbsent, absentBy, absentBefore, absentTo, aloneBefore, roundsBefore, roundsTo, newRoundsBefore, newRoundsTo, whollyBefore, news, overChange, readyBefore, readyTo}
+use Rattle.multiplex.specs.Finding.{aloneBefore, roundsOf, roundsBefore, roundsTo, newRoundsBefore, newRoundsTo, whollyBefore, news, overChange, readyBefore, readyTo}
+use Rattle.multiplex.specs.Admitting.{isAbsent, absentBy, absentBefore, absentTo}
 use Rattle.multiplex.specs.Sound.{anyBefore, Word, unheard, absent, there, over, presentIn, comingIn, comingBefore, comingTo, presentBefore, presentTo}
 use Rattle.multiplex.proofs.Distances.{epoch-step, epoch-mono}
 use Rattle.multiplex.proofs.Knowing.{Front, some, all, Next, none, delete, piece, sure, full, Silent, Past, Settled, stays-so, told, ends, front-gap, next-gap, front-unsure, front-sure}
@@ -183,7 +184,7 @@ ready-kept a hears id t n l gap h =
         (epoch-step (timed a) v false c ∙ y .0, y .1)
 
 lost-at : (a : Air) (hears : ℕ → Bool) (t n : ℕ) → suc t < n → Gap hears t n → hears t ≡ true → Lost a hears n
-unfolding whollyBefore aloneBefore roundsBefore newRoundsBefore
+unfolding whollyBefore aloneBefore roundsOf
 lost-at a hears t zero l gap h = absurd (omega arith)
 lost-at a hears t (suc n) l gap h =
     let off : hears n ≡ false = unheard-at hears t (suc n) n gap (omega (arith, l)) (omega arith) in
@@ -249,11 +250,11 @@ module _ (a : Air) (w : Orderly a) (hears : ℕ → Bool) (t : ℕ) (m : List �
       ∙ ap (λ (x : Bool). cond b (x && (whollyBefore a hears t && isAbsent (comingTo a hears id t))) (absentTo a hears id t)) (k .heard)
 
   rounds-next : (id : ℕ) → roundsBefore a hears id (suc t) ≡ cond (change (timed a) (suc t)) 0 (roundsTo a hears id t)
-  unfolding roundsBefore
+  unfolding roundsOf
   rounds-next id = ap (λ (x : Bool). cond x (cond (change (timed a) (suc t)) 0 (roundsTo a hears id t)) 0) (k .heard)
 
   new-next : (id : ℕ) → newRoundsBefore a hears id (suc t) ≡ cond (change (timed a) (suc t)) 0 (newRoundsTo a hears id t)
-  unfolding newRoundsBefore
+  unfolding roundsOf
   new-next id = ap (λ (x : Bool). cond x (cond (change (timed a) (suc t)) 0 (newRoundsTo a hears id t)) 0) (k .heard)
 
   pub near-same : change (timed a) (suc t) ≡ false → Before a hears (suc t) m u
@@ -594,7 +595,7 @@ none-heard hears (suc n) q =
     off false e = e
 
 first-at : (a : Air) (hears : ℕ → Bool) (n : ℕ) → ((v : ℕ) → v < n → hears v ≡ true → ⊥) → First a hears n
-unfolding whollyBefore readyBefore roundsBefore newRoundsBefore
+unfolding whollyBefore readyBefore roundsOf
 first-at a hears zero q = record { wholly = refl; ready = λ id. refl; rounds = λ id. refl; announced = λ id. refl }
 first-at a hears (suc n) q =
     let off : hears n ≡ false = off-at (hears n) refl in

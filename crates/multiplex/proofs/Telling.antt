@@ -27,7 +27,9 @@ use Rattle.multiplex.specs.Broadcast.{countAt, change, epoch}
 use Rattle.multiplex.specs.Heard.{ours, shownFields}
 use Rattle.multiplex.specs.Air.{Air, timed, Orderly}
 use Rattle.multiplex.specs.Sound.{kept, inRow, Word, unheard, absent, there, over, presentTo, comingTo, wordFor}
-use Rattle.multiplex.specs.Finding.{Near, whollyBefore, absentTo, absentBehind, absentFor, NextChange, heardNews, Announces, Reason, gone, long, Admits}
+use Rattle.multiplex.specs.Finding.{Near, whollyBefore}
+use Rattle.multiplex.specs.Announcing.{NextChange, heardNews, Announces}
+use Rattle.multiplex.specs.Admitting.{absentTo, absentBehind, absentFor, Reason, gone, long, Admits}
 use Rattle.multiplex.proofs.Counting.{heard-all}
 use Rattle.multiplex.proofs.Words.{Words}
 use Rattle.multiplex.proofs.Listening.{capped, Known}
