@@ -171,8 +171,9 @@ uint8_t feed_map_start(uint8_t *map, size_t map_len);
  * this one's, by their counts: up to 127 frames may be missed in a row. A field with the last one's count, all eight bits of it, is one
  * of the same frame's five blocks: it changes nothing. Panning vectors only move the count. A list of fields that is being gathered
  * while a frame is missed, or over a change of whose configuration not every frame was heard, is begun anew: no part of a structure is
- * ever shown as the whole. So is a whole one by a field that does not come in turn: its fields come one behind the other, the first
- * behind the last, and a field that is left out, or that it has not, means that the structure is another one.
+ * ever shown as the whole. What was announced in a configuration that was heard from its first frame to its last stands, whichever
+ * frames are missed behind the change. A whole list, too, is begun anew by a field that does not come in turn: its fields come one behind
+ * the other, the first behind the last, and a field that is left out, or that it has not, means that the structure is another one.
  * Refused, in this order, and then the map stays as it was: 20, 34, 44 (first after last, or last alone all ones; panning vectors
  * never), 45 (a further component: with the flag where 128 others are announced; without it where 128 others are in force for certain,
  * that is, a field of each was heard in the running configuration, or a change before which every frame was heard put it in force).

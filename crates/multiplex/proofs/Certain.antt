@@ -8,16 +8,16 @@ use mathlib.Core.Path.{_≡_, refl, sym, ap, _∙_, subst}
 use mathlib.Core.Bool.{Bool, true, false, cond, _&&_, _||_}
 use mathlib.Core.List.{List, []}
 use mathlib.Core.Logic.{_⊎_, inl, inr}
-use Prim.Native.Nat.{ℕ, suc, _+_, _-_, _%_, _≤_, _<_}
+use Prim.Native.Nat.{ℕ, suc, _+_, _-_, _≤_, _<_}
 use native.Mathlib.Omega.{arith}
-use borrow.Author.Tests.{eq-eqb, eqb-true, lt-ltb, le-ltb}
+use borrow.Author.Tests.{eq-eqb, lt-ltb, le-ltb}
 use lib.Dec.{T, leb, ltb, eqb}
 use lib.ListN.{length}
 use Rattle.bits.proofs.Search.{and-left, and-right}
 use Rattle.structure.specs.Structure.{most, headOf, said, complete, settledHead}
 use Rattle.structure.specs.declared.Structure.{Structure}
 use Rattle.structure.proofs.Gathering.{Holds}
-use Rattle.frames.specs.Counts.{ahead, until, changing, allHeard}
+use Rattle.frames.specs.Counts.{changing, allHeard}
 use Rattle.map.specs.Map.{ids, structureAt, framesOf, good, announced}
 use Rattle.map.specs.Calls.{thenHead, shown}
 use Rattle.multiplex.specs.Broadcast.{countAt, change, epoch, begun}

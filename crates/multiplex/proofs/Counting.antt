@@ -10,8 +10,8 @@ use mathlib.Core.Bool.{Bool, true, false, cond, not, _&&_, _||_}
 use Prim.Native.Nat.{ℕ, zero, suc, _+_, _-_, _%_, _≤_, _<_}
 use native.Mathlib.Omega.{arith}
 use native.Mathlib.Decide.{ℕ-discrete}
-use borrow.Author.Tests.{eq-eqb, ne-eqb, eqb-true, le-ltb}
-use lib.Dec.{T, ltb, leb, eqb}
+use borrow.Author.Tests.{eq-eqb, ne-eqb, eqb-true}
+use lib.Dec.{T, leb, eqb}
 use Rattle.frames.specs.Counts.{ahead, until, begins, allHeard}
 use Rattle.map.specs.Map.{counted}
 use Rattle.multiplex.specs.Broadcast.{Broadcast, countAt, change}

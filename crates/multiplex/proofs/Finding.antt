@@ -9,15 +9,15 @@ use mathlib.Core.Path.{_≡_, refl, sym, ap, ap₂, _∙_, subst}
 use mathlib.Core.Bool.{Bool, true, false, cond, not, _&&_, _||_}
 use mathlib.Core.List.{List, []}
 use mathlib.Core.Logic.{_⊎_, inl, inr}
-use Prim.Native.Nat.{ℕ, zero, suc, _+_, _-_, _%_, _≤_, _<_}
+use Prim.Native.Nat.{ℕ, zero, suc, _+_, _-_, _≤_, _<_}
 use native.Mathlib.Omega.{arith}
-use borrow.Author.Tests.{eq-eqb, le-ltb, lt-ltb, eqb-true}
+use borrow.Author.Tests.{le-ltb, lt-ltb}
 use lib.Dec.{T, leb, ltb, eqb}
 use lib.ListN.{length}
 use Rattle.bits.proofs.Search.{and-left, and-right}
 use Rattle.structure.specs.Structure.{most, headOf, said}
 use Rattle.structure.proofs.Gathering.{Holds, Empty}
-use Rattle.frames.specs.Counts.{ahead, until, changing, allHeard}
+use Rattle.frames.specs.Counts.{changing, allHeard}
 use Rattle.frames.specs.declared.Frames.{Frames}
 use Rattle.map.specs.Map.{ids, structureAt, framesOf, announced}
 use Rattle.multiplex.specs.Broadcast.{countAt, change, epoch, begun, Linked}

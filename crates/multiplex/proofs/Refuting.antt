@@ -31,7 +31,7 @@ use Rattle.multiplex.specs.Example.{structures, pick, told, example}
 use Rattle.multiplex.specs.Empty.{deaf, doubting, mute, refusing, firstOnly, late}
 use Rattle.multiplex.specs.Air.{vectors, Air, timed, inForce, fieldOn, oldIn, newIn, goneIn, InTurn, Orderly}
 use Rattle.multiplex.specs.Sound.{kept, missedBefore, inRow, Listener, Word, unheard, over, presentIn, comingIn, comingBefore, presentBefore, wordFor, NeverWrong}
-use Rattle.multiplex.specs.Finding.{Near, first, found, aloneBefore, roundsOf, roundsBefore, whollyBefore, overChange, readyBefore, readyTo, every, Finds, ShowsInForce}
+use Rattle.multiplex.specs.Finding.{Near, first, found, aloneBefore, roundsOf, whollyBefore, overChange, readyBefore, readyTo, every, Finds, ShowsInForce}
 use Rattle.multiplex.specs.Announcing.{heardNews, Announces}
 use Rattle.multiplex.specs.Admitting.{absentBy, absentBefore, absentBehind, absentFor, Reason, gone, long, Admits}
 use Rattle.multiplex.proofs.Soundness.{State, silent, since-one, state-at}

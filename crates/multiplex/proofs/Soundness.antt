@@ -7,7 +7,7 @@
 --
 -- Assumes nothing.
 use mathlib.Core.Path.{_≡_, refl, sym, ap, ap₂, _∙_, subst}
-use mathlib.Core.Bool.{Bool, true, false, cond, not, _&&_, _||_}
+use mathlib.Core.Bool.{Bool, true, false, cond, _&&_, _||_}
 use mathlib.Core.List.{List}
 use mathlib.Core.Logic.{_⊎_, inl, inr}
 use Prim.Native.Nat.{ℕ, zero, suc, _+_, _-_, _^_, _≤_, _<_}
@@ -33,7 +33,8 @@ use Rattle.multiplex.specs.Finding.{Near}
 use Rattle.multiplex.proofs.Counting.{begins-change, heard-all, count-lt}
 use Rattle.multiplex.proofs.Distances.{since-is, count-apart, changes-epoch, epoch-either, epoch-step, epoch-mono}
 use Rattle.multiplex.proofs.Listening.{capped, Known, Before, field-known}
-use Rattle.multiplex.proofs.Reaching.{Gap, near-same, near-change, far-change, gap-before, first-before}
+use Rattle.multiplex.proofs.Missing.{Gap, gap-before}
+use Rattle.multiplex.proofs.Reaching.{near-same, near-change, far-change, first-before}
 
 -- ---- the field's numbers
 
