@@ -171,8 +171,9 @@ uint8_t feed_map_start(uint8_t *map, size_t map_len);
  * this one's, by their counts: up to 127 frames may be missed in a row. A field with the last one's count, all eight bits of it, is one
  * of the same frame's five blocks: it changes nothing. Panning vectors only move the count. A list of fields that is being gathered
  * while a frame is missed, or over a change of whose configuration not every frame was heard, is begun anew: no part of a structure is
- * ever shown as the whole. So is a whole one by a field that does not come in turn: its fields come one behind the other, the first
- * behind the last, and a field that is left out, or that it has not, means that the structure is another one.
+ * ever shown as the whole. What was announced in a configuration that was heard from its first frame to its last stands, whichever
+ * frames are missed behind the change. A whole list, too, is begun anew by a field that does not come in turn: its fields come one behind
+ * the other, the first behind the last, and a field that is left out, or that it has not, means that the structure is another one.
  * Refused, in this order, and then the map stays as it was: 20, 34, 44 (first after last, or last alone all ones; panning vectors
  * never), 45 (a further component: with the flag where 128 others are announced; without it where 128 others are in force for certain,
  * that is, a field of each was heard in the running configuration, or a change before which every frame was heard put it in force).
@@ -216,8 +217,7 @@ uint8_t feed_map_heard(const uint8_t *map, size_t map_len, uint8_t id, uint8_t c
 
 /*
  * How far what was heard reaches. *row is how many frames were heard in a row since the start or the last missed one, up to 255, from
- * where on *unknown above is 0; *unbroken is 1 where every frame of the running configuration was heard, up to the last one,
- * and the frame before its first, if the map was started by then.
+ * where on *unknown above is 0; *unbroken is 1 where every frame of the running configuration was heard, from its first on.
  * *components is how many components are in force in the frame with a count, whole or unfinished: a multiplex never has more than 128,
  * so that more than 128 mean that deletions were missed, and some that are shown are gone.
  * Refused, in this order, and then every value is 0: 20, 34.

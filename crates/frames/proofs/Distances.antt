@@ -57,26 +57,25 @@ module _ (h : Frames) (n r : ℕ) (er : r ≡ rowAfter (skips h n) (h .row)) whe
   abbrev behind : ℕ → ℕ → Frames
   behind unbroken row = record { last = n; heard = 1; unbroken = unbroken; row = row }
 
-  pub after-skipped : skips h n ≡ true → behind 0 r ≡ framesAfter h n
-  unfolding framesAfter
-  after-skipped e = λ i. behind (cond (sym e i) 0 (cond (begins n) 1 (h .unbroken))) (er i)
-
-  module _ (e : skips h n ≡ false) (d : ℕ) (ed : d ≡ ahead 2 n) where
-    by-begins : (b : Bool) → eqb d 0 ≡ b → behind (cond b 1 (h .unbroken)) r ≡ framesAfter h n
+  module _ (d : ℕ) (ed : d ≡ ahead 2 n) where
+    by-begins : (b s : Bool) → eqb d 0 ≡ b → skips h n ≡ s → behind (cond b 1 (cond s 0 (h .unbroken))) r ≡ framesAfter h n
     unfolding framesAfter begins
-    by-begins b q = λ i. behind (cond (sym e i) 0 (cond ((sym q ∙ ap (λ (x : ℕ). eqb x 0) ed) i) 1 (h .unbroken))) (er i)
+    by-begins b s q e = λ i. behind (cond ((sym q ∙ ap (λ (x : ℕ). eqb x 0) ed) i) 1 (cond (sym e i) 0 (h .unbroken))) (er i)
 
-    pub after-begun : d ≡ 0 → behind 1 r ≡ framesAfter h n
-    after-begun z = by-begins true (eq-eqb d 0 z)
+    pub after-begun : eqb d 0 ≡ true → behind 1 r ≡ framesAfter h n
+    after-begun z = by-begins true _ z refl
 
-    pub after-next : (d ≡ 0 → ⊥) → behind (h .unbroken) r ≡ framesAfter h n
-    after-next ne = by-begins false (ne-eqb d 0 ne)
+    pub after-skipped : eqb d 0 ≡ false → skips h n ≡ true → behind 0 r ≡ framesAfter h n
+    after-skipped ne e = by-begins false true ne e
+
+    pub after-next : eqb d 0 ≡ false → skips h n ≡ false → behind (h .unbroken) r ≡ framesAfter h n
+    after-next ne e = by-begins false false ne e
 
 pub after-good : (h : Frames) (n : ℕ) → goodFrames h ≡ true → goodFrames (framesAfter h n) ≡ true
 unfolding goodFrames framesAfter
-after-good h n g = go (skips h n) (begins n)
+after-good h n g = go (begins n) (skips h n)
   where
-    go : (s c : Bool) → leb (cond s 0 (cond c 1 (h .unbroken))) 1 ≡ true
-    go true c = refl
+    go : (c s : Bool) → leb (cond c 1 (cond s 0 (h .unbroken))) 1 ≡ true
+    go true s = refl
     go false true = refl
     go false false = and-right (leb (h .heard) 1) (leb (h .unbroken) 1) g

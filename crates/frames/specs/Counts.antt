@@ -9,8 +9,8 @@
 --                   same; a frame was missed on the way
 --   framesAfter h n what is known when the frame with count n is heard
 --   enough h        so many frames were heard in a row that a component of which nothing came is held to be absent
---   sureAt h n, allHeard h     nothing more can come of what is announced, at a change before the frame with count n; at the next one
-use mathlib.Core.Bool.{Bool, cond, not, _&&_}
+--   allHeard h      nothing more can come of what is announced before the next change
+use mathlib.Core.Bool.{Bool, cond, _&&_}
 use Prim.Native.Nat.{ℕ, _+_, _-_, _%_}
 use lib.Dec.{leb, ltb, eqb}
 use Rattle.frames.specs.declared.Frames.{Frames}
@@ -43,9 +43,6 @@ again h n = eqb (h .heard) 1 && eqb (h .last) n
 unfoldable pub skips : Frames → ℕ → Bool
 skips h n = eqb (h .heard) 1 && ltb 1 (since (h .last) n)
 
-unfoldable pub sureAt : Frames → ℕ → Bool
-sureAt h n = eqb (h .unbroken) 1 && not (skips h n)
-
 -- the frame that a configuration begins with
 unfoldable pub begins : ℕ → Bool
 begins n = eqb (ahead 2 n) 0
@@ -54,11 +51,12 @@ begins n = eqb (ahead 2 n) 0
 unfoldable pub rowAfter : Bool → ℕ → ℕ
 rowAfter missed row = cond missed 1 (cond (ltb row 255) (row + 1) 255)
 
+-- a configuration's first frame is the beginning of all of it, whatever was missed before
 unfoldable pub framesAfter : Frames → ℕ → Frames
 framesAfter h n = record {
   last = n;
   heard = 1;
-  unbroken = cond (skips h n) 0 (cond (begins n) 1 (h .unbroken));
+  unbroken = cond (begins n) 1 (cond (skips h n) 0 (h .unbroken));
   row = rowAfter (skips h n) (h .row);
 }
 

@@ -1,9 +1,9 @@
 // The frames that were heard, by their counts: distances, changes, and whether one was missed. Every count is answered.
 ghost use mathlib.Core.Path.{_≡_};
-ghost use Rattle.frames.specs.Counts.{ahead, since, until, goodFrames, changing, again, skips, sureAt, rowAfter, framesAfter, enough, allHeard};
+ghost use Rattle.frames.specs.Counts.{ahead, since, until, goodFrames, changing, again, skips, rowAfter, framesAfter, enough, allHeard};
 
-// The last frame count, whether there is one, whether every frame of the running configuration was heard (and the one before it, if the
-// map was started by then), and how many were heard in a row since the start or the last missed one, up to 255.
+// The last frame count, whether there is one, whether every frame of the running configuration was heard so far, and how many were heard
+// in a row since the start or the last missed one, up to 255.
 pub struct Frames {
     pub last: u8,
     pub heard: u8,
@@ -68,13 +68,8 @@ impl Frames {
         (self.heard == 1) & (1 < since(self.last, count))
     }
 
-    pub fn sure_at(self, count: u8) -> bool
-        ensures { λ r. ⌜ r ≡ sureAt self count ⌝ }
-    {
-        (self.unbroken == 1) & !self.skips(count)
-    }
-
-    // Nothing more of what is announced can come.
+    // Nothing more of what is announced can come before the next change: the last frame is the last one before it, and none of the
+    // configuration was missed.
     pub fn all_heard(self) -> bool
         ensures { λ r. ⌜ r ≡ allHeard self ⌝ }
     {
@@ -85,10 +80,13 @@ impl Frames {
         ensures { λ r. ⌜ r ≡ framesAfter self count ⌝ }
     {
         let row = self.row_after(count);
-        let unbroken = if self.skips(count) {
-            0
-        } else if ahead(2, count) == 0 {
+        let missed = self.skips(count);
+        let begins = ahead(2, count) == 0;
+        // A configuration's first frame is the beginning of all of it, whatever was missed before.
+        let unbroken = if begins {
             1
+        } else if missed {
+            0
         } else {
             self.unbroken
         };

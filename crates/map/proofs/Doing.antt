@@ -28,9 +28,9 @@ use Rattle.bits.proofs.Storing.{stored, agreed}
 use Rattle.bits.proofs.Rows.{refusal-hit, refusal-miss, done-refused, done-passed}
 use Rattle.field.specs.Field.{fieldSize, bitsAt, fieldOf, panning}
 use Rattle.field.specs.declared.Field.{Field}
-use Rattle.frames.specs.Counts.{changing, again, skips, sureAt, framesAfter}
+use Rattle.frames.specs.Counts.{changing, again, skips, framesAfter, allHeard}
 use Rattle.map.specs.Map.{ids, mapSize, framesOf, withFrames, structureAt, withStructure, good, eachFrom, changedFrom, spoiledBoth}
-use Rattle.map.specs.Calls.{startAnswer, takeAnswer, overGap, upTo, putIn, takenIn, frameTaken, showAnswer, shownAt, shownBy, shown, markOf, marks, listAnswer, heardAt, heardBy, heard, knownAt, knownBy, known}
+use Rattle.map.specs.Calls.{startAnswer, takeAnswer, changedTo, upTo, putIn, takenIn, frameTaken, showAnswer, shownAt, shownBy, shown, markOf, marks, listAnswer, heardAt, heardBy, heard, knownAt, knownBy, known}
 use Rattle.frames.specs.declared.Frames.{Frames}
 use Rattle.map.specs.declared.Shown.{Shown}
 use Rattle.map.specs.declared.Gathered.{Gathered}
@@ -167,47 +167,44 @@ pub flag-lt : (f : List ℕ) (r : Field) → r ≡ fieldOf f → r .flag < 2
 unfolding fieldOf bitsAt
 flag-lt f r e = subst (λ (x : Field). x .flag < 2) (sym e) (digit-lt 1 8 (sent 8 f) (sent-below 8 f))
 
-module _ (m : List ℕ) (h : Frames) (eh : h ≡ framesOf m) (n : ℕ) (b : Bool) (eb : b ≡ skips h n) where
-  by-gap : (t : Bool) → b ≡ t → cond t (eachFrom ids 0 spoiledBoth m) m ≡ overGap m n
-  unfolding overGap
-  by-gap t q = ap (λ (x : Bool). cond x (eachFrom ids 0 spoiledBoth m) m) (sym q ∙ eb ∙ ap (λ (g : Frames). skips g n) eh)
-
-  pub gap-to : b ≡ true → (x : List ℕ) → x ≡ eachFrom ids 0 spoiledBoth m → x ≡ overGap m n
-  gap-to q x e = e ∙ by-gap true q
-
-  pub none-to : b ≡ false → m ≡ overGap m n
-  none-to q = by-gap false q
-
 module _ (m : List ℕ) (h : Frames) (eh : h ≡ framesOf m) (n : ℕ) (b : Bool) (eb : b ≡ changing h n) where
-  by-change : (t : Bool) → b ≡ t → cond t (changedFrom ids 0 (sureAt (framesOf m) n) (overGap m n)) (overGap m n) ≡ upTo m n
+  by-change : (t : Bool) → b ≡ t → cond t (changedFrom ids 0 (allHeard (framesOf m)) m) m ≡ changedTo m n
+  unfolding changedTo
+  by-change t q = ap (λ (x : Bool). cond x (changedFrom ids 0 (allHeard (framesOf m)) m) m) (sym q ∙ eb ∙ ap (λ (g : Frames). changing g n) eh)
+
+  pub changed-to : b ≡ true → (s : Bool) → s ≡ allHeard h → (x : List ℕ) → x ≡ changedFrom ids 0 s m → x ≡ changedTo m n
+  changed-to q s es x e = e ∙ ap (λ (v : Bool). changedFrom ids 0 v m) (es ∙ ap allHeard eh) ∙ by-change true q
+
+  pub kept-to : b ≡ false → m ≡ changedTo m n
+  kept-to q = by-change false q
+
+module _ (m : List ℕ) (h : Frames) (eh : h ≡ framesOf m) (n : ℕ) (b : Bool) (eb : b ≡ skips h n) (u : List ℕ) (eu : u ≡ changedTo m n) where
+  by-gap : (t : Bool) → b ≡ t → cond t (eachFrom ids 0 spoiledBoth (changedTo m n)) (changedTo m n) ≡ upTo m n
   unfolding upTo
-  by-change t q =
-      ap (λ (x : Bool). cond x (changedFrom ids 0 (sureAt (framesOf m) n) (overGap m n)) (overGap m n))
-      (sym q ∙ eb ∙ ap (λ (g : Frames). changing g n) eh)
+  by-gap t q =
+      ap (λ (x : Bool). cond x (eachFrom ids 0 spoiledBoth (changedTo m n)) (changedTo m n)) (sym q ∙ eb ∙ ap (λ (g : Frames). skips g n) eh)
 
-  module _ (u : List ℕ) (eu : u ≡ overGap m n) where
-    pub changed-to : b ≡ true → (s : Bool) → s ≡ sureAt h n → (x : List ℕ) → x ≡ changedFrom ids 0 s u → x ≡ upTo m n
-    changed-to q s es x e =
-        e ∙ ap₂ (λ (v : Bool) (y : List ℕ). changedFrom ids 0 v y) (es ∙ ap (λ (g : Frames). sureAt g n) eh) eu ∙ by-change true q
+  pub gap-to : b ≡ true → (x : List ℕ) → x ≡ eachFrom ids 0 spoiledBoth u → x ≡ upTo m n
+  gap-to q x e = e ∙ ap (eachFrom ids 0 spoiledBoth) eu ∙ by-gap true q
 
-    pub kept-to : b ≡ false → u ≡ upTo m n
-    kept-to q = eu ∙ by-change false q
+  pub none-to : b ≡ false → u ≡ upTo m n
+  none-to q = eu ∙ by-gap false q
 
-pub over-gap-length : (m : List ℕ) (n : ℕ) → length m ≡ mapSize → length (overGap m n) ≡ mapSize
-unfolding overGap
-over-gap-length m n l = go (skips (framesOf m) n)
+pub changed-to-length : (m : List ℕ) (n : ℕ) → length m ≡ mapSize → length (changedTo m n) ≡ mapSize
+unfolding changedTo
+changed-to-length m n l = go (changing (framesOf m) n)
   where
-    go : (b : Bool) → length (cond b (eachFrom ids 0 spoiledBoth m) m) ≡ mapSize
-    go true = gap-length m l
+    go : (b : Bool) → length (cond b (changedFrom ids 0 (allHeard (framesOf m)) m) m) ≡ mapSize
+    go true = from-length (allHeard (framesOf m)) ids 0 m (omega arith) l
     go false = l
 
 pub up-to-length : (m : List ℕ) (n : ℕ) → length m ≡ mapSize → length (upTo m n) ≡ mapSize
 unfolding upTo
-up-to-length m n l = go (changing (framesOf m) n)
+up-to-length m n l = go (skips (framesOf m) n)
   where
-    go : (b : Bool) → length (cond b (changedFrom ids 0 (sureAt (framesOf m) n) (overGap m n)) (overGap m n)) ≡ mapSize
-    go true = from-length (sureAt (framesOf m) n) ids 0 (overGap m n) (omega arith) (over-gap-length m n l)
-    go false = over-gap-length m n l
+    go : (b : Bool) → length (cond b (eachFrom ids 0 spoiledBoth (changedTo m n)) (changedTo m n)) ≡ mapSize
+    go true = gap-length (changedTo m n) (changed-to-length m n l)
+    go false = changed-to-length m n l
 
 pub taken-none : (r : Field) (m : List ℕ) → r .id ≡ panning → m ≡ takenIn r m
 unfolding takenIn

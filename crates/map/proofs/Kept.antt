@@ -27,13 +27,13 @@ use Rattle.structure.specs.Structure.{structureSize, headOf, withHead, markedHe
 use Rattle.structure.specs.declared.Structure.{Structure}
 use Rattle.structure.proofs.Gathering.{head-stored, with-head-length}
 use Rattle.structure.proofs.Kept.{gathered-length, gathered-good, gathered-deleted, deletion-length, deletion-good, absence-length, absence-good, absence-deleted, blank-good, marked-good, settled-good, spoiled-good, spoiled-deleted}
-use Rattle.frames.specs.Counts.{goodFrames, changing, again, skips, sureAt, framesAfter}
+use Rattle.frames.specs.Counts.{goodFrames, changing, again, skips, framesAfter, allHeard}
 use Rattle.map.specs.Map.{ids, mapSize, blockSize, framesOf, withFrames, structureAt, withStructure, inForce, announced, goodAt, good, stayed, settled, forced, eachFrom, changedFrom, spoiledBoth}
-use Rattle.map.specs.Calls.{startAfter, startAnswer, takeAnswer, overGap, upTo, putIn, takenIn, frameTaken, takeAfter}
+use Rattle.map.specs.Calls.{startAfter, startAnswer, takeAnswer, changedTo, upTo, putIn, takenIn, frameTaken, takeAfter}
 use Rattle.frames.proofs.Distances.{after-good}
 use Rattle.map.proofs.Places.{structure-length, with-structure-length, structure-same, structure-other, frames-kept, with-frames-length, structures-kept, frames-stored}
 use Rattle.map.proofs.Changing.{blank-empty, part-blank, from-frames, gap-frames, gap-structure, force-behind, cleared}
-use Rattle.map.proofs.Doing.{start-passed, fits, over-gap-length, up-to-length}
+use Rattle.map.proofs.Doing.{start-passed, fits, changed-to-length, up-to-length}
 
 -- the bytes after, by cases of the answer
 done-either : (P : List ℕ → Type 0) (n : ℕ) (after before : List ℕ) → (n ≡ 0 → P after) → P before → P (done n after before)
@@ -145,26 +145,29 @@ module _ (sure : Bool) (m : List ℕ) (l : length m ≡ mapSize) (g : Good m) wh
       go k (suc zero) hk hw = blank-fine 1 _ (cleared sure m l k hk)
       go k (suc (suc w)) hk hw = absurd (omega arith)
 
--- a missed frame
-over-gap-good : (m : List ℕ) (n : ℕ) → length m ≡ mapSize → Good m → Good (overGap m n)
-unfolding overGap
-over-gap-good m n l g = go (skips (framesOf m) n)
+changed-to-good : (m : List ℕ) (n : ℕ) → length m ≡ mapSize → Good m → Good (changedTo m n)
+unfolding changedTo
+changed-to-good m n l g = go (changing (framesOf m) n)
   where
-    go : (b : Bool) → Good (cond b (eachFrom ids 0 spoiledBoth m) m)
-    go true = record {
-      frames = ap goodFrames (gap-frames m l) ∙ g .frames;
-      structures = λ k w hk hw. subst (Fine w) (sym (gap-structure m l k w hk hw))
-          (spoiled-fine w (structureAt k w m) (structure-length m l k w hk hw) (g .structures k w hk hw));
-    }
+    go : (b : Bool) → Good (cond b (changedFrom ids 0 (allHeard (framesOf m)) m) m)
+    go true = changed-good (allHeard (framesOf m)) m l g
     go false = g
+
+-- a missed frame
+gap-good : (m : List ℕ) → length m ≡ mapSize → Good m → Good (eachFrom ids 0 spoiledBoth m)
+gap-good m l g = record {
+  frames = ap goodFrames (gap-frames m l) ∙ g .frames;
+  structures = λ k w hk hw. subst (Fine w) (sym (gap-structure m l k w hk hw))
+      (spoiled-fine w (structureAt k w m) (structure-length m l k w hk hw) (g .structures k w hk hw));
+}
 
 up-to-good : (m : List ℕ) (n : ℕ) → length m ≡ mapSize → Good m → Good (upTo m n)
 unfolding upTo
-up-to-good m n l g = go (changing (framesOf m) n)
+up-to-good m n l g = go (skips (framesOf m) n)
   where
-    go : (b : Bool) → Good (cond b (changedFrom ids 0 (sureAt (framesOf m) n) (overGap m n)) (overGap m n))
-    go true = changed-good (sureAt (framesOf m) n) (overGap m n) (over-gap-length m n l) (over-gap-good m n l g)
-    go false = over-gap-good m n l g
+    go : (b : Bool) → Good (cond b (eachFrom ids 0 spoiledBoth (changedTo m n)) (changedTo m n))
+    go true = gap-good (changedTo m n) (changed-to-length m n l) (changed-to-good m n l g)
+    go false = changed-to-good m n l g
 
 -- ---- a field taken in
 

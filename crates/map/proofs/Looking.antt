@@ -28,7 +28,7 @@ use Rattle.runs.specs.Part.{part}
 use Rattle.field.specs.Field.{fieldSize, fieldOf, badField, deletes, panning}
 use Rattle.field.specs.declared.Field.{Field}
 use Rattle.structure.specs.Structure.{structureSize, allOnes, headOf, nth, stored, said, certainly, settledHead}
-use Rattle.frames.specs.Counts.{until, changing, again, sureAt, enough, allHeard}
+use Rattle.frames.specs.Counts.{until, changing, again, enough, allHeard}
 use Rattle.map.specs.Map.{ids, mapSize, blockSize, framesOf, structureAt, inForce, announced, goodAt, good, stands, comes, present, counted, components}
 use Rattle.map.specs.Calls.{tooMany, takeRows, takeAnswer, thenWhich, thenHead, thenNumber, unknown, foundOf, shownAt, showAnswer, markOf, heardLen, heardAt, inForceThen, knownAt}
 use Rattle.structure.specs.declared.Structure.{Structure}
@@ -139,7 +139,7 @@ module _ (p : ℕ → Bool) (k n total : ℕ) where
 
 -- ---- one too many
 
-module _ (m : List ℕ) (r : Field) (change : Bool) (e : change ≡ changing (framesOf m) (r .count)) (sure : Bool) (es : sure ≡ sureAt (framesOf m) (r .count)) where
+module _ (m : List ℕ) (r : Field) (change : Bool) (e : change ≡ changing (framesOf m) (r .count)) (sure : Bool) (es : sure ≡ allHeard (framesOf m)) where
   by-tests : (d p : Bool) → deletes (r .tdms) ≡ d → present (r .flag) change sure m (r .id) ≡ p
       → (not d && (not p && leb 128 (components (r .flag) change sure m))) ≡ tooMany m r
   unfolding tooMany

@@ -16,7 +16,7 @@ use Rattle.bits.specs.Rows.{Row, row, refusal, done}
 use Rattle.field.specs.Field.{fieldSize, fieldOf, badField, deletes, panning}
 use Rattle.field.specs.declared.Field.{Field}
 use Rattle.structure.specs.Structure.{gathered, absence, deletion, said, structureSize, allOnes, nth, stored, settledHead}
-use Rattle.frames.specs.Counts.{until, changing, again, skips, sureAt, framesAfter, enough, allHeard}
+use Rattle.frames.specs.Counts.{until, changing, again, skips, framesAfter, enough, allHeard}
 use Rattle.map.specs.Map.{ids, mapSize, blockSize, framesOf, withFrames, structureAt, withStructure, inForce, announced, good, eachFrom, changedFrom, spoiledBoth, present, counted, components}
 use Rattle.structure.specs.declared.Structure.{Structure}
 use Rattle.frames.specs.declared.Frames.{Frames}
@@ -39,7 +39,7 @@ startAfter m = done (startAnswer m) (blank mapSize) m
 unfoldable pub tooMany : List ℕ → Field → Bool
 tooMany m r =
     let change = changing (framesOf m) (r .count) in
-    let sure = sureAt (framesOf m) (r .count) in
+    let sure = allHeard (framesOf m) in
     not (deletes (r .tdms)) && (not (present (r .flag) change sure m (r .id)) && leb 128 (components (r .flag) change sure m))
 
 unfoldable pub takeRows : List ℕ → List ℕ → List Row
@@ -53,14 +53,14 @@ takeRows m f =
 unfoldable pub takeAnswer : List ℕ → List ℕ → ℕ
 takeAnswer m f = refusal (takeRows m f)
 
--- nothing that is being gathered is taken for the whole where a frame was missed
-unfoldable pub overGap : List ℕ → ℕ → List ℕ
-overGap m n = cond (skips (framesOf m) n) (eachFrom ids 0 spoiledBoth m) m
+-- a change up to the field's frame
+unfoldable pub changedTo : List ℕ → ℕ → List ℕ
+changedTo m n = cond (changing (framesOf m) n) (changedFrom ids 0 (allHeard (framesOf m)) m) m
 
--- the changes up to the field's frame
+-- nothing that is being gathered is taken for the whole where a frame was missed. The change comes first: what was announced in a
+-- configuration that was heard to its last frame is whole by then, though the first frame behind the change was missed.
 unfoldable pub upTo : List ℕ → ℕ → List ℕ
-upTo m n =
-    cond (changing (framesOf m) n) (changedFrom ids 0 (sureAt (framesOf m) n) (overGap m n)) (overGap m n)
+upTo m n = cond (skips (framesOf m) n) (eachFrom ids 0 spoiledBoth (changedTo m n)) (changedTo m n)
 
 -- a structure with the field taken in: an old one is not there, a new one is to be deleted
 unfoldable pub putIn : Field → List ℕ → List ℕ

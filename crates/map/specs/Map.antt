@@ -4,7 +4,7 @@
 --   142 k + 71      component k: announced
 --   36,352          the frame count of the last field taken in
 --   36,353          1 where a field was taken in
---   36,354          1 where every frame of the running configuration was heard, and the one before it, if the map was started by then
+--   36,354          1 where every frame of the running configuration was heard so far
 --   36,355          how many frames were heard in a row since the start or the last missed one, up to 255
 --
 --   inForce, announced      a component's structures

@@ -107,11 +107,12 @@ pub fn take(map: &mut [u8], field: &[u8]) -> u8
     if frames.again(field.count) {
         return 0;
     }
-    if frames.skips(field.count) {
-        spoil(map);
-    }
+    let missed = frames.skips(field.count);
     if frames.changing(field.count) {
-        change(map, frames.sure_at(field.count));
+        change(map, frames.all_heard());
+    }
+    if missed {
+        spoil(map);
     }
     if field.id != Field::PANNING {
         put_in(map, field);

@@ -96,7 +96,7 @@ fn too_many(map: &[u8], field: Field) -> bool
 {
     let frames = crate::frames_of(map);
     let change = frames.changing(field.count);
-    let sure = frames.sure_at(field.count);
+    let sure = frames.all_heard();
     if Tdms::deletes(field.tdms) {
         return false;
     }

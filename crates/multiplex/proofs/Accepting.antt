@@ -23,7 +23,7 @@ use Rattle.field.specs.declared.Field.{Field}
 use Rattle.field.proofs.RoundTrip.{written-length}
 use Rattle.structure.specs.Structure.{headOf, certainly}
 use Rattle.structure.proofs.Gathering.{Empty}
-use Rattle.frames.specs.Counts.{changes, changing, again, sureAt}
+use Rattle.frames.specs.Counts.{changes, changing, again, allHeard}
 use Rattle.map.specs.Map.{ids, mapSize, framesAt, structureAt, framesOf, good, inForce, announced, stands, comes, present, components, counted}
 use Rattle.map.specs.Calls.{startAnswer, startAfter, tooMany, takeRows, takeAnswer, takeAfter}
 use Rattle.map.proofs.Doing.{start-passed}
@@ -79,43 +79,43 @@ module _ (a : Air) (w : Orderly a) (hears : ℕ → Bool) (near-by : Near hears)
   c = countAt (timed a) t
 
   since-there : (T : ℕ) (u : Bool) → Known a hears T m u → T ≤ t → t ≤ T + 128 → (v k : ℕ) → v < 2 → k < ids
-      → present v (changing (framesOf m) c) (sureAt (framesOf m) c) m k ≡ true → 0 < length (a .config (v + epoch (timed a) t) k)
+      → present v (changing (framesOf m) c) (allHeard (framesOf m)) m k ≡ true → 0 < length (a .config (v + epoch (timed a) t) k)
   since-there T u h lo hi v k hv hk e = go (ltb (epoch (timed a) T) (epoch (timed a) t)) refl v hv
-      (subst (λ (b : Bool). present v b (sureAt (framesOf m) c) m k ≡ true) (changing-now a hears T m u h t lo hi) e)
+      (subst (λ (b : Bool). present v b (allHeard (framesOf m)) m k ≡ true) (changing-now a hears T m u h t lo hi) e)
     where
       go : (b : Bool) → ltb (epoch (timed a) T) (epoch (timed a) t) ≡ b → (v : ℕ) → v < 2
-          → present v (ltb (epoch (timed a) T) (epoch (timed a) t)) (sureAt (framesOf m) c) m k ≡ true → 0 < length (a .config (v + epoch (timed a) t) k)
+          → present v (ltb (epoch (timed a) T) (epoch (timed a) t)) (allHeard (framesOf m)) m k ≡ true → 0 < length (a .config (v + epoch (timed a) t) k)
       go true q v hv e =
-          let x = by-change m v k (sureAt (framesOf m) c) true hv (subst (λ (b : Bool). present v b (sureAt (framesOf m) c) m k ≡ true) q e) in
+          let x = by-change m v k (allHeard (framesOf m)) true hv (subst (λ (b : Bool). present v b (allHeard (framesOf m)) m k ≡ true) q e) in
           let at : v + epoch (timed a) t ≡ suc (epoch (timed a) T) = omega (arith, x .0, next-now a T t lo hi q) in
           subst (λ (n : ℕ). 0 < length (a .config n k)) (sym at) (h .sure k hk .next (x .1))
       go false q zero hv e =
-          let x = by-change m 0 k (sureAt (framesOf m) c) false (lit< tt) (subst (λ (b : Bool). present 0 b (sureAt (framesOf m) c) m k ≡ true) q e) in
+          let x = by-change m 0 k (allHeard (framesOf m)) false (lit< tt) (subst (λ (b : Bool). present 0 b (allHeard (framesOf m)) m k ≡ true) q e) in
           let at : 0 + epoch (timed a) t ≡ epoch (timed a) T = omega (arith, same-now a T t lo q) in
           subst (λ (n : ℕ). 0 < length (a .config n k)) (sym at) (h .sure k hk .front x)
       go false q (suc zero) hv e =
-          let x = by-change m 1 k (sureAt (framesOf m) c) false (lit< tt) (subst (λ (b : Bool). present 1 b (sureAt (framesOf m) c) m k ≡ true) q e) in
+          let x = by-change m 1 k (allHeard (framesOf m)) false (lit< tt) (subst (λ (b : Bool). present 1 b (allHeard (framesOf m)) m k ≡ true) q e) in
           let at : 1 + epoch (timed a) t ≡ suc (epoch (timed a) T) = omega (arith, same-now a T t lo q) in
           subst (λ (n : ℕ). 0 < length (a .config n k)) (sym at) (h .sure k hk .next x)
       go false q (suc (suc v)) hv e = absurd (omega arith)
 
   -- nothing was heard
-  blank-there : m ≡ blank mapSize → (v k : ℕ) → v < 2 → k < ids → present v (changing (framesOf m) c) (sureAt (framesOf m) c) m k ≡ true → ⊥
+  blank-there : m ≡ blank mapSize → (v k : ℕ) → v < 2 → k < ids → present v (changing (framesOf m) c) (allHeard (framesOf m)) m k ≡ true → ⊥
   unfolding changing
-  blank-there z v k hv hk e = go v hv (subst (λ (b : Bool). present v b (sureAt (framesOf m) c) m k ≡ true) none e)
+  blank-there z v k hv hk e = go v hv (subst (λ (b : Bool). present v b (allHeard (framesOf m)) m k ≡ true) none e)
     where
       none : changing (framesOf m) c ≡ false
       none = ap (λ (x : List ℕ). changing (framesOf x) c) z ∙ blank-still c
 
-      go : (v : ℕ) → v < 2 → present v false (sureAt (framesOf m) c) m k ≡ true → ⊥
+      go : (v : ℕ) → v < 2 → present v false (allHeard (framesOf m)) m k ≡ true → ⊥
       go zero hv e =
-          subst T (sym (by-change m 0 k (sureAt (framesOf m) c) false (lit< tt) e) ∙ ap (λ (x : List ℕ). certainly (headOf (structureAt k 0 x))) z ∙ blank-uncertain k hk) tt
+          subst T (sym (by-change m 0 k (allHeard (framesOf m)) false (lit< tt) e) ∙ ap (λ (x : List ℕ). certainly (headOf (structureAt k 0 x))) z ∙ blank-uncertain k hk) tt
       go (suc zero) hv e =
-          let x = by-change m 1 k (sureAt (framesOf m) c) false (lit< tt) e in
+          let x = by-change m 1 k (allHeard (framesOf m)) false (lit< tt) e in
           omega (arith, x, ap (λ (y : List ℕ). headOf (structureAt k 1 y) .fields) z, blank-structure k 1 hk (lit< tt) .fields)
       go (suc (suc v)) hv e = omega arith
 
-  there : (v k : ℕ) → v < 2 → k < ids → present v (changing (framesOf m) c) (sureAt (framesOf m) c) m k ≡ true → 0 < length (a .config (v + epoch (timed a) t) k)
+  there : (v k : ℕ) → v < 2 → k < ids → present v (changing (framesOf m) c) (allHeard (framesOf m)) m k ≡ true → 0 < length (a .config (v + epoch (timed a) t) k)
   there v k hv hk e = go st
     where
       go : State a hears t m → 0 < length (a .config (v + epoch (timed a) t) k)
@@ -123,11 +123,11 @@ module _ (a : Air) (w : Orderly a) (hears : ℕ → Bool) (near-by : Near hears)
       go (since-one T u l gap x any h) = since-there T u h (omega (arith, l)) (omega (arith, l, x, near-by t heard any)) v k hv hk e
 
   -- a field of a component that has a structure is not one too many
-  few : (v k : ℕ) → v < 2 → k < ids → 0 < length (a .config (v + epoch (timed a) t) k) → present v (changing (framesOf m) c) (sureAt (framesOf m) c) m k ≡ false
-      → leb 128 (components v (changing (framesOf m) c) (sureAt (framesOf m) c) m) ≡ false
+  few : (v k : ℕ) → v < 2 → k < ids → 0 < length (a .config (v + epoch (timed a) t) k) → present v (changing (framesOf m) c) (allHeard (framesOf m)) m k ≡ false
+      → leb 128 (components v (changing (framesOf m) c) (allHeard (framesOf m)) m) ≡ false
   unfolding components
   few v k hv hk pos e =
-      let p = present v (changing (framesOf m) c) (sureAt (framesOf m) c) m in
+      let p = present v (changing (framesOf m) c) (allHeard (framesOf m)) m in
       let q : ℕ → Bool = λ j. some (a .config (v + epoch (timed a) t) j) in
       let less : counted p ids 0 < counted q ids 0 =
       counted-less p q ids 0 (λ j lo hj y. some-yes (a .config (v + epoch (timed a) t) j) (there v j hv (omega arith) y)) k (omega arith) (omega arith) e
@@ -151,24 +151,24 @@ module _ (a : Air) (w : Orderly a) (hears : ℕ → Bool) (near-by : Near hears)
   unfolding InTurn carriedAs tooMany
   few-as (new k i l) law =
       no-last (not (eqb k panning)) (not (again (framesOf m) c))
-      (not-many (not (deletes (getD (coming a t k) i 0))) (present 1 (changing (framesOf m) c) (sureAt (framesOf m) c) m k)
-      (leb 128 (components 1 (changing (framesOf m) c) (sureAt (framesOf m) c) m)) (few 1 k (lit< tt) (law .0)
+      (not-many (not (deletes (getD (coming a t k) i 0))) (present 1 (changing (framesOf m) c) (allHeard (framesOf m)) m k)
+      (leb 128 (components 1 (changing (framesOf m) c) (allHeard (framesOf m)) m)) (few 1 k (lit< tt) (law .0)
       (subst (λ (n : ℕ). 0 < length (a .config n k)) (one-on (epoch (timed a) t)) (omega (arith, law .1 .0)))))
     where
       one-on : (n : ℕ) → suc n ≡ 1 + n
       one-on n = omega arith
   few-as (old k i l) law =
       no-last (not (eqb k panning)) (not (again (framesOf m) c))
-      (not-many (not (deletes (getD (air.inForce a t k) i 0))) (present 0 (changing (framesOf m) c) (sureAt (framesOf m) c) m k)
-      (leb 128 (components 0 (changing (framesOf m) c) (sureAt (framesOf m) c) m)) (few 0 k (lit< tt) (law .0)
+      (not-many (not (deletes (getD (air.inForce a t k) i 0))) (present 0 (changing (framesOf m) c) (allHeard (framesOf m)) m k)
+      (leb 128 (components 0 (changing (framesOf m) c) (allHeard (framesOf m)) m)) (few 0 k (lit< tt) (law .0)
       (subst (λ (n : ℕ). 0 < length (a .config n k)) (none-on (epoch (timed a) t)) (omega (arith, law .1 .0)))))
     where
       none-on : (n : ℕ) → n ≡ 0 + n
       none-on n = omega arith
   few-as (gone f k tdms l) law =
       no-last (not (eqb k panning)) (not (again (framesOf m) c))
-      (ap (λ (x : Bool). not x && (not (present f (changing (framesOf m) c) (sureAt (framesOf m) c) m k)
-      && leb 128 (components f (changing (framesOf m) c) (sureAt (framesOf m) c) m))) (law .1 .1 .1 .1 .0))
+      (ap (λ (x : Bool). not x && (not (present f (changing (framesOf m) c) (allHeard (framesOf m)) m k)
+      && leb 128 (components f (changing (framesOf m) c) (allHeard (framesOf m)) m))) (law .1 .1 .1 .1 .0))
   few-as (vectors f tdms l) law = refl
 
   fit-as : (x : Carries) → InTurn a t x → badField (carriedAs a t x) ≡ false

@@ -8,16 +8,16 @@ use mathlib.Core.Path.{_≡_, refl, sym, ap, _∙_, subst}
 use mathlib.Core.Bool.{Bool, true, false, cond, _&&_, _||_}
 use mathlib.Core.List.{List, []}
 use mathlib.Core.Logic.{_⊎_, inl, inr}
-use Prim.Native.Nat.{ℕ, suc, _+_, _-_, _%_, _≤_, _<_}
+use Prim.Native.Nat.{ℕ, suc, _+_, _-_, _≤_, _<_}
 use native.Mathlib.Omega.{arith}
-use borrow.Author.Tests.{eq-eqb, eqb-true, lt-ltb, le-ltb}
+use borrow.Author.Tests.{eq-eqb, lt-ltb, le-ltb}
 use lib.Dec.{T, leb, ltb, eqb}
 use lib.ListN.{length}
 use Rattle.bits.proofs.Search.{and-left, and-right}
 use Rattle.structure.specs.Structure.{most, headOf, said, complete, settledHead}
 use Rattle.structure.specs.declared.Structure.{Structure}
 use Rattle.structure.proofs.Gathering.{Holds}
-use Rattle.frames.specs.Counts.{ahead, until, changing, allHeard}
+use Rattle.frames.specs.Counts.{changing, allHeard}
 use Rattle.map.specs.Map.{ids, structureAt, framesOf, good, announced}
 use Rattle.map.specs.Calls.{thenHead, shown}
 use Rattle.multiplex.specs.Broadcast.{countAt, change, epoch, begun}
@@ -25,6 +25,7 @@ use Rattle.multiplex.specs.Heard.{ours, shownFields}
 use Rattle.multiplex.specs.Air.{Air, timed, oldIn, later, lastOld, newTo, goneTo, Said, nothing, described, deleted, Orderly}
 use Rattle.multiplex.specs.Sound.{kept, Listener, Quiet, Undenied, there, wordFor, Whole, NeverWrong}
 use Rattle.multiplex.proofs.Seeing.{present, head-force, seen-force, head-coming, seen-coming}
+use Rattle.multiplex.proofs.Counting.{heard-all}
 use Rattle.multiplex.proofs.Distances.{epoch-mono}
 use Rattle.multiplex.proofs.Knowing.{Front, some, all, Next, none, delete, piece, sure, full, QuietTo, Silent, Settled, stays-so, told, ends, part-head, quiet-over}
 use Rattle.multiplex.proofs.Listening.{Known}
@@ -165,20 +166,11 @@ module _ (a : Air) (w : Orderly a) (hears : ℕ → Bool) (t : ℕ) (m : List �
 
   -- the next frame begins a configuration, and every frame of the running one was heard
   all-told : allHeard (framesOf m) ≡ true → (u ≡ true) × Settled (a .config e id) (a .config (suc e) id) (newTo a id t) (goneTo a id t)
-  unfolding allHeard until ahead change countAt
   all-told q =
-      let is : (eqb (cond u 1 0) 1 && eqb (until (countAt (timed a) t)) 1) ≡ true = sym (ap allHeard (k .frames)) ∙ q in
-      let marked : u ≡ true = sym (mark-is u) ∙ and-left (eqb (cond u 1 0) 1) _ is in
-      let one-more : until (countAt (timed a) t) ≡ 1 = eqb-true (until (countAt (timed a) t)) 1 (and-right (eqb (cond u 1 0) 1) _ is) in
-      (marked, settled-by (w .said t id hid (begins-next one-more) (k .begun marked)))
+      let is : (u && change (timed a) (suc t)) ≡ true = sym (ap allHeard (k .frames) ∙ heard-all (timed a) t u _) ∙ q in
+      let marked : u ≡ true = and-left u _ is in
+      (marked, settled-by (w .said t id hid (and-right u _ is) (k .begun marked)))
     where
-      mark-is : (x : Bool) → eqb (cond x 1 0) 1 ≡ x
-      mark-is true = refl
-      mark-is false = refl
-
-      begins-next : until (countAt (timed a) t) ≡ 1 → change (timed a) (suc t) ≡ true
-      begins-next z = eq-eqb (countAt (timed a) (suc t) % 128) 2 (omega (arith, z))
-
       settled-by : Said a t id → Settled (a .config e id) (a .config (suc e) id) (newTo a id t) (goneTo a id t)
       settled-by (nothing z g s) = stays-so z g s
       settled-by (described p x) = told p x

@@ -1,10 +1,8 @@
 -- Frame counts, and counts of components.
 --
 --   begins-*        the frame that a configuration begins with
---   next-*          the frame after the one with a count: neither again nor missed, and a change exactly at count 2
---   same-*          the frame itself
---   until-change    the change is the next frame exactly behind count 1
---   counted-agree, counted-less     two sets that agree; a set within another that has one more
+--   heard-all       every frame up to a change was heard, exactly where the change is the next frame and no frame was missed
+--   counted-less    a set within another that has one more
 --
 -- Assumes nothing.
 use mathlib.Core.Path.{_≡_, refl, sym, ap, ap₂, _∙_, subst}
@@ -12,11 +10,11 @@ use mathlib.Core.Bool.{Bool, true, false, cond, not, _&&_, _||_}
 use Prim.Native.Nat.{ℕ, zero, suc, _+_, _-_, _%_, _≤_, _<_}
 use native.Mathlib.Omega.{arith}
 use native.Mathlib.Decide.{ℕ-discrete}
-use borrow.Author.Tests.{eq-eqb, ne-eqb, eqb-true, le-ltb}
-use lib.Dec.{T, ltb, leb, eqb}
-use Rattle.frames.specs.Counts.{ahead, since, changes, until, goodFrames, changing, again, skips, begins, sureAt, framesAfter, allHeard}
+use borrow.Author.Tests.{eq-eqb, ne-eqb, eqb-true}
+use lib.Dec.{T, leb, eqb}
+use Rattle.frames.specs.Counts.{ahead, until, begins, allHeard}
 use Rattle.map.specs.Map.{counted}
-use Rattle.multiplex.specs.Broadcast.{Broadcast, countAt, change, begun}
+use Rattle.multiplex.specs.Broadcast.{Broadcast, countAt, change}
 use Rattle.frames.specs.declared.Frames.{Frames}
 
 -- ---- the frame that a configuration begins with
@@ -32,53 +30,6 @@ begins-two n = go (ℕ-discrete (n % 128) 2)
         eq-eqb ((n + 256 - 2) % 128) 0 z ∙ sym (eq-eqb (n % 128) 2 q)
     go (no q) = ne-eqb ((n + 256 - 2) % 128) 0 (λ z. omega (arith, z)) ∙ sym (ne-eqb (n % 128) 2 q)
 
-under-one : (n : ℕ) → ltb n 1 ≡ eqb n 0
-under-one zero = refl
-under-one (suc n) = le-ltb (suc n) 1 (omega arith) ∙ sym (ne-eqb (suc n) 0 (λ z. omega (arith, z)))
-
--- ---- one frame further
-
-module _ (x y : ℕ) (hx : x < 256) (e : y ≡ (x + 1) % 256) where
-  one-ahead : ahead x y ≡ 1
-  unfolding ahead
-  one-ahead = go (ℕ-discrete x 255)
-    where
-      go : Dec (x ≡ 255) → (y + 256 - x) % 128 ≡ 1
-      go (yes q) =
-          let z : y ≡ 0 = omega arith in
-          let d : y + 256 - x ≡ 1 = omega arith in
-          ap (λ (u : ℕ). u % 128) d
-      go (no q) =
-          let z : y ≡ x + 1 = omega arith in
-          let d : y + 256 - x ≡ 257 = omega arith in
-          ap (λ (u : ℕ). u % 128) d
-
-  other-count : eqb x y ≡ false
-  other-count = ne-eqb x y (λ z. omega (arith, z))
-
-  one-since : since x y ≡ 1
-  unfolding since
-  one-since = λ i. cond (other-count i) 0 (cond (eqb (one-ahead i) 0) 128 (one-ahead i))
-
-  changes-next : changes x y ≡ begins y
-  unfolding changes begins
-  changes-next = ap (ltb (ahead 2 y)) one-since ∙ under-one (ahead 2 y)
-
-  -- behind count 1 the change is the next frame
-  pub until-change : y % 128 ≡ 2 → until x ≡ 1
-  unfolding until ahead
-  until-change q =
-      let z : (1 + 256 - x) % 128 ≡ 0 = omega arith in
-      ap (λ (u : ℕ). u + 1) z
-
-same-since : (x : ℕ) → since x x ≡ 0
-unfolding since
-same-since x = ap (λ (b : Bool). cond b 0 (cond (eqb (ahead x x) 0) 128 (ahead x x))) (eq-eqb x x refl)
-
-pub same-changes : (x : ℕ) → changes x x ≡ false
-unfolding changes
-same-changes x = ap (ltb (ahead 2 x)) (same-since x) ∙ le-ltb (ahead 2 x) 0 (omega arith)
-
 -- ---- the counts of a broadcast
 
 module _ (b : Broadcast) (t : ℕ) where
@@ -90,14 +41,24 @@ module _ (b : Broadcast) (t : ℕ) where
   unfolding change
   begins-change = begins-two (countAt b t)
 
--- ---- counts of components
+  -- behind count 1 the change is the next frame
+  until-next : eqb (until (countAt b t)) 1 ≡ change b (suc t)
+  unfolding until ahead change countAt
+  until-next = go (ℕ-discrete (countAt b (suc t) % 128) 2)
+    where
+      go : Dec (countAt b (suc t) % 128 ≡ 2) → eqb (until (countAt b t)) 1 ≡ eqb (countAt b (suc t) % 128) 2
+      go (yes q) = eq-eqb (until (countAt b t)) 1 (omega (arith, q)) ∙ sym (eq-eqb (countAt b (suc t) % 128) 2 q)
+      go (no q) = ne-eqb (until (countAt b t)) 1 (λ z. omega (arith, z, q)) ∙ sym (ne-eqb (countAt b (suc t) % 128) 2 q)
 
-pub counted-agree : (p q : ℕ → Bool) (n k : ℕ) → ((j : ℕ) → k ≤ j → j < k + n → p j ≡ q j) → counted p n k ≡ counted q n k
-unfolding counted
-counted-agree p q zero k h = refl
-counted-agree p q (suc n) k h =
-    ap₂ (λ (x : Bool) (y : ℕ). cond x 1 0 + y) (h k (omega arith) (omega arith))
-    (counted-agree p q n (suc k) (λ j lo hi. h j (omega arith) (omega arith)))
+  pub heard-all : (u : Bool) (r : ℕ) → allHeard (record { last = countAt b t; heard = 1; unbroken = cond u 1 0; row = r }) ≡ (u && change b (suc t))
+  unfolding allHeard
+  heard-all u r = ap₂ (λ (x y : Bool). x && y) (mark u) until-next
+    where
+      mark : (x : Bool) → eqb (cond x 1 0) 1 ≡ x
+      mark true = refl
+      mark false = refl
+
+-- ---- counts of components
 
 counted-most : (p q : ℕ → Bool) (n k : ℕ) → ((j : ℕ) → k ≤ j → j < k + n → p j ≡ true → q j ≡ true) → counted p n k ≤ counted q n k
 unfolding counted

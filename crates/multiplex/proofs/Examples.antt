@@ -21,7 +21,7 @@ use Rattle.multiplex.specs.Example.{one, two, other, none as ones, struc
 use Rattle.multiplex.specs.Heard.{Machine}
 use Rattle.multiplex.specs.Air.{Carries, gone, vectors, timed, inForce, newIn, oldIn, goneIn, turn, later, same, lastOld, lastNew, linkOf, linksOld, linksNew, newBefore, newTo, goneBefore, InTurn, Said, described, deleted, Orderly}
 use Rattle.multiplex.specs.Sound.{kept, Word, unheard, there, comingIn, comingBefore, comingTo, over as later-word}
-use Rattle.multiplex.specs.Finding.{first, newRoundsBefore, overChange, every, Followed, ShowsInForce}
+use Rattle.multiplex.specs.Finding.{first, roundsOf, overChange, every, Followed, ShowsInForce}
 use Rattle.multiplex.proofs.Keeping.{none-linked, two-linked, fitting, few-seven}
 use Rattle.multiplex.proofs.Denied.{unsaid}
 
@@ -254,7 +254,7 @@ begun-on = from-on 5 (λ t. begun (timed example) t ≡ true) refl next
 
 example-round : (t id : ℕ) → change (timed example) (suc t) ≡ true → begun (timed example) t ≡ false
     → overChange (comingTo example every id t) true example every id t ≡ true
-unfolding example structures told pick overChange comingBefore comingIn later-word newRoundsBefore newIn first change countAt
+unfolding example structures told pick overChange comingBefore comingIn later-word roundsOf newIn first change countAt
 example-round t id c b = go (ℕ-discrete id 7) (decLt t 5)
   where
     at-4 : t < 5 → t ≡ 4

@@ -28,7 +28,8 @@ use Rattle.multiplex.specs.Empty.{seven}
 use Rattle.multiplex.specs.Faulty.{Heeds, announced, absent, anew, goesOn, joined, missed, taken, times, listed, distance, sure, reader, careful, endless, startless, linkless, gapless, blockless, newsless, wrapless}
 use Rattle.multiplex.specs.Air.{Carries, old, Air, timed, inForce, carriedAs, fieldOn, newIn, oldIn, goneIn, turn, later, same, lastOld, linkOf, linksOld, InTurn, Orderly}
 use Rattle.multiplex.specs.Sound.{kept, missedBefore, Listener, announces, lists, over, comingIn, comingBefore, Quiet, NeverWrong}
-use Rattle.multiplex.specs.Finding.{Near, every, heardNews, Announces}
+use Rattle.multiplex.specs.Finding.{Near, every}
+use Rattle.multiplex.specs.Announcing.{heardNews, Announces}
 use Rattle.multiplex.proofs.Distances.{epoch-mono}
 use Rattle.multiplex.proofs.Keeping.{none-linked, one-linked, three-linked, fitting, few-seven}
 use Rattle.multiplex.proofs.Steady.{lists as both, same-all, steady, steady-orderly}

@@ -9,15 +9,15 @@ use mathlib.Core.Path.{_≡_, refl, sym, ap, ap₂, _∙_, subst}
 use mathlib.Core.Bool.{Bool, true, false, cond, not, _&&_, _||_}
 use mathlib.Core.List.{List, []}
 use mathlib.Core.Logic.{_⊎_, inl, inr}
-use Prim.Native.Nat.{ℕ, zero, suc, _+_, _-_, _%_, _≤_, _<_}
+use Prim.Native.Nat.{ℕ, zero, suc, _+_, _-_, _≤_, _<_}
 use native.Mathlib.Omega.{arith}
-use borrow.Author.Tests.{eq-eqb, le-ltb, lt-ltb, eqb-true}
+use borrow.Author.Tests.{le-ltb, lt-ltb}
 use lib.Dec.{T, leb, ltb, eqb}
 use lib.ListN.{length}
 use Rattle.bits.proofs.Search.{and-left, and-right}
 use Rattle.structure.specs.Structure.{most, headOf, said}
 use Rattle.structure.proofs.Gathering.{Holds, Empty}
-use Rattle.frames.specs.Counts.{ahead, until, changing, allHeard}
+use Rattle.frames.specs.Counts.{changing, allHeard}
 use Rattle.frames.specs.declared.Frames.{Frames}
 use Rattle.map.specs.Map.{ids, structureAt, framesOf, announced}
 use Rattle.multiplex.specs.Broadcast.{countAt, change, epoch, begun, Linked}
@@ -26,6 +26,7 @@ use Rattle.multiplex.specs.Heard.{ours}
 use Rattle.multiplex.specs.Air.{Air, timed, newIn, oldIn, later, lastOld, lastNew, linkOf, linksNew, newTo, goneTo, inForce, coming, same, Said, nothing, described, deleted, Orderly}
 use Rattle.multiplex.specs.Sound.{kept, missedBefore, anyBefore, Word, unheard, absent, there, comingTo}
 use Rattle.multiplex.specs.Finding.{Near, aloneBefore, found, roundsTo, newRoundsTo, whollyBefore, news, overChange, readyBefore, readyTo, Rightly, Finds, every, Followed, ShowsInForce}
+use Rattle.multiplex.proofs.Counting.{heard-all}
 use Rattle.multiplex.proofs.Distances.{epoch-step}
 use Rattle.multiplex.proofs.Knowing.{Deleting, Next, none, delete, piece, sure, Settled, stays-so, told, ends}
 use Rattle.multiplex.proofs.Knowing as knowing
@@ -95,18 +96,12 @@ module _ (a : Air) (w : Orderly a) (hears : ℕ → Bool) (t : ℕ) (m : List �
     now = changing-is ∙ lt-ltb e (epoch (timed a) (suc t)) (omega (arith, on))
 
     all-heard : allHeard (framesOf m) ≡ k .unbroken
-    unfolding allHeard until ahead change countAt
     all-heard =
-        ap allHeard (h .frames)
-        ∙ ap (λ (b : Bool). eqb (cond (k .unbroken) 1 0) 1 && b) (eq-eqb (until (countAt (timed a) t)) 1 (next-one (eqb-true (countAt (timed a) (suc t) % 128) 2 q)))
-        ∙ mark (k .unbroken)
+        ap allHeard (h .frames) ∙ heard-all (timed a) t (k .unbroken) _ ∙ ap (λ (b : Bool). k .unbroken && b) q ∙ and-yes (k .unbroken)
       where
-        next-one : countAt (timed a) (suc t) % 128 ≡ 2 → until (countAt (timed a) t) ≡ 1
-        next-one z = omega (arith, z)
-
-        mark : (b : Bool) → (eqb (cond b 1 0) 1 && true) ≡ b
-        mark true = refl
-        mark false = refl
+        and-yes : (b : Bool) → (b && true) ≡ b
+        and-yes true = refl
+        and-yes false = refl
 
     -- nothing is announced
     unsaid-seen : headOf A .fields ≡ 0 → headOf A .deleted ≡ 0 → (due : ℕ) → zs ≡ a .config e id → Right (a .config e id) due (structureAt id 0 m) → Seen m id c zs
@@ -210,7 +205,7 @@ module _ (a : Air) (w : Orderly a) (hears : ℕ → Bool) (t : ℕ) (m : List �
       is : cond (change (timed a) (suc t)) crossed (readyTo a hears id t) ≡ true
       is =
           sym (ap (λ (b : Bool). cond b (cond (change (timed a) (suc t)) crossed (readyTo a hears id t))
-          (cond (anyBefore hears t) false (not (broadcast.some (inForce a (suc t) id))))) (h .heard)) ∙ ok
+          (cond (anyBefore hears t) (not (change (timed a) (suc t)) && readyBefore a hears id t) (not (broadcast.some (inForce a (suc t) id))))) (h .heard)) ∙ ok
 
       go : (b : Bool) → change (timed a) (suc t) ≡ b → Seen m id c (inForce a (suc t) id)
       go true q =

@@ -123,7 +123,7 @@ stored-some s p = go (ltb most (headOf s .fields))
     go false = p
 
 -- what is whole stays
-whole-kept : (s xs : List ℕ) (k l : ℕ) → Holds s k xs 1 l → Holds (spoiled s) k xs 1 l
+pub whole-kept : (s xs : List ℕ) (k l : ℕ) → Holds s k xs 1 l → Holds (spoiled s) k xs 1 l
 whole-kept s xs k l h = alike-holds s (spoiled s) k xs 1 l (spoiled-whole s (h .size) (h .whole)) h
 
 -- a run from the first field on

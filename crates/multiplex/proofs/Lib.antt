@@ -4,6 +4,7 @@ pub mod Knowing
 pub mod Rounding
 pub mod Words
 pub mod Listening
+pub mod Missing
 pub mod Reaching
 pub mod Soundness
 pub mod Seeing

@@ -27,7 +27,8 @@ use Rattle.map.proofs.Places.{structure-length, structure-same, structure-other
 use Rattle.multiplex.specs.Broadcast.{countAt, change, epoch, begun}
 use Rattle.multiplex.specs.Air.{Carries, new, old, gone, vectors, Air, timed, carriedAs, fieldOn, newIn, oldIn, goneIn, later, lastOld, lastNew, linkOf, linksOld, linksNew, one, newBefore, newTo, goneBefore, goneTo, inForce, coming, InTurn, nothing, Orderly}
 use Rattle.multiplex.specs.Sound.{inRow, announces, lists, denies, Word, unheard, absent, there, over, presentIn, comingIn, comingBefore, comingTo, presentBefore, presentTo}
-use Rattle.multiplex.specs.Finding.{first, found, absentBy, absentBefore, absentTo, aloneBefore, roundsBefore, roundsTo, newRoundsBefore, newRoundsTo, whollyBefore, readyBefore, readyTo}
+use Rattle.multiplex.specs.Finding.{first, found, aloneBefore, roundsOf, roundsBefore, roundsTo, newRoundsBefore, newRoundsTo, whollyBefore, readyBefore, readyTo}
+use Rattle.multiplex.specs.Admitting.{absentBy, absentBefore, absentTo}
 use Rattle.multiplex.proofs.Rounding.{Turns, turns-plain, turns-gone, turns-old, Came, unbegun, came-plain, came-new}
 use Rattle.multiplex.proofs.Words.{Words, Sure, sure-as, words-as, words-force, words-dropped, words-told, words-ends, some-old, some-new}
 use Rattle.multiplex.proofs.Knowing.{Front, some, all, Next, delete, deletion-deleting, front-on, front-old, next-on, next-new}
@@ -104,7 +105,7 @@ none-last a id (suc t) z = go (change (timed a) (suc t)) (newIn id (a .carries t
 
 -- nor did it begin
 none-begun : (a : Air) (hears : ℕ → Bool) (id t : ℕ) → newBefore a id t ≡ 0 → newRoundsBefore a hears id t ≡ 0
-unfolding newBefore newRoundsBefore first
+unfolding newBefore roundsOf first
 none-begun a hears id zero z = refl
 none-begun a hears id (suc t) z = go (hears t) (change (timed a) (suc t)) (newIn id (a .carries t)) z (none-begun a hears id t)
   where

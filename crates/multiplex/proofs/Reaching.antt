@@ -1,7 +1,7 @@
 -- From one frame that is heard to the next, up to 128 frames later.
 --
 --   near-same, near-change     the next frame is heard, in the same configuration or as the first of the next one
---   far-same, far-change       frames are missed before it
+--   far-change                 frames are missed before a change
 --   first-before               nothing was heard before
 --
 -- Assumes nothing.
@@ -11,31 +11,32 @@ use mathlib.Core.List.{List, [], _∷_}
 use Prim.Native.Nat.{ℕ, zero, suc, _+_, _-_, _*_, _≤_, _<_}
 use native.Mathlib.Omega.{arith}
 use borrow.Author.Tests.{eq-eqb, eqb-true}
-use lib.ListN.{getD}
+use lib.ListN.{length, getD}
 use Rattle.bits.proofs.Search.{and-left, and-right}
-use native.Mathlib.Decide.{ℕ-discrete}
 use lib.Dec.{T, eqb, lit<, lit≤}
 use Rattle.bits.specs.Bits.{blank}
 use Rattle.bits.proofs.Storing.{blank-length}
 use Rattle.runs.proofs.Parts.{blank-at}
-use Rattle.structure.specs.Structure.{structureSize, headOf, certainly}
+use Rattle.structure.specs.Structure.{structureSize, headOf, certainly, spoiled}
 use Rattle.structure.specs.declared.Structure.{Structure}
 use Rattle.structure.proofs.Gathering.{Empty}
-use Rattle.structure.proofs.Runs.{empty}
+use Rattle.structure.proofs.Runs.{empty, spoiled-empty}
 use Rattle.map.specs.Map.{ids, mapSize, blockSize, structureAt, eachFrom, changedFrom, spoiledBoth}
 use Rattle.map.proofs.Places.{structure-length}
 use Rattle.map.proofs.Changing.{blank-empty, part-blank, gap-length, gap-structure, from-length}
 use Rattle.multiplex.specs.Broadcast.{change, epoch, begun, Linked}
 use Rattle.multiplex.specs.Broadcast as broadcast
 use Rattle.multiplex.specs.Air.{Air, timed, newIn, oldIn, later, same, lastOld, lastNew, linkOf, linksOld, linksNew, newBefore, newTo, goneBefore, goneTo, inForce, coming, Said, nothing, described, deleted, Orderly}
-use Rattle.multiplex.specs.Finding.{isAbsent, absentBy, absentBefore, absentTo, aloneBefore, roundsBefore, roundsTo, newRoundsBefore, newRoundsTo, whollyBefore, news, overChange, readyBefore, readyTo}
+use Rattle.multiplex.specs.Finding.{aloneBefore, roundsOf, roundsBefore, roundsTo, newRoundsBefore, newRoundsTo, whollyBefore, news, overChange, readyBefore, readyTo}
+use Rattle.multiplex.specs.Admitting.{isAbsent, absentBefore, absentTo}
 use Rattle.multiplex.specs.Sound.{anyBefore, Word, unheard, absent, there, over, presentIn, comingIn, comingBefore, comingTo, presentBefore, presentTo}
 use Rattle.multiplex.proofs.Distances.{epoch-step, epoch-mono}
-use Rattle.multiplex.proofs.Knowing.{Front, some, all, Next, none, delete, piece, sure, full, Silent, Past, Settled, stays-so, told, ends, front-gap, next-gap, front-unsure, front-sure}
+use Rattle.multiplex.proofs.Knowing.{Front, some, Next, none, sure, Past, Settled, stays-so, told, ends, front-gap, front-unsure, front-sure}
 use Rattle.multiplex.proofs.Words.{Words, Sure, sure-as, sure-gap, sure-change, words-as, words-gap, words-change, unheard-there, absent-unheard, Goes, goes-to}
 use Rattle.multiplex.proofs.Rounding.{Right, Turns, unbegun, Came, none-is, right-sure, right-kept, right-gone, right-round}
 use Rattle.multiplex.proofs.Rounding as rounding
 use Rattle.multiplex.proofs.Listening.{Known, Before, front-as, next-as}
+use Rattle.multiplex.proofs.Missing.{Gap, front-later, silent-new, none-came, Lost, or-no, off-cond, heardReady, ready-kept, lost-at, starts, none-yet}
 
 same-refl : (xs : List ℕ) → same xs xs ≡ true
 unfolding same
@@ -44,29 +45,6 @@ same-refl (x ∷ xs) = ap₂ (λ (a b : Bool). a && b) (eq-eqb x x refl) (same-r
 
 pub same-eq : (xs ys : List ℕ) → xs ≡ ys → same xs ys ≡ true
 same-eq xs ys e = ap (same xs) (sym e) ∙ same-refl xs
-
--- none was heard between frame t and frame n
-abbrev pub Gap : (ℕ → Bool) → ℕ → ℕ → Type 0
-Gap hears t n = (v : ℕ) → v < n → hears v ≡ true → v < suc t
-
-module _ (a : Air) (hears : ℕ → Bool) (t n : ℕ) (gap : Gap hears t n) where
-  front-later : (e id due : ℕ) (s : List ℕ) → Front a hears (suc t) e id due s → Front a hears n e id due s
-  front-later e id due s (some p) = some p
-  front-later e id due s (all j l hl hj pos h q) = all j l hl hj pos h (record {
-    quiet = λ v hv hh lo hi. q .quiet v (gap v hv hh) hh lo hi;
-    undenied = λ v hv hh lo. q .undenied v (gap v hv hh) hh lo;
-  })
-
-  next-later : (e id due count links : ℕ) (g u : Bool) (s : List ℕ) → Next a hears (suc t) e id due count links g u s → Next a hears n e id due count links g u s
-  next-later e id due count links g u s (none em c q) = none em c (λ v hv hh z. q v (gap v hv hh) hh z)
-  next-later e id due count links g u s (delete d c) = delete d c
-  next-later e id due count links g u s (piece w h p) = piece w h p
-  next-later e id due count links g u s (sure k pos le c d hl la h) = sure k pos le c d hl la h
-  next-later e id due count links g u s (full l hl pos la h) = full l hl pos la h
-
-  -- in the next configuration nothing was said before its first frame
-  silent-new : (e id : ℕ) → epoch (timed a) t < e → Silent a hears n e id
-  silent-new e id h v hv hh z = absurd (omega (arith, h, z, epoch-mono (timed a) v t (omega (arith, gap v hv hh))))
 
 -- ---- from when on it is right
 
@@ -82,84 +60,9 @@ came-as {c} {c'} {zs} {zs'} {due} {due'} {l} {l'} {A} ec ez ed el w =
     subst (λ (x : ℕ). Came x zs' due' l' A) ec
     (subst (λ (x : List ℕ). Came c x due' l' A) ez (subst (λ (x : ℕ). Came c zs x l' A) ed (subst (λ (x : ℕ). Came c zs due x A) el w)))
 
-none-came : {c : ℕ} {zs : List ℕ} {due l : ℕ} {A : List ℕ} → c ≡ 0 → Came c zs due l A
-none-came z = unbegun z
-
--- behind frames that were missed nothing is asked of it
-record Lost (a : Air) (hears : ℕ → Bool) (n : ℕ) : Type 0 where
-  wholly : whollyBefore a hears n ≡ false
-  ready : (id : ℕ) → readyBefore a hears id n ≡ false
-  rounds : (id : ℕ) → roundsBefore a hears id n ≡ 0
-  announced : (id : ℕ) → newRoundsBefore a hears id n ≡ 0
-  alone : aloneBefore a hears n ≡ false
-
-off-cond : {A : Type 0} (x y : A) (b : Bool) → b ≡ false → cond b x y ≡ y
-off-cond x y true e = absurd (subst T e tt)
-off-cond x y false e = refl
-
--- what is asked of it where the frame before was heard
-abbrev heardReady : Air → (ℕ → Bool) → ℕ → ℕ → Bool
-heardReady a hears id n =
-    cond (change (timed a) (suc n))
-    (cond (whollyBefore a hears n) (readyTo a hears id n || news a id n) (overChange (comingTo a hears id n) (readyTo a hears id n) a hears id n)) (readyTo a hears id n)
-
 -- nothing is certain behind a change that is not sure
 unsure-any : {g : Bool} {xs zs F A : List ℕ} → Sure false xs zs F A → Sure g xs zs F A
 unsure-any w = record { front = w .front; next = w .next; gone = λ z c. absurd (subst T (sym (w .gone z c)) tt) }
-
--- that it is not there stays heard, over frames that were missed within a configuration
-absent-kept : (a : Air) (hears : ℕ → Bool) (id t n : ℕ) → t < n → Gap hears t n → epoch (timed a) n ≡ epoch (timed a) t → absentBefore a hears id n ≡ absentTo a hears id t
-unfolding absentBefore absentBy
-absent-kept a hears id t zero l gap on = absurd (omega arith)
-absent-kept a hears id t (suc n) l gap on = go (change (timed a) (suc n)) refl (ℕ-discrete t n) (absent-kept a hears id t n)
-  where
-    go : (b : Bool) → change (timed a) (suc n) ≡ b → Dec (t ≡ n)
-        → (t < n → Gap hears t n → epoch (timed a) n ≡ epoch (timed a) t → absentBefore a hears id n ≡ absentTo a hears id t)
-        → cond (change (timed a) (suc n)) (hears n && (whollyBefore a hears n && isAbsent (comingTo a hears id n))) (absentTo a hears id n) ≡ absentTo a hears id t
-    go true c d r = absurd (omega (arith, on, epoch-step (timed a) n true c, epoch-mono (timed a) t n (omega (arith, l))))
-    go false c (yes e) r =
-        ap (λ (b : Bool). cond b (hears n && (whollyBefore a hears n && isAbsent (comingTo a hears id n))) (absentTo a hears id n)) c
-        ∙ ap (λ (v : ℕ). absentTo a hears id v) (sym e)
-    go false c (no e) r =
-        ap (λ (b : Bool). cond b (hears n && (whollyBefore a hears n && isAbsent (comingTo a hears id n))) (absentTo a hears id n)) c
-        ∙ ap (λ (b : Bool). absentBy (cond b (presentIn id (a .carries n)) unheard) (absentBefore a hears id n)) (off (hears n) refl)
-        ∙ r (omega (arith, l, e)) (λ v hv hh. gap v (omega (arith, hv)) hh)
-        (omega (arith, on, epoch-step (timed a) n false c))
-      where
-        off : (b : Bool) → hears n ≡ b → hears n ≡ false
-        off true q = absurd (omega (arith, l, e, gap n (omega arith) q))
-        off false q = q
-
-any-heard : (hears : ℕ → Bool) (t v : ℕ) → t < v → hears t ≡ true → anyBefore hears v ≡ true
-unfolding anyBefore
-any-heard hears t zero l h = absurd (omega arith)
-any-heard hears t (suc v) l h = go (ℕ-discrete t v) (any-heard hears t v)
-  where
-    or-yes : (x : Bool) → (x || true) ≡ true
-    or-yes true = refl
-    or-yes false = refl
-
-    go : Dec (t ≡ v) → (t < v → hears t ≡ true → anyBefore hears v ≡ true) → (hears v || anyBefore hears v) ≡ true
-    go (yes e) r = ap (λ (b : Bool). b || anyBefore hears v) (ap hears (sym e) ∙ h)
-    go (no e) r = ap (λ (b : Bool). hears v || b) (r (omega (arith, l, e)) h) ∙ or-yes (hears v)
-
-lost-at : (a : Air) (hears : ℕ → Bool) (t n : ℕ) → suc t < n → Gap hears t n → hears t ≡ true → Lost a hears n
-unfolding whollyBefore aloneBefore readyBefore roundsBefore newRoundsBefore
-lost-at a hears t zero l gap h = absurd (omega arith)
-lost-at a hears t (suc n) l gap h =
-    let off : hears n ≡ false = unheard-at (hears n) refl in
-    let any : anyBefore hears n ≡ true = any-heard hears t n (omega (arith, l)) h in
-    record {
-      wholly = λ i. cond (off i) (change (timed a) (suc n) || whollyBefore a hears n) (cond (any i) false (change (timed a) (suc n)));
-      ready = λ id. off-cond (heardReady a hears id n) (cond (anyBefore hears n) false (not (broadcast.some (inForce a (suc n) id)))) (hears n) off ∙ ap (λ (b : Bool). cond b false (not (broadcast.some (inForce a (suc n) id)))) any;
-      rounds = λ id. off-cond (cond (change (timed a) (suc n)) 0 (roundsTo a hears id n)) 0 (hears n) off;
-      announced = λ id. off-cond (cond (change (timed a) (suc n)) 0 (newRoundsTo a hears id n)) 0 (hears n) off;
-      alone = λ i. cond (off i) (not (change (timed a) (suc n)) && aloneBefore a hears n) (not (any i));
-    }
-  where
-    unheard-at : (b : Bool) → hears n ≡ b → hears n ≡ false
-    unheard-at true e = absurd (omega (arith, l, gap n (omega arith) e))
-    unheard-at false e = e
 
 module _ (a : Air) (w : Orderly a) (hears : ℕ → Bool) (t : ℕ) (m : List ℕ) (u : Bool) (k : Known a hears t m u) where
   abbrev e : ℕ
@@ -176,9 +79,7 @@ module _ (a : Air) (w : Orderly a) (hears : ℕ → Bool) (t : ℕ) (m : List �
 
   wholly-next : (b : Bool) → change (timed a) (suc t) ≡ b → whollyBefore a hears (suc t) ≡ (b || whollyBefore a hears t)
   unfolding whollyBefore
-  wholly-next b c =
-      ap (λ (x : Bool). cond x (change (timed a) (suc t) || whollyBefore a hears t) (cond (anyBefore hears t) false (change (timed a) (suc t)))) (k .heard)
-      ∙ ap (λ (x : Bool). x || whollyBefore a hears t) c
+  wholly-next b c = λ i. c i || (k .heard i && whollyBefore a hears t)
 
   -- over a change
   crossed : ℕ → Bool
@@ -187,7 +88,8 @@ module _ (a : Air) (w : Orderly a) (hears : ℕ → Bool) (t : ℕ) (m : List �
   ready-next : (id : ℕ) → readyBefore a hears id (suc t) ≡ cond (change (timed a) (suc t)) (crossed id) (readyTo a hears id t)
   unfolding readyBefore crossed
   ready-next id =
-      ap (λ (x : Bool). cond x (cond (change (timed a) (suc t)) (crossed id) (readyTo a hears id t)) (cond (anyBefore hears t) false (not (broadcast.some (inForce a (suc t) id))))) (k .heard)
+      ap (λ (x : Bool). cond x (cond (change (timed a) (suc t)) (crossed id) (readyTo a hears id t))
+      (cond (anyBefore hears t) (not (change (timed a) (suc t)) && readyBefore a hears id t) (not (broadcast.some (inForce a (suc t) id))))) (k .heard)
 
   alone-next : (b : Bool) → change (timed a) (suc t) ≡ b → aloneBefore a hears (suc t) ≡ (not b && aloneBefore a hears t)
   unfolding aloneBefore
@@ -203,11 +105,11 @@ module _ (a : Air) (w : Orderly a) (hears : ℕ → Bool) (t : ℕ) (m : List �
       ∙ ap (λ (x : Bool). cond b (x && (whollyBefore a hears t && isAbsent (comingTo a hears id t))) (absentTo a hears id t)) (k .heard)
 
   rounds-next : (id : ℕ) → roundsBefore a hears id (suc t) ≡ cond (change (timed a) (suc t)) 0 (roundsTo a hears id t)
-  unfolding roundsBefore
+  unfolding roundsOf
   rounds-next id = ap (λ (x : Bool). cond x (cond (change (timed a) (suc t)) 0 (roundsTo a hears id t)) 0) (k .heard)
 
   new-next : (id : ℕ) → newRoundsBefore a hears id (suc t) ≡ cond (change (timed a) (suc t)) 0 (newRoundsTo a hears id t)
-  unfolding newRoundsBefore
+  unfolding roundsOf
   new-next id = ap (λ (x : Bool). cond x (cond (change (timed a) (suc t)) 0 (newRoundsTo a hears id t)) 0) (k .heard)
 
   pub near-same : change (timed a) (suc t) ≡ false → Before a hears (suc t) m u
@@ -342,86 +244,62 @@ module _ (a : Air) (w : Orderly a) (hears : ℕ → Bool) (t : ℕ) (m : List �
         came = λ id hid. none-came (new-next id ∙ ap (λ (b : Bool). cond b 0 (newRoundsTo a hears id t)) c);
       }
 
-  -- ---- frames are missed
+  -- ---- a change of which the last frame before was missed
 
-  module _ (n : ℕ) (missed : suc t < n) (gap : Gap hears t n) where
-    later-on : t < n
-    later-on = omega (arith, missed)
+  module _ (n : ℕ) (missed : suc t < n) (gap : Gap hears t n) (on : epoch (timed a) n ≡ suc e) (late : change (timed a) (suc t) ≡ false) where
+    abbrev behind : List ℕ
+    behind = changedFrom ids 0 false m
 
     abbrev gaps : List ℕ
-    gaps = eachFrom ids 0 spoiledBoth m
+    gaps = eachFrom ids 0 spoiledBoth behind
 
-    gap-front : (id : ℕ) → id < ids → (due : ℕ) → Front a hears (suc t) e id due (structureAt id 0 gaps)
-    gap-front id hid due = subst (Front a hears (suc t) e id due) (sym (gap-structure m (k .size) id 0 hid (lit< tt))) (front-gap a hears (suc t) e id _ due _ (k .front id hid))
+    lb : length behind ≡ mapSize
+    lb = from-length false ids 0 m (lit≤ tt) (k .size)
 
-    gap-next : (id : ℕ) → id < ids → (due count links : ℕ) (g : Bool) → Next a hears (suc t) e id due count links g false (structureAt id 1 gaps)
-    gap-next id hid due count links g =
-        subst (Next a hears (suc t) e id due count links g false) (sym (gap-structure m (k .size) id 1 hid (lit< tt)))
-        (next-gap a hears (suc t) e id _ _ _ _ u _ (k .next id hid) due count links g)
+    at : (id v : ℕ) → id < ids → v < 2 → structureAt id v gaps ≡ spoiled (structureAt id v behind)
+    at id v hid hv = gap-structure behind lb id v hid hv
 
-    gap-words : (id : ℕ) → id < ids → Words (presentTo a hears id t) (comingTo a hears id t) (structureAt id 0 gaps) (structureAt id 1 gaps)
-    gap-words id hid =
-        words-as (words-gap _ _ _ _ (structure-length m (k .size) id 0 hid (lit< tt)) (structure-length m (k .size) id 1 hid (lit< tt)) (k .words id hid)) refl refl
-        (sym (gap-structure m (k .size) id 0 hid (lit< tt))) (sym (gap-structure m (k .size) id 1 hid (lit< tt)))
-
-    gap-sure : (id : ℕ) → id < ids → Sure (absentTo a hears id t) (inForce a t id) (coming a t id) (structureAt id 0 gaps) (structureAt id 1 gaps)
-    gap-sure id hid =
-        sure-as (sym (gap-structure m (k .size) id 0 hid (lit< tt))) (sym (gap-structure m (k .size) id 1 hid (lit< tt)))
-        (sure-gap (absentTo a hears id t) _ _ _ _ (structure-length m (k .size) id 0 hid (lit< tt)) (structure-length m (k .size) id 1 hid (lit< tt)) (k .sure id hid))
-
-    -- the frame before was missed
     lost : Lost a hears n
     lost = lost-at a hears t n missed gap (k .heard)
 
-    no : {A : Type 0} → false ≡ true → A
-    no z = absurd (subst T (sym z) tt)
+    far-both : (id : ℕ) → id < ids → Front a hears (suc t) (suc e) id 0 (structureAt id 0 behind) × Empty (structureAt id 1 behind)
+    far-both id hid = front-unsure a hears (suc t) e id past hid m (k .size) (w .linked (suc e) id hid) _ 0 _ _ _ _ u (k .front id hid) (k .next id hid)
 
-    lost-turns : (id : ℕ) {xs F : List ℕ} {due l : ℕ} → Turns (readyBefore a hears id n) (aloneBefore a hears n) (roundsBefore a hears id n) xs due l F
-    lost-turns id = record { rightly = λ z. no (sym (lost .ready id) ∙ z); round = unbegun (lost .rounds id); only = λ z. no (sym (lost .alone) ∙ z) }
+    far-front : (id : ℕ) → id < ids → Front a hears n (suc e) id (lastOld a id n) (structureAt id 0 gaps)
+    far-front id hid =
+        subst (Front a hears n (suc e) id (lastOld a id n)) (sym (at id 0 hid (lit< tt)))
+        (front-later a hears t n gap (suc e) id _ _ (front-gap a hears (suc t) (suc e) id 0 (lastOld a id n) _ (far-both id hid .0)))
 
-    pub far-same : epoch (timed a) n ≡ e → Before a hears n gaps false
-    far-same on = record {
-      size = gap-length m (k .size);
-      begun = λ z. no z;
-      front = λ id hid. subst (λ (x : ℕ). Front a hears n x id (lastOld a id n) (structureAt id 0 gaps)) (sym on)
-          (front-later a hears t n gap e id _ _ (gap-front id hid (lastOld a id n)));
-      next = λ id hid. subst (λ (x : ℕ). Next a hears n x id (lastNew a id n) (newBefore a id n) (linksNew a id n) (goneBefore a id n) false (structureAt id 1 gaps)) (sym on)
-          (next-later a hears t n gap e id _ _ _ _ false _ (gap-next id hid (lastNew a id n) (newBefore a id n) (linksNew a id n) (goneBefore a id n)));
-      words = λ id hid.
-          let g = goes n later-on gap id .before on in
-          words-as (gap-words id hid) (sym (g .1)) (sym (g .0)) refl refl;
-      sure = λ id hid. subst (λ (x : ℕ). Sure (absentBefore a hears id n) (a .config x id) (a .config (suc x) id) (structureAt id 0 gaps) (structureAt id 1 gaps)) (sym on)
-          (subst (λ (g : Bool). Sure g (inForce a t id) (coming a t id) (structureAt id 0 gaps) (structureAt id 1 gaps)) (sym (absent-kept a hears id t n later-on gap on)) (gap-sure id hid));
+    far-words : (id : ℕ) → id < ids → Words (presentBefore a hears id n) (comingBefore a hears id n) (structureAt id 0 gaps) (structureAt id 1 gaps)
+    far-words id hid =
+        let g = goes n (omega (arith, missed)) gap id .behind on in
+        words-as (words-gap _ _ _ _ (structure-length behind lb id 0 hid (lit< tt)) (structure-length behind lb id 1 hid (lit< tt))
+        (words-change false m (k .size) id hid _ _ (k .words id hid))) (sym (g .1)) (sym (g .0)) (sym (at id 0 hid (lit< tt))) (sym (at id 1 hid (lit< tt)))
+
+    far-sure : (id : ℕ) → id < ids → Sure (absentBefore a hears id n) (coming a t id) (a .config (suc (suc e)) id) (structureAt id 0 gaps) (structureAt id 1 gaps)
+    far-sure id hid =
+        unsure-any (sure-as (sym (at id 0 hid (lit< tt))) (sym (at id 1 hid (lit< tt)))
+        (sure-gap false _ _ _ _ (structure-length behind lb id 0 hid (lit< tt)) (structure-length behind lb id 1 hid (lit< tt))
+        (sure-change false m (k .size) id hid _ _ (k .words id hid) (absentTo a hears id t) _ _ _ (k .sure id hid))))
+
+    pub far-change : Before a hears n gaps (change (timed a) n)
+    far-change = record {
+      size = gap-length behind lb;
+      begun = starts a n;
+      front = λ id hid. subst (λ (x : ℕ). Front a hears n x id (lastOld a id n) (structureAt id 0 gaps)) (sym on) (far-front id hid);
+      next = λ id hid. fresh n gap on (change (timed a) n) (λ j z. none-yet a n j z) id _
+          (subst Empty (sym (at id 1 hid (lit< tt))) (spoiled-empty _ (far-both id hid .1)));
+      words = far-words;
+      sure = λ id hid.
+          subst (λ (x : ℕ). Sure (absentBefore a hears id n) (a .config x id) (a .config (suc x) id) (structureAt id 0 gaps) (structureAt id 1 gaps)) (sym on) (far-sure id hid);
       wholly = sym (lost .wholly);
-      turns = λ id hid. lost-turns id;
+      turns = λ id hid. record {
+        rightly = λ z. absurd (omega (arith, on, ready-kept a hears id t n (omega (arith, missed)) gap (k .heard) z .0, epoch-step (timed a) t false late));
+        round = unbegun (lost .rounds id);
+        only = λ z. absurd (subst T (sym (sym (lost .alone) ∙ z)) tt);
+      };
       came = λ id hid. none-came (lost .announced id);
     }
-
-    far-both : (id : ℕ) → id < ids
-        → Front a hears (suc t) (suc e) id (lastOld a id n) (structureAt id 0 (changedFrom ids 0 false gaps)) × Empty (structureAt id 1 (changedFrom ids 0 false gaps))
-    far-both id hid =
-        front-unsure a hears (suc t) e id past hid gaps (gap-length m (k .size)) (w .linked (suc e) id hid) 0 (lastOld a id n) 0 0 0 false false
-        (gap-front id hid 0) (gap-next id hid 0 0 0 false)
-
-    pub far-change : epoch (timed a) n ≡ suc e → Before a hears n (changedFrom ids 0 false gaps) false
-    far-change on =
-        let lg = gap-length m (k .size) in
-        record {
-          size = from-length false ids 0 gaps (lit≤ tt) lg;
-          begun = λ z. no z;
-          front = λ id hid. subst (λ (x : ℕ). Front a hears n x id (lastOld a id n) (structureAt id 0 (changedFrom ids 0 false gaps))) (sym on)
-              (front-later a hears t n gap (suc e) id _ _ (far-both id hid .0));
-          next = λ id hid. fresh n gap on false (λ j z. no z) id _ (far-both id hid .1);
-          words = λ id hid.
-              let g = goes n later-on gap id .behind on in
-              words-as (words-change false gaps lg id hid _ _ (gap-words id hid)) (sym (g .1)) (sym (g .0)) refl refl;
-          sure = λ id hid.
-              subst (λ (x : ℕ). Sure (absentBefore a hears id n) (a .config x id) (a .config (suc x) id) (structureAt id 0 (changedFrom ids 0 false gaps)) (structureAt id 1 (changedFrom ids 0 false gaps)))
-              (sym on) (unsure-any (sure-change false gaps lg id hid _ _ (gap-words id hid) (absentTo a hears id t) _ _ _ (gap-sure id hid)));
-          wholly = sym (lost .wholly);
-          turns = λ id hid. lost-turns id;
-          came = λ id hid. none-came (lost .announced id);
-        }
 
 -- ---- nothing was heard before
 
@@ -437,19 +315,6 @@ blank-certain id hid =
 certainly-mark : (h : Structure) → certainly h ≡ true → eqb (h .certain) 1 ≡ true
 unfolding certainly
 certainly-mark h c = and-left (eqb (h .certain) 1) _ c
-
-starts : (a : Air) (n : ℕ) → change (timed a) n ≡ true → begun (timed a) n ≡ true
-unfolding begun
-starts a zero c = c
-starts a (suc n) c = ap (λ (b : Bool). b || begun (timed a) n) c
-
-none-yet : (a : Air) (n id : ℕ) → change (timed a) n ≡ true → (newBefore a id n ≡ 0) × ((goneBefore a id n ≡ false) × (lastNew a id n ≡ 0))
-unfolding newBefore goneBefore lastNew
-none-yet a zero id c = (refl, (refl, refl))
-none-yet a (suc n) id c = (
-  ap (λ (b : Bool). cond b 0 (newTo a id n)) c,
-  (ap (λ (b : Bool). cond b false (goneTo a id n)) c, ap (λ (b : Bool). cond b 0 (later (newIn id (a .carries n)) (lastNew a id n))) c),
-)
 
 -- nothing was heard of any
 unspoken : (a : Air) (hears : ℕ → Bool) (id t : ℕ) → ((v : ℕ) → v < t → hears v ≡ true → ⊥) → (presentBefore a hears id t ≡ unheard) × (comingBefore a hears id t ≡ unheard)
@@ -496,14 +361,15 @@ none-heard hears (suc n) q =
     off false e = e
 
 first-at : (a : Air) (hears : ℕ → Bool) (n : ℕ) → ((v : ℕ) → v < n → hears v ≡ true → ⊥) → First a hears n
-unfolding whollyBefore readyBefore roundsBefore newRoundsBefore
+unfolding whollyBefore readyBefore roundsOf
 first-at a hears zero q = record { wholly = refl; ready = λ id. refl; rounds = λ id. refl; announced = λ id. refl }
 first-at a hears (suc n) q =
     let off : hears n ≡ false = off-at (hears n) refl in
     let any : anyBefore hears n ≡ false = none-heard hears n (λ v hv. q v (omega (arith, hv))) in
     record {
-      wholly = λ i. cond (off i) (change (timed a) (suc n) || whollyBefore a hears n) (cond (any i) false (change (timed a) (suc n)));
-      ready = λ id. off-cond (heardReady a hears id n) (cond (anyBefore hears n) false (not (broadcast.some (inForce a (suc n) id)))) (hears n) off ∙ ap (λ (b : Bool). cond b false (not (broadcast.some (inForce a (suc n) id)))) any;
+      wholly = ap (λ (b : Bool). change (timed a) (suc n) || (b && whollyBefore a hears n)) off ∙ or-no (change (timed a) (suc n));
+      ready = λ id. off-cond (heardReady a hears id n) (cond (anyBefore hears n) (not (change (timed a) (suc n)) && readyBefore a hears id n) (not (broadcast.some (inForce a (suc n) id)))) (hears n) off
+          ∙ ap (λ (b : Bool). cond b (not (change (timed a) (suc n)) && readyBefore a hears id n) (not (broadcast.some (inForce a (suc n) id)))) any;
       rounds = λ id. off-cond (cond (change (timed a) (suc n)) 0 (roundsTo a hears id n)) 0 (hears n) off;
       announced = λ id. off-cond (cond (change (timed a) (suc n)) 0 (newRoundsTo a hears id n)) 0 (hears n) off;
     }

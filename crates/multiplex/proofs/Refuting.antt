@@ -31,7 +31,9 @@ use Rattle.multiplex.specs.Example.{structures, pick, told, example}
 use Rattle.multiplex.specs.Empty.{deaf, doubting, mute, refusing, firstOnly, late}
 use Rattle.multiplex.specs.Air.{vectors, Air, timed, inForce, fieldOn, oldIn, newIn, goneIn, InTurn, Orderly}
 use Rattle.multiplex.specs.Sound.{kept, missedBefore, inRow, Listener, Word, unheard, over, presentIn, comingIn, comingBefore, presentBefore, wordFor, NeverWrong}
-use Rattle.multiplex.specs.Finding.{Near, first, found, aloneBefore, roundsBefore, whollyBefore, overChange, readyBefore, readyTo, every, Finds, ShowsInForce, heardNews, absentBy, absentBefore, absentBehind, absentFor, Announces, Reason, gone, long, Admits}
+use Rattle.multiplex.specs.Finding.{Near, first, found, aloneBefore, roundsOf, whollyBefore, overChange, readyBefore, readyTo, every, Finds, ShowsInForce}
+use Rattle.multiplex.specs.Announcing.{heardNews, Announces}
+use Rattle.multiplex.specs.Admitting.{absentBy, absentBefore, absentBehind, absentFor, Reason, gone, long, Admits}
 use Rattle.multiplex.proofs.Soundness.{State, silent, since-one, state-at}
 use Rattle.multiplex.proofs.Steady.{lists, steady, steady-orderly}
 use Rattle.multiplex.proofs.Denied.{unsaid}
@@ -146,7 +148,7 @@ first-only-not s =
 -- ---- a component that is there from before frame 0 on
 
 come-round : readyTo steady every 7 6 ≡ true
-unfolding readyBefore roundsBefore whollyBefore aloneBefore found overChange first oldIn over comingIn comingBefore some lists steady change countAt
+unfolding readyBefore roundsOf whollyBefore aloneBefore found overChange first oldIn over comingIn comingBefore some lists steady change countAt
 come-round = refl
 
 two-there : length (inForce steady 6 7) ≡ 2

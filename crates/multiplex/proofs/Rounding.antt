@@ -7,6 +7,7 @@
 --   Turns                   all of it; turns-old: a present field; turns-plain: any other; third-right, second-right
 --   Came c zs due l A       of the announced one: after one beginning a run from the first field on, or all of it
 --   came-new, came-plain, came-full
+--   right-gap               frames are missed
 --   right-sure, right-over  a change
 --
 -- Assumes nothing.
@@ -21,9 +22,10 @@ use borrow.Author.Tests.{eq-eqb, ne-eqb, eqb-true, leb-true}
 use lib.Dec.{T, leb, ltb, eqb, lit<}
 use lib.ListN.{length, getD, drop}
 use Rattle.bits.proofs.Search.{and-left, and-right}
-use Rattle.structure.specs.Structure.{structureSize, headOf, isNext, gathered}
+use Rattle.structure.specs.Structure.{structureSize, headOf, isNext, gathered, spoiled}
 use Rattle.structure.proofs.Gathering.{Holds, Empty, alike-holds, alike-empty, begun, kept-alike, other-begins}
-use Rattle.structure.proofs.Runs.{Fields, Lasts, Part, empty, stuck, run, Took, partly, wholly, part-takes, open-takes, whole-next, Listed, placed, next-listed, begins-run}
+use Rattle.structure.proofs.Kept.{spoiled-last}
+use Rattle.structure.proofs.Runs.{Fields, Lasts, Part, empty, stuck, run, spoiled-empty, Took, partly, wholly, part-takes, open-takes, whole-next, Listed, placed, next-listed, begins-run}
 use Rattle.structure.proofs.Rounds.{first-joins, first-completes, completes-last, Wrong, wrong-begins, wrong-goes, wrong-ends}
 use Rattle.map.specs.Map.{ids, mapSize, structureAt, stayed, changedFrom}
 use Rattle.map.proofs.Places.{structure-length}
@@ -31,7 +33,7 @@ use Rattle.map.proofs.Changing.{stayed-alike, stayed-last, settled-empty, settl
 use Rattle.multiplex.specs.Broadcast.{some, Linked}
 use Rattle.multiplex.specs.Air.{Air, turn, same}
 use Rattle.multiplex.specs.Finding.{first, found}
-use Rattle.multiplex.proofs.Knowing.{linked-fields, Front, all, Next, none, delete, piece, sure, part-head, Settled, stays-so, told, ends}
+use Rattle.multiplex.proofs.Knowing.{linked-fields, Front, all, Next, none, delete, piece, sure, part-head, whole-kept, Settled, stays-so, told, ends}
 use Rattle.multiplex.proofs.Knowing as knowing
 
 pub data Right (xs : List ℕ) (due : ℕ) (F : List ℕ) : Type 0 where
@@ -327,6 +329,11 @@ same-is [] [] e = refl
 same-is [] (y ∷ ys) e = clash (sym e)
 same-is (x ∷ xs) [] e = clash (sym e)
 same-is (x ∷ xs) (y ∷ ys) e = ap₂ (λ (v : ℕ) (vs : List ℕ). v ∷ vs) (eqb-true x y (and-left (eqb x y) _ e)) (same-is xs ys (and-right (eqb x y) _ e))
+
+-- frames are missed: what is right stays so
+pub right-gap : (xs : List ℕ) (due next : ℕ) (F : List ℕ) → Right xs due F → Right xs next (spoiled F)
+right-gap xs due next F (absent z em) = absent z (spoiled-empty F em)
+right-gap xs due next F (present m hm pos last h) = present m hm pos (inl (spoiled-last F (h .size))) (whole-kept F xs (length xs) m h)
 
 pub none-is : (xs : List ℕ) → not (some xs) ≡ true → xs ≡ []
 unfolding some

@@ -7,7 +7,7 @@
 --
 -- Assumes nothing.
 use mathlib.Core.Path.{_≡_, refl, sym, ap, ap₂, _∙_, subst}
-use mathlib.Core.Bool.{Bool, true, false, cond, not, _&&_, _||_}
+use mathlib.Core.Bool.{Bool, true, false, cond, _&&_, _||_}
 use mathlib.Core.List.{List}
 use mathlib.Core.Logic.{_⊎_, inl, inr}
 use Prim.Native.Nat.{ℕ, zero, suc, _+_, _-_, _^_, _≤_, _<_}
@@ -21,19 +21,20 @@ use Rattle.runs.proofs.Parts.{blank-at}
 use Rattle.field.specs.Field.{fieldOf, fieldBytes}
 use Rattle.field.specs.declared.Field.{Field}
 use Rattle.field.proofs.RoundTrip.{read-written}
-use Rattle.frames.specs.Counts.{since, changes, changing, again, skips, begins, sureAt, rowAfter, framesAfter}
+use Rattle.frames.specs.Counts.{since, changes, changing, again, skips, rowAfter, framesAfter, allHeard}
 use Rattle.frames.specs.declared.Frames.{Frames}
 use Rattle.map.specs.Map.{ids, mapSize, framesOf, withFrames, eachFrom, changedFrom, spoiledBoth}
-use Rattle.map.specs.Calls.{takenIn, overGap, upTo, frameTaken, takeAnswer, takeAfter}
+use Rattle.map.specs.Calls.{takenIn, changedTo, upTo, frameTaken, takeAnswer, takeAfter}
 use Rattle.multiplex.specs.Broadcast.{countAt, change, epoch}
 use Rattle.multiplex.specs.Heard.{ours}
 use Rattle.multiplex.specs.Air.{Carries, new, old, gone, vectors, Air, timed, carriedAs, fieldOn, InTurn, Orderly}
 use Rattle.multiplex.specs.Sound.{kept, missedBefore, anyBefore, inRow, Listener}
 use Rattle.multiplex.specs.Finding.{Near}
-use Rattle.multiplex.proofs.Counting.{begins-change, count-lt}
-use Rattle.multiplex.proofs.Distances.{since-is, count-apart, changes-epoch, epoch-either, epoch-step}
+use Rattle.multiplex.proofs.Counting.{begins-change, heard-all, count-lt}
+use Rattle.multiplex.proofs.Distances.{since-is, count-apart, changes-epoch, epoch-either, epoch-step, epoch-mono}
 use Rattle.multiplex.proofs.Listening.{capped, Known, Before, field-known}
-use Rattle.multiplex.proofs.Reaching.{Gap, near-same, near-change, far-same, far-change, first-before}
+use Rattle.multiplex.proofs.Missing.{Gap, gap-before}
+use Rattle.multiplex.proofs.Reaching.{near-same, near-change, far-change, first-before}
 
 -- ---- the field's numbers
 
@@ -168,27 +169,16 @@ module _ (a : Air) (w : Orderly a) (hears : ℕ → Bool) (T g : ℕ) (pos : 0 <
   unfolding skips
   skips-is = ap (λ (x : Frames). skips x c) (k .frames) ∙ ap (ltb 1) (since-is (timed a) T g pos most)
 
-  mark-is : (x : Bool) → eqb (cond x 1 0) 1 ≡ x
-  mark-is true = refl
-  mark-is false = refl
+  heard-is : (x : Bool) → change (timed a) (suc T) ≡ x → allHeard (framesOf m) ≡ (u && x)
+  heard-is x e = ap allHeard (k .frames) ∙ heard-all (timed a) T u _ ∙ ap (λ (b : Bool). u && b) e
 
-  and-true : (x : Bool) → (x && true) ≡ x
-  and-true true = refl
-  and-true false = refl
+  and-yes : (x : Bool) → (x && true) ≡ x
+  and-yes true = refl
+  and-yes false = refl
 
-  and-false : (x : Bool) → (x && false) ≡ false
-  and-false true = refl
-  and-false false = refl
-
-  sure-near : skips (framesOf m) c ≡ false → sureAt (framesOf m) c ≡ u
-  unfolding sureAt
-  sure-near s =
-      ap (λ (b : Bool). eqb (framesOf m .unbroken) 1 && not b) s ∙ and-true (eqb (framesOf m .unbroken) 1)
-      ∙ ap (λ (x : Frames). eqb (x .unbroken) 1) (k .frames) ∙ mark-is u
-
-  sure-far : skips (framesOf m) c ≡ true → sureAt (framesOf m) c ≡ false
-  unfolding sureAt
-  sure-far s = ap (λ (b : Bool). eqb (framesOf m .unbroken) 1 && not b) s ∙ and-false (eqb (framesOf m .unbroken) 1)
+  and-no : (x : Bool) → (x && false) ≡ false
+  and-no true = refl
+  and-no false = refl
 
   frames-near : g ≡ 1 → skips (framesOf m) c ≡ false → (x : Bool) → change (timed a) t ≡ x → framesAfter (framesOf m) c ≡ framesAt a hears t (cond x true u)
   unfolding framesAfter
@@ -196,7 +186,7 @@ module _ (a : Air) (w : Orderly a) (hears : ℕ → Bool) (T g : ℕ) (pos : 0 <
       (λ i. record {
         last = c;
         heard = 1;
-        unbroken = cond (s i) 0 (cond ((begins-change (timed a) t ∙ e) i) 1 (k .frames i .unbroken));
+        unbroken = cond ((begins-change (timed a) t ∙ e) i) 1 (cond (s i) 0 (k .frames i .unbroken));
         row = rowAfter (s i) (k .frames i .row);
       })
       ∙ (λ i. record { last = c; heard = 1; unbroken = mark x i; row = row-next i })
@@ -208,37 +198,51 @@ module _ (a : Air) (w : Orderly a) (hears : ℕ → Bool) (T g : ℕ) (pos : 0 <
       row-next : rowAfter false (capped (inRow hears T)) ≡ capped (inRow hears t)
       row-next = capped-next (inRow hears T) ∙ ap capped (sym (row-on hears T t (omega (arith, one)) heard))
 
-  frames-far : 1 < g → skips (framesOf m) c ≡ true → framesAfter (framesOf m) c ≡ framesAt a hears t false
+  frames-far : 1 < g → skips (framesOf m) c ≡ true → framesAfter (framesOf m) c ≡ framesAt a hears t (change (timed a) t)
   unfolding framesAfter rowAfter capped
   frames-far h s =
       λ i. record {
         last = c;
         heard = 1;
-        unbroken = cond (s i) 0 (cond (begins c) 1 (framesOf m .unbroken));
+        unbroken = cond (begins-change (timed a) t i) 1 (cond (s i) 0 (framesOf m .unbroken));
         row = (ap (λ (b : Bool). rowAfter b (framesOf m .row)) s ∙ row-anew) i;
       }
     where
       row-anew : 1 ≡ capped (inRow hears t)
       row-anew = ap capped (sym (row-first hears t (omega arith) (λ q. omega (arith, h, gap (t - 1) (omega arith) q)) heard))
 
-  up-to : (x s y : Bool) → changing (framesOf m) c ≡ x → skips (framesOf m) c ≡ s → sureAt (framesOf m) c ≡ y
-      → upTo m c ≡ cond x (changedFrom ids 0 y (cond s (eachFrom ids 0 spoiledBoth m) m)) (cond s (eachFrom ids 0 spoiledBoth m) m)
-  unfolding upTo overGap
-  up-to x s y ex es ey = λ i. cond (ex i) (changedFrom ids 0 (ey i) (cond (es i) (eachFrom ids 0 spoiledBoth m) m)) (cond (es i) (eachFrom ids 0 spoiledBoth m) m)
+  up-to : (x s y : Bool) → changing (framesOf m) c ≡ x → skips (framesOf m) c ≡ s → allHeard (framesOf m) ≡ y
+      → upTo m c ≡ cond s (eachFrom ids 0 spoiledBoth (cond x (changedFrom ids 0 y m) m)) (cond x (changedFrom ids 0 y m) m)
+  unfolding upTo changedTo
+  up-to x s y ex es ey = λ i. cond (es i) (eachFrom ids 0 spoiledBoth (cond (ex i) (changedFrom ids 0 (ey i) m) m)) (cond (ex i) (changedFrom ids 0 (ey i) m) m)
 
-  far : 1 < g → Known a hears t (takeAfter m (fieldBytes (fieldOn a t))) false
-  far h =
-      let s = skips-is ∙ lt-ltb 1 g h in
-      go s (epoch-either (timed a) T g most)
+  same-yet : epoch (timed a) t ≡ epoch (timed a) T → changing (framesOf m) c ≡ false
+  same-yet e = changing-is ∙ le-ltb (epoch (timed a) T) (epoch (timed a) t) (omega (arith, e))
+
+  changed-by : epoch (timed a) t ≡ suc (epoch (timed a) T) → changing (framesOf m) c ≡ true
+  changed-by e = changing-is ∙ lt-ltb (epoch (timed a) T) (epoch (timed a) t) (omega (arith, e))
+
+  -- frames are missed: behind the first frame of a configuration, or within one, or about a change
+  far : 1 < g → Known a hears t (takeAfter m (fieldBytes (fieldOn a t))) (change (timed a) t)
+  far h = go (skips-is ∙ lt-ltb 1 g h) (change (timed a) (suc T)) refl (epoch-either (timed a) T g most)
     where
-      go : skips (framesOf m) c ≡ true → (epoch (timed a) t ≡ epoch (timed a) T) ⊎ (epoch (timed a) t ≡ suc (epoch (timed a) T))
-          → Known a hears t (takeAfter m (fieldBytes (fieldOn a t))) false
-      go s (inl e) =
-          take-known a w hears t m not-refused heard _ false (far-same a w hears T m u k t (omega (arith, h)) gap e)
-          (up-to false true false (changing-is ∙ le-ltb (epoch (timed a) T) (epoch (timed a) t) (omega (arith, e))) s (sure-far s)) fresh (frames-far h s)
-      go s (inr e) =
-          take-known a w hears t m not-refused heard _ false (far-change a w hears T m u k t (omega (arith, h)) gap e)
-          (up-to true true false (changing-is ∙ lt-ltb (epoch (timed a) T) (epoch (timed a) t) (omega (arith, e))) s (sure-far s)) fresh (frames-far h s)
+      missed : suc T < t
+      missed = omega (arith, h)
+
+      go : skips (framesOf m) c ≡ true → (x : Bool) → change (timed a) (suc T) ≡ x → (epoch (timed a) t ≡ epoch (timed a) T) ⊎ (epoch (timed a) t ≡ suc (epoch (timed a) T))
+          → Known a hears t (takeAfter m (fieldBytes (fieldOn a t))) (change (timed a) t)
+      go s true q (inl e) = absurd (omega (arith, e, epoch-step (timed a) T true q, epoch-mono (timed a) (suc T) t (omega (arith, missed))))
+      go s true q (inr e) =
+          take-known a w hears t m not-refused heard _ (change (timed a) t)
+          (gap-before a hears T t missed gap (k .heard) (e ∙ sym (epoch-step (timed a) T true q)) _ true (near-change a w hears T m u k q))
+          (up-to true true u (changed-by e) s (heard-is true q ∙ and-yes u)) fresh (frames-far h s)
+      go s false q (inl e) =
+          take-known a w hears t m not-refused heard _ (change (timed a) t)
+          (gap-before a hears T t missed gap (k .heard) (e ∙ sym (epoch-step (timed a) T false q)) m u (near-same a w hears T m u k q))
+          (up-to false true false (same-yet e) s (heard-is false q ∙ and-no u)) fresh (frames-far h s)
+      go s false q (inr e) =
+          take-known a w hears t m not-refused heard _ (change (timed a) t) (far-change a w hears T m u k t missed gap e q)
+          (up-to true true false (changed-by e) s (heard-is false q ∙ and-no u)) fresh (frames-far h s)
 
   near : g ≡ 1 → t ≡ suc T → Known a hears t (takeAfter m (fieldBytes (fieldOn a t))) (cond (change (timed a) t) true u)
   near one e =
@@ -253,12 +257,12 @@ module _ (a : Air) (w : Orderly a) (hears : ℕ → Bool) (T g : ℕ) (pos : 0 <
           let up : epoch (timed a) t ≡ suc (epoch (timed a) T) = ap (epoch (timed a)) e ∙ epoch-step (timed a) T true (back true q) in
           take-known a w hears t m not-refused heard _ true
           (subst (λ (n : ℕ). Before a hears n (changedFrom ids 0 u m) true) (sym e) (near-change a w hears T m u k (back true q)))
-          (up-to true false u (changing-is ∙ lt-ltb (epoch (timed a) T) (epoch (timed a) t) (omega (arith, up))) s (sure-near s)) fresh (frames-near one s true q)
+          (up-to true false u (changed-by up) s (heard-is true (back true q) ∙ and-yes u)) fresh (frames-near one s true q)
       go s false q =
           let up : epoch (timed a) t ≡ epoch (timed a) T = ap (epoch (timed a)) e ∙ epoch-step (timed a) T false (back false q) in
           take-known a w hears t m not-refused heard m u
           (subst (λ (n : ℕ). Before a hears n m u) (sym e) (near-same a w hears T m u k (back false q)))
-          (up-to false false u (changing-is ∙ le-ltb (epoch (timed a) T) (epoch (timed a) t) (omega (arith, up))) s (sure-near s)) fresh (frames-near one s false q)
+          (up-to false false false (same-yet up) s (heard-is false (back false q) ∙ and-no u)) fresh (frames-near one s false q)
 
 -- ---- the first frame
 
@@ -275,13 +279,14 @@ module _ (a : Air) (w : Orderly a) (hears : ℕ → Bool) (t : ℕ) (quiet : (v 
       }
 
   first-up : upTo (blank mapSize) (countAt (timed a) t) ≡ blank mapSize
-  unfolding upTo overGap changing skips
+  unfolding upTo changedTo changing skips
   first-up =
-      λ i. cond (eqb (blank-frames i .heard) 1 && changes (blank-frames i .last) (countAt (timed a) t))
-      (changedFrom ids 0 (sureAt (framesOf (blank mapSize)) (countAt (timed a) t)) (none i)) (none i)
+      λ i. cond (eqb (blank-frames i .heard) 1 && ltb 1 (since (blank-frames i .last) (countAt (timed a) t))) (eachFrom ids 0 spoiledBoth (none i)) (none i)
     where
-      none : overGap (blank mapSize) (countAt (timed a) t) ≡ blank mapSize
-      none = λ i. cond (eqb (blank-frames i .heard) 1 && ltb 1 (since (blank-frames i .last) (countAt (timed a) t))) (eachFrom ids 0 spoiledBoth (blank mapSize)) (blank mapSize)
+      none : changedTo (blank mapSize) (countAt (timed a) t) ≡ blank mapSize
+      none =
+          λ i. cond (eqb (blank-frames i .heard) 1 && changes (blank-frames i .last) (countAt (timed a) t))
+          (changedFrom ids 0 (allHeard (framesOf (blank mapSize))) (blank mapSize)) (blank mapSize)
 
   first-fresh : again (framesOf (blank mapSize)) (countAt (timed a) t) ≡ false
   unfolding again
@@ -364,7 +369,7 @@ module _ (a : Air) (w : Orderly a) (hears : ℕ → Bool) (near-by : Near hears)
         where
           one-on : (x : ℕ) → x ≡ 1 → T + x ≡ suc T
           one-on x p = omega (arith, p)
-      go g pos most not-refused away q (no s) = now (T + g) q false (far a w hears T g pos most m u k not-refused away q (omega (arith, pos, s)))
+      go g pos most not-refused away q (no s) = now (T + g) q _ (far a w hears T g pos most m u k not-refused away q (omega (arith, pos, s)))
 
 module _ (a : Air) (w : Orderly a) (hears : ℕ → Bool) (L : Listener ours a hears) where
   pub state-at : (t : ℕ) → State a hears t (kept ours a hears t)

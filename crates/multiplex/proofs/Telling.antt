@@ -27,7 +27,10 @@ use Rattle.multiplex.specs.Broadcast.{countAt, change, epoch}
 use Rattle.multiplex.specs.Heard.{ours, shownFields}
 use Rattle.multiplex.specs.Air.{Air, timed, Orderly}
 use Rattle.multiplex.specs.Sound.{kept, inRow, Word, unheard, absent, there, over, presentTo, comingTo, wordFor}
-use Rattle.multiplex.specs.Finding.{Near, whollyBefore, absentTo, absentBehind, absentFor, NextChange, heardNews, Announces, Reason, gone, long, Admits}
+use Rattle.multiplex.specs.Finding.{Near, whollyBefore}
+use Rattle.multiplex.specs.Announcing.{NextChange, heardNews, Announces}
+use Rattle.multiplex.specs.Admitting.{absentTo, absentBehind, absentFor, Reason, gone, long, Admits}
+use Rattle.multiplex.proofs.Counting.{heard-all}
 use Rattle.multiplex.proofs.Words.{Words}
 use Rattle.multiplex.proofs.Listening.{capped, Known}
 use Rattle.multiplex.proofs.Seeing.{shown-is, head-force, head-coming}
@@ -194,18 +197,9 @@ module _ (a : Air) (hears : ℕ → Bool) (t : ℕ) (m : List ℕ) (k : Kept a h
 
   -- the last frame of a configuration that was wholly heard
   all-heard : allHeard (framesOf m) ≡ true → (whollyBefore a hears t ≡ true) × (change (timed a) (suc t) ≡ true)
-  unfolding allHeard until ahead change countAt
   all-heard q =
-      let is : (eqb (cond (k .unbroken) 1 0) 1 && eqb (until (countAt (timed a) t)) 1) ≡ true = sym (ap allHeard (k .holds .frames)) ∙ q in
-      let one-more : until (countAt (timed a) t) ≡ 1 = eqb-true (until (countAt (timed a) t)) 1 (and-right (eqb (cond (k .unbroken) 1 0) 1) _ is) in
-      (sym (k .holds .wholly) ∙ sym (mark (k .unbroken)) ∙ and-left (eqb (cond (k .unbroken) 1 0) 1) _ is, next-one one-more)
-    where
-      mark : (b : Bool) → eqb (cond b 1 0) 1 ≡ b
-      mark true = refl
-      mark false = refl
-
-      next-one : until (countAt (timed a) t) ≡ 1 → change (timed a) (suc t) ≡ true
-      next-one z = eq-eqb (countAt (timed a) (suc t) % 128) 2 (omega (arith, z))
+      let is : (k .unbroken && change (timed a) (suc t)) ≡ true = sym (ap allHeard (k .holds .frames) ∙ heard-all (timed a) t (k .unbroken) _) ∙ q in
+      (sym (k .holds .wholly) ∙ and-left (k .unbroken) _ is, and-right (k .unbroken) _ is)
 
   by-coming : behind ≡ true → shown m id asked .unknown ≡ 0 → Reason a hears id t v
   unfolding said announced absentFor absentBehind settledHead

@@ -27,7 +27,7 @@ use Rattle.map.proofs.Changing.{stayed-some, stayed-certain, settled-some, sett
 use Rattle.multiplex.specs.Broadcast.{change, epoch}
 use Rattle.multiplex.specs.Air.{Air, timed}
 use Rattle.multiplex.specs.Sound.{Word, unheard, absent, there, over, presentIn, comingIn, comingBefore, comingTo, presentBefore, presentTo}
-use Rattle.multiplex.specs.Finding.{isAbsent}
+use Rattle.multiplex.specs.Admitting.{isAbsent}
 use Rattle.multiplex.proofs.Distances.{epoch-step, epoch-mono}
 use Rattle.multiplex.proofs.Knowing.{Front, some, all, Next, none, delete, piece, sure, full, part-head}
 

@@ -2,30 +2,27 @@
 -- broadcast and missing frames.
 --
 --   Near hears             up to 127 frames are missed in a row
---   roundsBefore, roundsTo       how often a repetition of a component's present structure was heard to begin in the running configuration, with no
---                          frame missed since
+--   roundsOf, roundsBefore, roundsTo       how often a repetition of a component's present structure was heard to begin in the running
+--                          configuration, with no frame missed since
 --   newRoundsBefore, newRoundsTo    the same of its coming structure
---   whollyBefore           every frame of the running configuration was heard so far, and the one before its first, if any was before
+--   whollyBefore           every frame of the running configuration was heard so far
 --   aloneBefore            every frame that was heard is of the running configuration, and none was missed since the first of them
 --   found alone n          so many beginnings are enough
 --   news                   something was said of the component's change in the running configuration
 --   readyBefore, readyTo   it must be shown rightly
 --   Rightly M, Finds M     the fields in force are shown, with number 0, wherever they must be; and every frame is taken
 --   Followed a, ShowsInForce M      the request's own case: no frame is missed, from before there was a component
---   Announces M            what is announced is told: exactly when, and in how many frames it comes
---   absentBefore, absentTo, absentFor    that there is no such component was heard for certain
---   Admits M               nothing heard is not "no such component"
 use mathlib.Core.Path.{_≡_}
 use mathlib.Core.Bool.{Bool, true, false, cond, not, _&&_, _||_}
-use mathlib.Core.List.{List, []}
+use mathlib.Core.List.{[]}
 use Prim.Native.Nat.{ℕ, zero, suc, _+_, _≤_, _<_}
 use lib.Dec.{leb, ltb, eqb}
 use Rattle.field.specs.Field.{fieldBytes}
 use Rattle.map.specs.Map.{ids}
-use Rattle.multiplex.specs.Broadcast.{countAt, change, epoch, begun, some}
+use Rattle.multiplex.specs.Broadcast.{countAt, change, begun, some}
 use Rattle.multiplex.specs.Heard.{Machine}
 use Rattle.multiplex.specs.Air.{Carries, Air, timed, fieldOn, newIn, oldIn, inForce, coming, same, newTo, goneTo, Orderly}
-use Rattle.multiplex.specs.Sound.{kept, missedBefore, anyBefore, inRow, Word, unheard, absent, there, presentIn, comingTo, wordFor}
+use Rattle.multiplex.specs.Sound.{kept, missedBefore, anyBefore, Word, unheard, absent, there, comingTo}
 
 abbrev pub Near : (ℕ → Bool) → Type 0
 Near hears = (t : ℕ) → hears t ≡ true → anyBefore hears t ≡ true → missedBefore hears t ≤ 127
@@ -35,18 +32,20 @@ Near hears = (t : ℕ) → hears t ≡ true → anyBefore hears t ≡ true → m
 unfoldable pub first : ℕ → ℕ
 first n = cond (eqb n 1) 1 0
 
-unfoldable pub roundsBefore : Air → (ℕ → Bool) → ℕ → ℕ → ℕ
-roundsBefore a hears id zero = 0
-roundsBefore a hears id (suc t) =
-    cond (hears t) (cond (change (timed a) (suc t)) 0 (roundsBefore a hears id t + first (oldIn id (a .carries t)))) 0
+-- of the structure that a field is counted for (`oldIn`, `newIn`), in the running configuration, with no frame missed since
+unfoldable pub roundsOf : (ℕ → Carries → ℕ) → Air → (ℕ → Bool) → ℕ → ℕ → ℕ
+roundsOf place a hears id zero = 0
+roundsOf place a hears id (suc t) =
+    cond (hears t) (cond (change (timed a) (suc t)) 0 (roundsOf place a hears id t + first (place id (a .carries t)))) 0
+
+abbrev pub roundsBefore : Air → (ℕ → Bool) → ℕ → ℕ → ℕ
+roundsBefore = roundsOf oldIn
 
 abbrev pub roundsTo : Air → (ℕ → Bool) → ℕ → ℕ → ℕ
 roundsTo a hears id t = roundsBefore a hears id t + first (oldIn id (a .carries t))
 
-unfoldable pub newRoundsBefore : Air → (ℕ → Bool) → ℕ → ℕ → ℕ
-newRoundsBefore a hears id zero = 0
-newRoundsBefore a hears id (suc t) =
-    cond (hears t) (cond (change (timed a) (suc t)) 0 (newRoundsBefore a hears id t + first (newIn id (a .carries t)))) 0
+abbrev pub newRoundsBefore : Air → (ℕ → Bool) → ℕ → ℕ → ℕ
+newRoundsBefore = roundsOf newIn
 
 abbrev pub newRoundsTo : Air → (ℕ → Bool) → ℕ → ℕ → ℕ
 newRoundsTo a hears id t = newRoundsBefore a hears id t + first (newIn id (a .carries t))
@@ -55,8 +54,7 @@ newRoundsTo a hears id t = newRoundsBefore a hears id t + first (newIn id (a .ca
 
 unfoldable pub whollyBefore : Air → (ℕ → Bool) → ℕ → Bool
 whollyBefore a hears zero = change (timed a) zero
-whollyBefore a hears (suc t) =
-    cond (hears t) (change (timed a) (suc t) || whollyBefore a hears t) (cond (anyBefore hears t) false (change (timed a) (suc t)))
+whollyBefore a hears (suc t) = change (timed a) (suc t) || (hears t && whollyBefore a hears t)
 
 unfoldable pub aloneBefore : Air → (ℕ → Bool) → ℕ → Bool
 aloneBefore a hears zero = true
@@ -77,16 +75,17 @@ overChange unheard ready a hears id t = ready && same (inForce a t id) (coming a
 overChange absent ready a hears id t = not (some (coming a t id))
 overChange there ready a hears id t = leb 2 (newRoundsTo a hears id t)
 
--- A start finds nothing, which is right of a component that there is not. From then on: it stays right from frame to frame; at a change behind a
--- configuration that was wholly heard, it is right if it was so before or the change was announced; and from the third beginning of a
--- repetition within one configuration on, whatever was heard or missed before, or from the second in the configuration of the start.
+-- A start finds nothing, which is right of a component that there is not. From then on: it stays right from frame to frame, heard or missed, up to
+-- the next change; at a change behind a configuration that was wholly heard, it is right if it was so before or the change was announced,
+-- though frames behind the change are missed; and from the third beginning of a repetition within one configuration on, whatever was heard
+-- or missed before, or from the second in the configuration of the start. What a change does whose last frame before was missed nobody knows.
 unfoldable pub readyBefore : Air → (ℕ → Bool) → ℕ → ℕ → Bool
 readyBefore a hears id zero = not (some (inForce a zero id))
 readyBefore a hears id (suc t) =
     let ready = readyBefore a hears id t || found (aloneBefore a hears t) (roundsTo a hears id t) in
     cond (hears t)
     (cond (change (timed a) (suc t)) (cond (whollyBefore a hears t) (ready || news a id t) (overChange (comingTo a hears id t) ready a hears id t)) ready)
-    (cond (anyBefore hears t) false (not (some (inForce a (suc t) id))))
+    (cond (anyBefore hears t) (not (change (timed a) (suc t)) && readyBefore a hears id t) (not (some (inForce a (suc t) id))))
 
 abbrev pub readyTo : Air → (ℕ → Bool) → ℕ → ℕ → Bool
 readyTo a hears id t = readyBefore a hears id t || found (aloneBefore a hears t) (roundsTo a hears id t)
@@ -122,70 +121,3 @@ pub record ShowsInForce (M : Machine) : Type 0 where
   pub taken : (a : Air) → Followed a → (t : ℕ) → M .answer (kept M a every t) (fieldBytes (fieldOn a t)) ≡ 0
   pub ended : (a : Air) → Followed a → (t id : ℕ) → id < ids → Rightly M a every t t id
   pub runs : (a : Air) → Followed a → (t id : ℕ) → id < ids → Rightly M a every t (suc t) id
-
--- ---- announcements
-
-pub record NextChange (a : Air) (t n : ℕ) : Type 0 where
-  pub comes : change (timed a) (t + n) ≡ true
-  pub first : (u : ℕ) → 0 < u → u < n → change (timed a) (t + u) ≡ false
-
-unfoldable pub heardNews : Word → Bool
-heardNews unheard = false
-heardNews absent = true
-heardNews there = true
-
--- it says that a change is announced exactly where a frame that was heard in the running configuration said so, and in how many frames it comes;
--- whatever count it is asked for
-pub record Announces (M : Machine) : Type 0 where
-  pub said : (a : Air) → Orderly a → (hears : ℕ → Bool) → Near hears → (t id count : ℕ) → hears t ≡ true → id < ids
-      → M .announced (kept M a hears (suc t)) id count ≡ cond (heardNews (comingTo a hears id t)) 1 0
-  pub when : (a : Air) → Orderly a → (hears : ℕ → Bool) → Near hears → (t id count : ℕ) → hears t ≡ true → id < ids
-      → heardNews (comingTo a hears id t) ≡ true → NextChange a t (M .frames (kept M a hears (suc t)) id count)
-
--- ---- nothing heard is not "no such component"
-
-unfoldable pub isAbsent : Word → Bool
-isAbsent unheard = false
-isAbsent absent = true
-isAbsent there = false
-
-unfoldable pub absentBy : Word → Bool → Bool
-absentBy unheard before = before
-absentBy absent before = true
-absentBy there before = false
-
--- that there is no such component was heard in the running configuration: all ones without the flag, or with it at the end of the one before,
--- which was wholly heard
-unfoldable pub absentBefore : Air → (ℕ → Bool) → ℕ → ℕ → Bool
-absentBefore a hears id zero = false
-absentBefore a hears id (suc t) =
-    cond (change (timed a) (suc t)) (hears t && (whollyBefore a hears t && isAbsent (comingTo a hears id t)))
-    (absentBy (cond (hears t) (presentIn id (a .carries t)) unheard) (absentBefore a hears id t))
-
-abbrev pub absentTo : Air → (ℕ → Bool) → ℕ → ℕ → Bool
-absentTo a hears id t = absentBy (cond (hears t) (presentIn id (a .carries t)) unheard) (absentBefore a hears id t)
-
--- behind the next change, by what was heard of it: all ones in the last frame of a configuration that was wholly heard
-unfoldable pub absentBehind : Word → Air → (ℕ → Bool) → ℕ → ℕ → Bool
-absentBehind unheard a hears id t = absentTo a hears id t
-absentBehind absent a hears id t = whollyBefore a hears t && change (timed a) (suc t)
-absentBehind there a hears id t = false
-
-unfoldable pub absentFor : Air → (ℕ → Bool) → ℕ → ℕ → ℕ → Bool
-absentFor a hears id t u =
-    cond (ltb (epoch (timed a) t) (epoch (timed a) u)) (absentBehind (comingTo a hears id t) a hears id t) (absentTo a hears id t)
-
-pub data Reason (a : Air) (hears : ℕ → Bool) (id t u : ℕ) : Type 0 where
-  gone : absentFor a hears id t u ≡ true → Reason a hears id t u
-  long : 255 ≤ inRow hears t → Reason a hears id t u
-
--- where it shows nothing and does not say that it does not know, that was heard for certain, or 255 frames in a row were; and it does not say so
--- where that many were. It says 46 only where a field of the component was heard last.
-pub record Admits (M : Machine) : Type 0 where
-  pub known : (a : Air) → Orderly a → (hears : ℕ → Bool) → Near hears → (t u id : ℕ) → hears t ≡ true → t ≤ u → u ≤ t + 128 → id < ids
-      → M .number (kept M a hears (suc t)) id (countAt (timed a) u) ≡ 0 → M .fields (kept M a hears (suc t)) id (countAt (timed a) u) ≡ []
-      → M .unknown (kept M a hears (suc t)) id (countAt (timed a) u) ≡ 0 → Reason a hears id t u
-  pub enough : (a : Air) → Orderly a → (hears : ℕ → Bool) → Near hears → (t id count : ℕ) → hears t ≡ true → id < ids
-      → 255 ≤ inRow hears t → M .unknown (kept M a hears (suc t)) id count ≡ 0
-  pub doubts : (a : Air) → Orderly a → (hears : ℕ → Bool) → Near hears → (t u id : ℕ) → hears t ≡ true → t ≤ u → u ≤ t + 128 → id < ids
-      → M .number (kept M a hears (suc t)) id (countAt (timed a) u) ≡ 46 → wordFor a hears id t u ≡ there

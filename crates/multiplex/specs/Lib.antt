@@ -3,6 +3,8 @@ pub mod Air
 pub mod Heard
 pub mod Sound
 pub mod Finding
+pub mod Announcing
+pub mod Admitting
 pub mod Example
 pub mod Empty
 pub mod Faulty

@@ -1,13 +1,13 @@
--- `map::take` meets its contract: the answer first; then a missed frame, the changes up to the field's, the field into its structure,
--- and the frames. Assumes nothing.
+-- `map::take` meets its contract: the answer first; then the change up to the field's frame, a missed frame, the field into its
+-- structure, and the frames. Assumes nothing.
 use mathlib.Core.Path.{_≡_, ap, _∙_}
 use mathlib.Core.Logic.{⊎-elim}
 use native.Mathlib.Omega.{arith}
 use lib.ListN.{length}
 use borrow.Author.Needs.{needs}
 use Rattle.map.specs.Map.{mapSize}
-use Rattle.map.specs.Calls.{overGap, upTo, takenIn, frameTaken, takeAfter}
-use Rattle.map.proofs.Doing.{refused, accepted, Fits, fits, flag-lt, gap-to, none-to, changed-to, kept-to, over-gap-length, up-to-length, taken-none, frame-again, frame-taken}
+use Rattle.map.specs.Calls.{changedTo, upTo, takenIn, frameTaken, takeAfter}
+use Rattle.map.proofs.Doing.{refused, accepted, Fits, fits, flag-lt, changed-to, kept-to, changed-to-length, gap-to, none-to, up-to-length, taken-none, frame-again, frame-taken}
 use Rattle.map.proofs.take.Statement.{statement}
 use Rattle.map.proofs.take.Tie as tie
 
@@ -15,28 +15,27 @@ fit : (c : tie.Else1)
     → Fits (c .before .before .before .before .before .args .map .now) (c .before .before .before .before .before .args .field .now)
 fit c = fits _ _ _ (c .before .take-answer .ensures) (c .if1 .left)
 
--- what is being gathered, where a frame was missed
-over-gap : (c : tie.Joined3) → c .if3 .map ≡ overGap (c .before .before .before .before .before .before .before .before .before .before .before .before .args .map .now) (c .before .before .before .before .before .before .load .result .count)
-over-gap c =
-    let m = c .before .before .before .before .before .before .before .before .before .before .before .before .args .map .now in
-    let n = c .before .before .before .before .before .before .load .result .count in
-    let frames = c .before .before .before .before .frames-of in
-    ⊎-elim (λ w. gap-to m _ (frames .ensures) n _ (c .before .skips .ensures) (w .0 .taken) _ (w .5 ∙ w .2 .ensures))
-    (λ w. w .1 ∙ none-to m _ (frames .ensures) n _ (c .before .skips .ensures) (w .0 .left)) (c .if3 .came)
+-- a change up to the field's frame
+changed : (c : tie.Joined3) → c .if3 .map ≡ changedTo (c .before .before .before .before .before .before .before .before .before .before .before .before .before .args .map .now) (c .before .before .before .before .before .before .before .load .result .count)
+changed c =
+    let m = c .before .before .before .before .before .before .before .before .before .before .before .before .before .args .map .now in
+    let n = c .before .before .before .before .before .before .before .load .result .count in
+    let frames = c .before .before .before .before .before .frames-of in
+    ⊎-elim (λ w. changed-to m _ (frames .ensures) n _ (c .before .changing .ensures) (w .0 .taken) _ (w .2 .ensures) _ (w .6 ∙ w .3 .ensures))
+    (λ w. w .1 ∙ kept-to m _ (frames .ensures) n _ (c .before .changing .ensures) (w .0 .left)) (c .if3 .came)
 
-gapped : (c : tie.Joined3) → length (c .if3 .map) ≡ mapSize
-gapped c = ap length (over-gap c) ∙ over-gap-length _ _ (fit (c .before .before .before .before .before .before .before) .size)
+behind : (c : tie.Joined3) → length (c .if3 .map) ≡ mapSize
+behind c = ap length (changed c) ∙ changed-to-length _ _ (fit (c .before .before .before .before .before .before .before .before) .size)
 
--- the changes up to the field's frame
+-- behind it, where a frame was missed, what is being gathered
 up-to : (c : tie.Joined4) → c .if4 .map ≡ upTo (c .before .before .before .before .before .before .before .before .before .before .before .before .before .before .args .map .now) (c .before .before .before .before .before .before .before .before .load .result .count)
 up-to c =
     let m = c .before .before .before .before .before .before .before .before .before .before .before .before .before .before .args .map .now in
     let n = c .before .before .before .before .before .before .before .before .load .result .count in
     let frames = c .before .before .before .before .before .before .frames-of in
-    let gap = over-gap (c .before .before) in
-    ⊎-elim
-    (λ w. changed-to m _ (frames .ensures) n _ (c .before .changing .ensures) _ gap (w .0 .taken) _ (w .2 .ensures) _ (w .6 ∙ w .3 .ensures))
-    (λ w. w .1 ∙ kept-to m _ (frames .ensures) n _ (c .before .changing .ensures) _ gap (w .0 .left)) (c .if4 .came)
+    let missed = c .before .before .before .skips in
+    ⊎-elim (λ w. gap-to m _ (frames .ensures) n _ (missed .ensures) _ (changed (c .before)) (w .0 .taken) _ (w .5 ∙ w .2 .ensures))
+    (λ w. w .1 ∙ none-to m _ (frames .ensures) n _ (missed .ensures) _ (changed (c .before)) (w .0 .left)) (c .if4 .came)
 
 sized : (c : tie.Joined4) → length (c .if4 .map) ≡ mapSize
 sized c = ap length (up-to c) ∙ up-to-length _ _ (fit (c .before .before .before .before .before .before .before .before .before) .size)
@@ -84,17 +83,17 @@ returns-2 c =
 skips-requires : tie.Need-skips-requires
 skips-requires c κs = search needs
 
-spoil-requires : tie.Need-spoil-requires
-spoil-requires c κs = fit (c .before .before .before .before .before .before .before .before) .size
-
 changing-requires : tie.Need-changing-requires
 changing-requires c κs = search needs
 
-sure-at-requires : tie.Need-sure-at-requires
-sure-at-requires c κs = search needs
+all-heard-requires : tie.Need-all-heard-requires
+all-heard-requires c κs = search needs
 
 change-requires : tie.Need-change-requires
-change-requires c κs = gapped (c .before .before .before .before)
+change-requires c κs = fit (c .before .before .before .before .before .before .before .before .before .before) .size
+
+spoil-requires : tie.Need-spoil-requires
+spoil-requires c κs = behind (c .before .before)
 
 put-in-requires : tie.Need-put-in-requires
 put-in-requires c κs =
@@ -138,10 +137,10 @@ take-spec =
     same-length-2
     returns-2
     skips-requires
-    spoil-requires
     changing-requires
-    sure-at-requires
+    all-heard-requires
     change-requires
+    spoil-requires
     put-in-requires
     after-requires
     put-frames-requires

@@ -24,7 +24,7 @@ pub struct Map {
     /// The count of the frame whose field was taken in last; `heard` says whether there was one.
     pub last: u8,
     pub heard: bool,
-    /// Whether every frame of the running configuration was heard, and the one before it too unless it was started behind that.
+    /// Whether every frame of the running configuration was heard so far.
     pub unbroken: bool,
     /// How many frames were heard in a row, up to 255.
     pub row: u8,
@@ -108,20 +108,20 @@ impl Map {
     /// The map in the frame of a count, before its field is taken in.
     fn up_to(&self, count: u8) -> Map {
         let skips = self.skips(count);
-        let all_heard = self.unbroken && !skips;
         let mut next = Map {
             last: count,
             heard: true,
-            unbroken: !skips && (self.unbroken || begins(count)),
+            unbroken: begins(count) || self.unbroken && !skips,
             row: if skips { 1 } else { self.row.saturating_add(1) },
             ..self.clone()
         };
-        if skips {
-            next.components.iter_mut().for_each(Component::spoil);
-        }
+        // What was announced is in force before anything behind the change can be missed.
         if self.changing(count) {
             let components = next.components.iter_mut();
-            components.for_each(|component| component.change(all_heard));
+            components.for_each(|component| component.change(self.all_heard()));
+        }
+        if skips {
+            next.components.iter_mut().for_each(Component::spoil);
         }
         next
     }
@@ -199,10 +199,13 @@ impl Map {
         if !component.is_announced() || !self.changing(count) {
             return (Cow::Borrowed(&component.in_force), place);
         }
-        // Something more could be announced in the frames between, but for the last.
-        let all_heard = self.unbroken && self.to_change() == 1;
-        let structure = component.announced.behind_change(all_heard);
+        let structure = component.announced.behind_change(self.all_heard());
         (Cow::Owned(structure), place + STRUCTURE)
+    }
+
+    /// Whether nothing more can be announced before the next change: the last frame was the last before it, and none was missed.
+    fn all_heard(&self) -> bool {
+        self.unbroken && self.to_change() == 1
     }
 
     /// In how many frames behind the last one the next change comes.

@@ -27,8 +27,8 @@ struct Progress {
 
 #[derive(Default)]
 pub struct Finding {
-    /// Whether any frame was heard, whether every one of this configuration was and the one before it, and whether none was heard before
-    /// this configuration and none missed since the first.
+    /// Whether any frame was heard, whether every one of this configuration was, and whether none was heard before this configuration and
+    /// none missed since the first.
     any: bool,
     wholly: bool,
     alone: bool,
@@ -91,9 +91,12 @@ impl Finding {
             it.word = if change { Word::Nothing } else { it.word };
             it.rounds = 0;
             it.new_rounds = 0;
-            it.ready = !self.any && !frame.following.contains_key(&id);
+            it.ready = match self.any {
+                true => it.ready && !change,
+                false => !frame.following.contains_key(&id),
+            };
         }
-        self.wholly = !self.any && change;
+        self.wholly = change;
         self.alone = !self.any;
     }
 }

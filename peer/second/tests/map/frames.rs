@@ -29,8 +29,8 @@ fn a_change_comes_at_two() {
     }
 }
 
-/// What is announced comes into force with the first frame at or behind a change. Unless that is the very next frame, a
-/// field may have been missed.
+/// What is announced comes into force with the first frame at or behind a change. Unless the last frame was the last before the change,
+/// a field may have been missed. What is shown ahead is shown then.
 #[test]
 fn a_change_comes_behind_a_gap_too() {
     for (last, count, changes) in [
@@ -62,15 +62,13 @@ fn a_change_comes_behind_a_gap_too() {
         let before = listener.at(7, count);
         listener.count = count;
         listener.hears(0, 0x81, "z", 0);
-        let now = match (changes, last, count) {
-            (false, _, _) => said(0, ""),
-            (true, 1, 2) | (true, 129, 2) | (true, 129, 130) => said(0, "a"),
-            (true, _, _) => said(46, ""),
+        let now = match (changes, last % 128) {
+            (false, _) => said(0, ""),
+            (true, 1) => said(0, "a"),
+            (true, _) => said(46, ""),
         };
         assert_eq!(listener.now(7), now, "{last} {count}");
-        // Before the gap, nothing is missed yet: behind frame 1, no more could be announced.
-        let all = changes && last % 128 == 1;
-        assert_eq!(before, if all { said(0, "a") } else { now });
+        assert_eq!(before, now, "{last} {count}");
     }
 }
 
@@ -144,7 +142,7 @@ fn five_identical_blocks_count_once() {
     }
 }
 
-/// The mark is set by a change, unless the frame before the change was missed, and cleared by a missed frame.
+/// The mark is set by the first frame of a configuration, whatever was missed before, and cleared by a missed frame.
 #[test]
 fn the_mark_of_frames_without_a_gap() {
     let mut listener = Listener::new(100);
@@ -157,10 +155,13 @@ fn the_mark_of_frames_without_a_gap() {
     listener.idle_to(1);
     listener.count = 2;
     listener.idle_to(3);
+    assert_eq!(listener.marks(), [1, 1]);
+    listener.miss();
+    listener.idle_to(5);
     assert_eq!(listener.marks(), [1, 0]);
 }
 
-/// A frame missed anywhere up to the change leaves a list open of which not all is known, and no other.
+/// A frame missed anywhere before the change leaves a list open of which not all is known, and no other. One missed behind it does not.
 #[test]
 fn missed_frames_leave_it_unfinished() {
     for missed in [None, Some(117), Some(120), Some(129), Some(130)] {
@@ -174,16 +175,55 @@ fn missed_frames_leave_it_unfinished() {
             listener.count = count + 1;
         }
         listener.idle_to(132);
-        let open = match missed {
-            Some(_) => said(46, ""),
-            None => said(0, "ab"),
+        let before = missed.is_some_and(|count| count < 130);
+        let open = match before {
+            true => said(46, ""),
+            false => said(0, "ab"),
         };
         assert_eq!(listener.now(7), open, "{missed:?}");
         assert_eq!(listener.now(8), said(0, "ab"), "{missed:?}");
         assert_eq!(listener.now(9), said(0, ""), "{missed:?}");
         // A deletion may have been followed by a field that was missed.
-        let unknown = u8::from(missed.is_some());
+        let unknown = u8::from(before);
         assert_eq!(listener.unknown(9), unknown, "{missed:?}");
+    }
+}
+
+/// The frame just before a configuration is missed, and every one of the configuration is heard: what is announced in it is known to be
+/// all, as it is to one who was switched on with its first frame.
+#[test]
+fn missed_just_before_a_configuration() {
+    for switched_on_at in [0, 2] {
+        let mut listener = Listener::late(switched_on_at);
+        if switched_on_at == 0 {
+            listener.idle_to(1);
+            listener.miss();
+        }
+        listener.idle_to(20);
+        listener.hears(1, 7, "ab", 0);
+        listener.idle_to(130);
+        assert_eq!(listener.next(7), said(0, "ab"));
+        listener.idle_to(131);
+        assert_eq!(listener.now(7), said(0, "ab"));
+    }
+}
+
+/// Every frame up to a change is heard, and some behind it are missed: what was shown for the time behind the change still is. A list that
+/// was gathered over the change is begun anew.
+#[test]
+fn missed_just_behind_a_change() {
+    for next in [131, 132, 200, 1] {
+        let mut listener = Listener::late(2);
+        listener.hears(1, 7, "ab", 0);
+        listener.hears(0, 8, "ab", 0);
+        listener.idle_to(130);
+        for count in [130, 131] {
+            assert_eq!(listener.at(7, count), said(0, "ab"));
+        }
+        listener.count = next;
+        listener.hears(0, 8, "a", 0);
+        assert_eq!(listener.now(7), said(0, "ab"), "{next}");
+        assert_eq!(listener.now(8), said(46, ""), "{next}");
     }
 }
 

@@ -21,15 +21,6 @@ use second::numbers::{DONE, UNFINISHED};
 use second::samples::broadcast::{Frame, Sent};
 use second::samples::style::{Links, Style};
 
-/// What it is for a configuration to be heard, in D and E, and in what known says.
-#[derive(Clone, Copy, Debug, PartialEq, Eq)]
-pub enum Reading {
-    /// Every frame of it was.
-    AsAsked,
-    /// As the map counts: the frame before it was, too, unless the listener was started with its first; and the first one behind it.
-    AsCounted,
-}
-
 /// A law that does not hold, of which component, and what is wrong.
 pub type Broken = (&'static str, u8, String);
 
@@ -61,7 +52,6 @@ pub struct Seen {
 pub struct Laws {
     map: Vec<u8>,
     values: Map,
-    reading: Reading,
     style: Style,
     stories: Vec<Story>,
     past: Past,
@@ -70,13 +60,12 @@ pub struct Laws {
 
 impl Laws {
     /// The listener is switched on before this frame, in the middle of a configuration or not.
-    pub fn new(reading: Reading, style: Style, frame: &Frame) -> Laws {
+    pub fn new(style: Style, frame: &Frame) -> Laws {
         let mut map = vec![0xA5; MAP];
         assert_eq!(start(&mut map), DONE);
         Laws {
             values: Map::decode(&map).expect("a good map"),
             map,
-            reading,
             style,
             stories: vec![Story::default(); IDS],
             past: Past::default(),
@@ -186,18 +175,18 @@ impl Laws {
         let story = &self.stories[usize::from(id)];
         let (here, there) = (truth(frame, id, 0), truth(frame, id, 1));
         let next = self.values.show(id, frame.count.wrapping_add(1));
-        let ends = frame.to_change == 1 && self.is_heard(false);
+        let ends = frame.to_change == 1 && self.past.now.all();
         if ends && story.announced && there.len() <= 8 && !self.is_right(&next, there) {
             seen.broken.push(("E", id, format!("ahead, {next:?}")));
         }
-        let kept = story.right && self.keeps(story, frame);
+        let kept = story.right && (!frame.first || self.past.before.all());
         let apart = self.style.links != Links::Anyhow;
         let laws = [
             ("B", apart && story.beginnings >= 3, &mut seen.third),
             ("C", apart && story.second, &mut seen.second),
             ("D", kept && !frame.first, &mut seen.kept),
             ("D", kept && frame.first, &mut seen.kept_over_change),
-            ("E", story.told && self.is_heard(true), &mut seen.announced),
+            ("E", story.told, &mut seen.announced),
         ];
         let last = self
             .values
@@ -211,27 +200,6 @@ impl Laws {
                 seen.broken.push((law, id, format!("{now:?}")));
             }
         }
-    }
-
-    /// Whether the running configuration was heard up to its end, or the one before.
-    fn is_heard(&self, before: bool) -> bool {
-        let Past {
-            now, before: gone, ..
-        } = &self.past;
-        let span = if before { gone } else { now };
-        match self.reading {
-            Reading::AsAsked => span.all(),
-            Reading::AsCounted => span.all_joined() && (now.first || !before),
-        }
-    }
-
-    /// Whether what was right in the frame before should be so in this one.
-    fn keeps(&self, story: &Story, frame: &Frame) -> bool {
-        // The frame of the change and perhaps others were missed, so that the map is not sure of it.
-        let late = self.past.now.heard == 1 && !frame.first;
-        let counted = self.reading == Reading::AsCounted;
-        let lost = counted && late && story.told;
-        !lost && (!frame.first || self.is_heard(true))
     }
 
     /// A and G, in a frame so far ahead.
@@ -314,7 +282,7 @@ impl Laws {
         let row = self.past.row.min(255) as u8;
         let it = known(&self.map, count);
         seen.components = seen.components.max(it.3);
-        if it != (DONE, row, self.is_heard(false).into(), there) {
+        if it != (DONE, row, self.past.now.all().into(), there) {
             seen.broken.push(("known", 0, format!("{it:?}")));
         }
     }

@@ -62,14 +62,28 @@ fn certain_by_a_sure_change_or_by_a_field() {
 /// A change that is not sure leaves nothing certain, whatever it puts in force.
 #[test]
 fn not_certain_by_a_change_that_is_not_sure() {
-    let mut listener = announced(128);
+    let mut listener = Listener::late(2);
+    for id in 0..127 {
+        listener.hears(1, id, "a", 0);
+    }
+    // The last frame before the change.
     listener.miss();
     listener.idle_to(132);
-    assert_eq!(listener.components(), 128);
+    assert_eq!(listener.components(), 127);
     for id in others() {
         assert_eq!(hear(&mut listener, 0, id), 0);
     }
-    assert_eq!(listener.components(), 255);
+    assert_eq!(listener.components(), 254);
+}
+
+/// A change that is sure leaves what it puts in force certain, though frames behind it are missed.
+#[test]
+fn certain_though_frames_behind_the_change_are_missed() {
+    let mut listener = announced(128);
+    listener.miss();
+    for (id, number) in [(200, 45), (127, 0)] {
+        assert_eq!(hear(&mut listener, 0, id), number);
+    }
 }
 
 /// 128 are announced and come into force, and 127 others behind the change. Announced, they are none too many: deletions may have been
@@ -125,11 +139,11 @@ fn announced_ones_make_room_by_the_change() {
         listener.count = 130;
         assert_eq!(hear(&mut listener, 0, id), number);
     }
-    // One that was refused is missed. So the change is not sure, and nothing is certain in the next frame.
+    // One that was refused is missed. The change is sure all the same, and it is refused in the next frame, too.
     listener.map = full;
     listener.count = 130;
     assert_eq!(hear(&mut listener, 0, 200), 45);
-    assert_eq!(hear(&mut listener, 0, 200), 0);
+    assert_eq!(hear(&mut listener, 0, 200), 45);
 }
 
 /// There are only 128 frames from one change to the next, so the count of the last one is put back by hand.

@@ -18,11 +18,9 @@ pub struct Past {
 pub struct Span {
     /// How many there were, and how many of them were heard.
     frames: usize,
-    pub heard: usize,
+    heard: usize,
     /// Whether the first one was.
-    pub first: bool,
-    /// Whether the frame before the first was, or none was heard before: the listener was started with the first.
-    joined: bool,
+    first: bool,
 }
 
 impl Span {
@@ -30,21 +28,13 @@ impl Span {
     pub fn all(&self) -> bool {
         self.frames == self.heard && self.first
     }
-
-    /// The same as the map counts it: a frame that is missed just before spoils the whole configuration.
-    pub fn all_joined(&self) -> bool {
-        self.all() && self.joined
-    }
 }
 
 impl Past {
     /// The first frame of a configuration comes.
     pub fn change(&mut self) {
         self.before = self.now;
-        self.now = Span {
-            joined: !self.heard || self.row > 0,
-            ..Span::default()
-        };
+        self.now = Span::default();
     }
 
     /// Whether this is the first that is heard at all.

@@ -1,6 +1,6 @@
 -- `map::look::too_many` meets its contract: the tests are those of the definition, in its order. Assumes nothing.
 use mathlib.Core.Path.{_≡_, sym, ap, _∙_}
-use Rattle.frames.specs.Counts.{changing, sureAt}
+use Rattle.frames.specs.Counts.{changing, allHeard}
 use Rattle.map.specs.Map.{framesOf}
 use Rattle.frames.specs.declared.Frames.{Frames}
 use Rattle.map.proofs.Looking.{many-deletes, many-present, many-counted}
@@ -11,8 +11,8 @@ use Rattle.map.proofs.look.too_many.Tie as tie
 change : (c : tie.After-changing) → c .changing .result ≡ changing (framesOf (c .before .before .before .args .map .now)) (c .before .before .before .args .field .count)
 change c = c .changing .ensures ∙ ap (λ (f : Frames). changing f (c .before .before .before .args .field .count)) (c .before .frames-of .ensures)
 
-sure : (c : tie.After-sure-at) → c .sure-at .result ≡ sureAt (framesOf (c .before .before .before .before .args .map .now)) (c .before .before .before .before .args .field .count)
-sure c = c .sure-at .ensures ∙ ap (λ (f : Frames). sureAt f (c .before .before .before .before .args .field .count)) (c .before .before .frames-of .ensures)
+sure : (c : tie.After-all-heard) → c .all-heard .result ≡ allHeard (framesOf (c .before .before .before .before .args .map .now))
+sure c = c .all-heard .ensures ∙ ap allHeard (c .before .before .frames-of .ensures)
 
 frames-of-requires : tie.Need-frames-of-requires
 frames-of-requires c κs = search needs
@@ -20,8 +20,8 @@ frames-of-requires c κs = search needs
 changing-requires : tie.Need-changing-requires
 changing-requires c κs = search needs
 
-sure-at-requires : tie.Need-sure-at-requires
-sure-at-requires c κs = search needs
+all-heard-requires : tie.Need-all-heard-requires
+all-heard-requires c κs = search needs
 
 deletes-requires : tie.Need-deletes-requires
 deletes-requires c κs = search needs
@@ -59,7 +59,7 @@ too-many-spec =
     (tie.spec
     frames-of-requires
     changing-requires
-    sure-at-requires
+    all-heard-requires
     deletes-requires
     returns
     cast-present
