@@ -2,6 +2,7 @@
 use mathlib.Core.Path.{refl, ap, _∙_}
 use native.Mathlib.Omega.{arith}
 use borrow.Author.Needs.{needs}
+use lib.ListN.{getD}
 use Rattle.head.specs.Head.{wishOf}
 use Rattle.table.specs.Calls.{followAnswer, followAfter, leaveAnswer, leaveAfter}
 use Rattle.asking.specs.Asking.{asked}
