@@ -1,0 +1,70 @@
+-- Laws of the list of faults.
+--
+--   numbers            their numbers in order
+--   all-drop           each of them drops: a line here changes where a later request makes one that does not
+--   number-drops       so the number of a fault is one that drops; numbered-drops, unreadable-drops: and any number of the list
+--   others-stay        0, the answers to a packet that is taken, and the refusals before its address is found do not
+--   by-tests           the tests as the code makes them
+--
+-- Assumes nothing.
+use mathlib.Core.Path.{_≡_, refl, sym, ap}
+use mathlib.Core.Bool.{Bool, true, false, _&&_, _||_}
+use mathlib.Core.List.{List, [], _∷_, map}
+use mathlib.Core.Logic.{_⊎_, inl, inr}
+use Prim.Native.Nat.{ℕ}
+use Rattle.faults.specs.Faults.{Fault, typeUnreadable, typeControl, typeReserved, typeScrambled, wordUnreadable, outOfStep, number, drops, unreadables, faults, Numbered, dropping}
+
+pub numbers : map number faults ≡ (28 ∷ 29 ∷ 29 ∷ 30 ∷ 31 ∷ 32 ∷ [])
+numbers = refl
+
+pub all-drop : (f : Fault) → drops f ≡ true
+all-drop typeUnreadable = refl
+all-drop typeControl = refl
+all-drop typeReserved = refl
+all-drop typeScrambled = refl
+all-drop wordUnreadable = refl
+all-drop outOfStep = refl
+
+pub number-drops : (f : Fault) → dropping (number f) ≡ true
+unfolding dropping
+number-drops typeUnreadable = refl
+number-drops typeControl = refl
+number-drops typeReserved = refl
+number-drops typeScrambled = refl
+number-drops wordUnreadable = refl
+number-drops outOfStep = refl
+
+pub numbered-drops : (n : ℕ) → Numbered faults n → dropping n ≡ true
+unfolding dropping
+numbered-drops n (inl e) = ap dropping e
+numbered-drops n (inr (inl e)) = ap dropping e
+numbered-drops n (inr (inr (inl e))) = ap dropping e
+numbered-drops n (inr (inr (inr (inl e)))) = ap dropping e
+numbered-drops n (inr (inr (inr (inr (inl e))))) = ap dropping e
+numbered-drops n (inr (inr (inr (inr (inr (inl e)))))) = ap dropping e
+numbered-drops n (inr (inr (inr (inr (inr (inr x)))))) = absurd x
+
+pub unreadable-drops : (n : ℕ) → Numbered unreadables n → dropping n ≡ true
+unfolding dropping
+unreadable-drops n (inl e) = ap dropping e
+unreadable-drops n (inr (inl e)) = ap dropping e
+unreadable-drops n (inr (inr (inl e))) = ap dropping e
+unreadable-drops n (inr (inr (inr (inl e)))) = ap dropping e
+unreadable-drops n (inr (inr (inr (inr (inl e))))) = ap dropping e
+unreadable-drops n (inr (inr (inr (inr (inr x))))) = absurd x
+
+-- 0, the answers to a packet that is taken, and the refusals before its address is found
+pub others-stay : map dropping (0 ∷ 1 ∷ 2 ∷ 3 ∷ 20 ∷ 21 ∷ 27 ∷ 34 ∷ []) ≡ (false ∷ false ∷ false ∷ false ∷ false ∷ false ∷ false ∷ false ∷ [])
+unfolding dropping
+others-stay = refl
+
+pub by-tests : (a b c d e f : Bool)
+    → ((a || (b || (c || d))) || (e || f))
+    ≡ ((a && true) || ((b && true) || ((c && true) || ((d && true) || ((e && true) || ((f && true) || false))))))
+by-tests true b c d e f = refl
+by-tests false true c d e f = refl
+by-tests false false true d e f = refl
+by-tests false false false true e f = refl
+by-tests false false false false true f = refl
+by-tests false false false false false true = refl
+by-tests false false false false false false = refl

@@ -1,0 +1,64 @@
+-- What may be wrong with a packet whose address is found among those followed (document 01, section 6): one list, with the number of
+-- each, in the order in which it is looked for, and whether it drops the unfinished group.
+--
+--   Fault            section 6's rows 28 to 32; 29 is two types
+--   number           what is answered
+--   drops            "Refusals 28 to 32 clear the slot's unfinished group, mark its gap and make it await 0."
+--   unreadables      those that are seen in the packet itself, in their order; outOfStep comes behind them and needs the slot
+--   faults           all of them
+--   rowsBy p fs      the rows of some faults, where p says which are there
+--   Numbered fs n    n is the number of one of them
+--   dropping n       n is the number of a fault that drops
+use mathlib.Core.Path.{_≡_}
+use mathlib.Core.Bool.{Bool, true, false, _&&_, _||_}
+use mathlib.Core.List.{List, [], _∷_, _++_}
+use mathlib.Core.Logic.{_⊎_}
+use Prim.Native.Nat.{ℕ}
+use lib.Dec.{eqb}
+use Rattle.bits.specs.Rows.{Row, row}
+
+-- "type unreadable", "type 3F or C7", "type F8", "a protected word can't be read", "out of step"
+pub data Fault : Type 0 where
+  typeUnreadable : Fault
+  typeControl : Fault
+  typeReserved : Fault
+  typeScrambled : Fault
+  wordUnreadable : Fault
+  outOfStep : Fault
+
+abbrev pub number : Fault → ℕ
+number typeUnreadable = 28
+number typeControl = 29
+number typeReserved = 29
+number typeScrambled = 30
+number wordUnreadable = 31
+number outOfStep = 32
+
+abbrev pub drops : Fault → Bool
+drops typeUnreadable = true
+drops typeControl = true
+drops typeReserved = true
+drops typeScrambled = true
+drops wordUnreadable = true
+drops outOfStep = true
+
+abbrev pub unreadables : List Fault
+unreadables = typeUnreadable ∷ typeControl ∷ typeReserved ∷ typeScrambled ∷ wordUnreadable ∷ []
+
+abbrev pub faults : List Fault
+faults = unreadables ++ (outOfStep ∷ [])
+
+abbrev pub rowsBy : (Fault → Bool) → List Fault → List Row
+rowsBy p [] = []
+rowsBy p (f ∷ fs) = row (p f) (number f) ∷ rowsBy p fs
+
+abbrev pub Numbered : List Fault → ℕ → Type 0
+Numbered [] n = ⊥
+Numbered (f ∷ fs) n = (n ≡ number f) ⊎ Numbered fs n
+
+abbrev dropsIn : List Fault → ℕ → Bool
+dropsIn [] n = false
+dropsIn (f ∷ fs) n = (eqb n (number f) && drops f) || dropsIn fs n
+
+unfoldable pub dropping : ℕ → Bool
+dropping n = dropsIn faults n
