@@ -3,16 +3,19 @@
 --   numbers            their numbers in order
 --   all-drop           each of them drops: a line here changes where a later request makes one that does not
 --   number-drops       so the number of a fault is one that drops; numbered-drops, unreadable-drops: and any number of the list
+--   fault-number       the fault of a number has the number, and drops exactly if the number does
+--   no-whole, no-part  the number of a fault is not 3, nor 1 or 2
 --   others-stay        0, the answers to a packet that is taken, and the refusals before its address is found do not
 --   by-tests           the tests as the code makes them
 --
 -- Assumes nothing.
-use mathlib.Core.Path.{_≡_, refl, sym, ap}
+use mathlib.Core.Path.{_≡_, refl, sym, ap, subst}
 use mathlib.Core.Bool.{Bool, true, false, _&&_, _||_}
 use mathlib.Core.List.{List, [], _∷_, map}
 use mathlib.Core.Logic.{_⊎_, inl, inr}
 use Prim.Native.Nat.{ℕ}
-use Rattle.faults.specs.Faults.{Fault, typeUnreadable, typeControl, typeReserved, typeScrambled, wordUnreadable, outOfStep, number, drops, unreadables, faults, Numbered, dropping}
+use lib.Dec.{eqb}
+use Rattle.faults.specs.Faults.{Fault, typeUnreadable, typeControl, typeReserved, typeScrambled, wordUnreadable, outOfStep, number, drops, unreadables, faults, Numbered, faultOf, dropping}
 
 pub numbers : map number faults ≡ (28 ∷ 29 ∷ 29 ∷ 30 ∷ 31 ∷ 32 ∷ [])
 numbers = refl
@@ -52,6 +55,36 @@ unreadable-drops n (inr (inr (inl e))) = ap dropping e
 unreadable-drops n (inr (inr (inr (inl e)))) = ap dropping e
 unreadable-drops n (inr (inr (inr (inr (inl e))))) = ap dropping e
 unreadable-drops n (inr (inr (inr (inr (inr x))))) = absurd x
+
+-- the fault of a number has the number, and drops exactly if the number does
+abbrev Same : ℕ → Type 0
+Same n = (number (faultOf n) ≡ n) × (dropping n ≡ drops (faultOf n))
+
+pub fault-number : (n : ℕ) → Numbered unreadables n → (number (faultOf n) ≡ n) × (dropping n ≡ drops (faultOf n))
+unfolding faultOf dropping
+fault-number n (inl e) = subst (λ (k : ℕ). Same k) (sym e) (refl, refl)
+fault-number n (inr (inl e)) = subst (λ (k : ℕ). Same k) (sym e) (refl, refl)
+fault-number n (inr (inr (inl e))) = subst (λ (k : ℕ). Same k) (sym e) (refl, refl)
+fault-number n (inr (inr (inr (inl e)))) = subst (λ (k : ℕ). Same k) (sym e) (refl, refl)
+fault-number n (inr (inr (inr (inr (inl e))))) = subst (λ (k : ℕ). Same k) (sym e) (refl, refl)
+fault-number n (inr (inr (inr (inr (inr x))))) = absurd x
+
+-- the number of a fault is no answer to a packet that is taken
+pub no-whole : (f : Fault) → eqb (number f) 3 ≡ false
+no-whole typeUnreadable = refl
+no-whole typeControl = refl
+no-whole typeReserved = refl
+no-whole typeScrambled = refl
+no-whole wordUnreadable = refl
+no-whole outOfStep = refl
+
+pub no-part : (f : Fault) → (eqb (number f) 1 || eqb (number f) 2) ≡ false
+no-part typeUnreadable = refl
+no-part typeControl = refl
+no-part typeReserved = refl
+no-part typeScrambled = refl
+no-part wordUnreadable = refl
+no-part outOfStep = refl
 
 -- 0, the answers to a packet that is taken, and the refusals before its address is found
 pub others-stay : map dropping (0 ∷ 1 ∷ 2 ∷ 3 ∷ 20 ∷ 21 ∷ 27 ∷ 34 ∷ []) ≡ (false ∷ false ∷ false ∷ false ∷ false ∷ false ∷ false ∷ false ∷ [])

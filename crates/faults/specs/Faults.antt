@@ -8,9 +8,10 @@
 --   faults           all of them
 --   rowsBy p fs      the rows of some faults, where p says which are there
 --   Numbered fs n    n is the number of one of them
+--   faultOf n        the first of them with a number
 --   dropping n       n is the number of a fault that drops
 use mathlib.Core.Path.{_≡_}
-use mathlib.Core.Bool.{Bool, true, false, _&&_, _||_}
+use mathlib.Core.Bool.{Bool, true, false, cond, _&&_, _||_}
 use mathlib.Core.List.{List, [], _∷_, _++_}
 use mathlib.Core.Logic.{_⊎_}
 use Prim.Native.Nat.{ℕ}
@@ -55,6 +56,13 @@ rowsBy p (f ∷ fs) = row (p f) (number f) ∷ rowsBy p fs
 abbrev pub Numbered : List Fault → ℕ → Type 0
 Numbered [] n = ⊥
 Numbered (f ∷ fs) n = (n ≡ number f) ⊎ Numbered fs n
+
+abbrev faultIn : List Fault → ℕ → Fault
+faultIn [] n = outOfStep
+faultIn (f ∷ fs) n = cond (eqb n (number f)) f (faultIn fs n)
+
+unfoldable pub faultOf : ℕ → Fault
+faultOf n = faultIn faults n
 
 abbrev dropsIn : List Fault → ℕ → Bool
 dropsIn [] n = false

@@ -34,7 +34,7 @@ use Rattle.head.specs.declared.Head.{Head}
 use Rattle.runs.proofs.Parts.{put-part, put-length}
 use Rattle.slot.proofs.Laws.{unfinished-room, unfinished-length}
 use Rattle.packet.specs.declared.Reading.{Reading}
-use Rattle.group.specs.Group.{blockOf, placed, begunRoom, slotJoined, roomsKept, roomsMoved, slotMoved, slotDropped, takenNumber, takenAfter}
+use Rattle.group.specs.Group.{blockOf, placed, begunRoom, slotJoined, roomsKept, roomsMoved, slotMoved, slotDropped, refusedAfter, takenNumber, takenAfter}
 
 -- in front of anything
 put-front : (at n : ℕ) (b r x : List ℕ) → at + n ≤ length r → put at n b (r ++ x) ≡ put at n b r ++ x
@@ -176,9 +176,9 @@ block-le h = go (eqb (h .wish .protection) 1)
 -- ---- the answer with the slot after it, by the reading's number
 
 module _ (r : Reading) (h : Head) (s : List ℕ) (e : h ≡ headOf s) where
-  pub taken-refused : (r .number ≡ 0 → ⊥) → (r .number ≡ takenNumber r h) × (slotDropped s ≡ takenAfter r s)
+  pub taken-refused : (r .number ≡ 0 → ⊥) → (r .number ≡ takenNumber r h) × (refusedAfter (r .number) s ≡ takenAfter r s)
   unfolding takenNumber takenAfter
-  taken-refused ne = (sym (further-refused (r .number) _ ne), sym (done-refused (r .number) _ (slotDropped s) ne))
+  taken-refused ne = (sym (further-refused (r .number) _ ne), sym (done-refused (r .number) _ (refusedAfter (r .number) s) ne))
 
   pub taken-moved : (n : ℕ) (b t : List ℕ) → r .number ≡ 0 → n ≡ moveNumber (rowAt h (r .index)) → b ≡ take (blockOf h) (r .bytes)
       → t ≡ slotMoved (rowAt h (r .index)) (placeAt h (r .index)) b s → (n ≡ takenNumber r h) × (t ≡ takenAfter r s)
@@ -186,5 +186,5 @@ module _ (r : Reading) (h : Head) (s : List ℕ) (e : h ≡ headOf s) where
   taken-moved n b t z en eb et = (
     en ∙ sym (further-passed (r .number) _ z),
     et ∙ ap₂ (λ (x : Head) (y : List ℕ). slotMoved (rowAt x (r .index)) (placeAt x (r .index)) y s) e
-        (eb ∙ ap (λ (x : Head). take (blockOf x) (r .bytes)) e) ∙ sym (done-passed (r .number) _ (slotDropped s) z),
+        (eb ∙ ap (λ (x : Head). take (blockOf x) (r .bytes)) e) ∙ sym (done-passed (r .number) _ (refusedAfter (r .number) s) z),
   )

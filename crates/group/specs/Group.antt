@@ -8,6 +8,7 @@
 --   roomsKept n s        the first n bytes of that room become the last whole group, and the room is cleared
 --   roomsMoved mv c b s  both rooms after a row of the table, c the packet's place in its group; slotMoved: with the head
 --   slotDropped s        "Refusals 28 to 32 clear the slot's unfinished group, mark its gap and make it await 0."
+--   refusedAfter n s     the slot after a refusal with number n
 --   takenNumber r h      the answer to reading r where the head is h
 --   takenAfter r s       the slot after it
 use mathlib.Core.Bool.{cond}
@@ -22,6 +23,7 @@ use Rattle.slot.specs.Slot.{roomSize, headOf, withHead, unfinished, withUnfinis
 use Rattle.head.specs.Head.{droppedHead}
 use Rattle.head.specs.Move.{Move, started, held, whole, outOfStep, moveNumber, movedHead, rowAt, placeAt}
 use Rattle.head.specs.declared.Head.{Head}
+use Rattle.faults.specs.Faults.{dropping}
 use Rattle.packet.specs.declared.Reading.{Reading}
 
 unfoldable pub blockOf : Head → ℕ
@@ -59,7 +61,11 @@ slotDropped s = withHead (droppedHead (headOf s)) (withUnfinished (blank roomSiz
 unfoldable pub takenNumber : Reading → Head → ℕ
 takenNumber r h = further (r .number) (moveNumber (rowAt h (r .index)))
 
+-- a refusal drops by the list of faults
+unfoldable pub refusedAfter : ℕ → List ℕ → List ℕ
+refusedAfter n s = cond (dropping n) (slotDropped s) s
+
 unfoldable pub takenAfter : Reading → List ℕ → List ℕ
 takenAfter r s =
     let h = headOf s in
-    done (r .number) (slotMoved (rowAt h (r .index)) (placeAt h (r .index)) (take (blockOf h) (r .bytes)) s) (slotDropped s)
+    done (r .number) (slotMoved (rowAt h (r .index)) (placeAt h (r .index)) (take (blockOf h) (r .bytes)) s) (refusedAfter (r .number) s)

@@ -6,7 +6,8 @@ ghost use lib.ListN.{length};
 ghost use Rattle.slot.specs.Slot.{slotSize, roomSize, headOf, withHead};
 ghost use Rattle.head.specs.Head.{wholeHead};
 ghost use Rattle.head.specs.Move.{moveNumber, rowAt, placeAt};
-ghost use Rattle.group.specs.Group.{blockOf, slotJoined, roomsKept, slotMoved, slotDropped, takenNumber, takenAfter};
+ghost use Rattle.group.specs.Group.{blockOf, slotJoined, roomsKept, slotMoved, slotDropped, refusedAfter, takenNumber, takenAfter};
+use faults::Faults;
 use head::Head;
 use image::Packet;
 use packet::Reading;
@@ -37,12 +38,23 @@ pub fn taken(slot: &mut [u8], head: Head, reading: Reading) -> u8
 {
     let number = reading.number;
     if number != 0 {
-        dropped(slot, head);
+        refused(slot, head, number);
         return number;
     }
     let bytes = reading.bytes;
     let len = block(head);
     moved(slot, head, reading.index, &bytes[..len])
+}
+
+// A refused packet: by its number it drops the unfinished group, or leaves the slot.
+fn refused(slot: &mut [u8], head: Head, number: u8)
+    requires { ⌜ length (now slot) ≡ slotSize ⌝ }
+    requires { ⌜ head ≡ headOf (now slot) ⌝ }
+    ensures { λ _. ⌜ now (slot .exit) ≡ refusedAfter number (now (slot .entry)) ⌝ }
+{
+    if Faults::drop(number) {
+        dropped(slot, head);
+    }
 }
 
 // How many bytes a packet brings.
@@ -67,7 +79,7 @@ fn moved(slot: &mut [u8], head: Head, index: u8, bytes: &[u8]) -> u8
     let place = index % head.per();
     if (place != 0) & (place != head.awaited) {
         dropped(slot, head);
-        return 32;
+        return Faults::OUT_OF_STEP;
     }
     joined(slot, place, bytes);
     if head.needs() <= place + 1 {

@@ -8,7 +8,7 @@
 --   awaits-last               so before the last packet of a group that is readable the slot awaits it, whatever it held at first
 --
 -- Assumes nothing.
-use mathlib.Core.Path.{_≡_, refl, sym, ap, _∙_}
+use mathlib.Core.Path.{_≡_, refl, sym, ap, _∙_, subst}
 use mathlib.Core.List.{List, [], _∷_, _++_}
 use mathlib.Core.Logic.{_⊎_, inl, inr}
 use Prim.Native.Nat.{ℕ, suc, _+_, _-_, _*_, _%_, _≤_, _<_}
@@ -16,8 +16,10 @@ use native.Mathlib.Omega.{arith}
 use Rattle.head.specs.Move.{Move, started, held, whole, outOfStep, moveOf, movedHead}
 use Rattle.head.specs.declared.Head.{Head}
 use Rattle.head.proofs.Moves.{Row, move-row}
-use Rattle.history.specs.Followed.{Followed, Reason, moved, dropped, aged, after, run}
+use Rattle.faults.specs.Faults.{Fault}
+use Rattle.history.specs.Followed.{Followed, moved, dropped, aged, after, run}
 use Rattle.history.specs.Sent.{Sent, Arrival, came, damaged, subframeEnd, event, events, InOrder, CameIn}
+use Rattle.history.proofs.Laws.{after-refused}
 use Rattle.history.proofs.Full.{damaged-other, end-other, came-later}
 
 pub came-right : (i c : ℕ) (b h : List Arrival) → CameIn i c h → CameIn i c (b ++ h)
@@ -94,7 +96,7 @@ module _ (per i : ℕ) (h : List Arrival) (n c a : ℕ) where
             (λ k e. (let p : j ≡ i = cc in let r : d ≡ k = cc in omega (arith, ap (λ (x : ℕ). per * x) p))) y s,
       )
 
-  coming-damaged : (j d : ℕ) (r : Reason) → Coming per i (damaged j d r ∷ h) n c a → Coming per i h (suc (per * j + d)) c 0
+  coming-damaged : (j d : ℕ) (r : Fault) → Coming per i (damaged j d r ∷ h) n c a → Coming per i h (suc (per * j + d)) c 0
   unfolding InOrder CameIn From
   coming-damaged j d r s = go (s .from c (omega arith) (s .most))
     where
@@ -135,8 +137,9 @@ awaits-last sent i (came j d ∷ b) l n c f all wide s =
     awaits-last sent i b l (suc (per * j + d)) e (moved mv (d % per) (sent j d) f) all wide t
 awaits-last sent i (damaged j d r ∷ b) l n c f all wide s =
     let per = f .per in
-    awaits-last sent i b l (suc (per * j + d)) c (dropped f) all wide
-    (coming-damaged per i (b ++ (came i (per - 1) ∷ l)) n c (f .head .awaited) j d r s)
+    subst (λ (g : Followed). (run (events sent b) g .head .awaited ≡ per - 1) × InOrder per (per - 1) (suc (per * i + (per - 1))) l) (after-refused r f)
+    (awaits-last sent i b l (suc (per * j + d)) c (dropped f) all wide
+    (coming-damaged per i (b ++ (came i (per - 1) ∷ l)) n c (f .head .awaited) j d r s))
 awaits-last sent i (subframeEnd ∷ b) l n c f all wide s =
     awaits-last sent i b l n c (aged f) all wide
     (coming-end (f .per) i (b ++ (came i (f .per - 1) ∷ l)) n c (f .head .awaited) s)

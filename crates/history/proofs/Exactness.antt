@@ -25,7 +25,8 @@ use lib.Dec.{eqb, lit≤}
 use Rattle.head.specs.Move.{Move, started, held, whole, outOfStep, perOf, needsOf, moveOf, moveNumber, movedHead}
 use Rattle.head.proofs.Moves.{Row, move-row, one-whole}
 use Rattle.head.specs.declared.Wish.{Wish}
-use Rattle.history.specs.Followed.{Followed, Reason, typeUnreadable, typeReserved, typeScrambled, wordUnreadable, begun, joined, lastOf, moved, dropped, aged, after, answer, number, followed, handedOut}
+use Rattle.faults.proofs.Laws.{all-drop, no-whole}
+use Rattle.history.specs.Followed.{Followed, begun, joined, lastOf, moved, dropped, aged, after, answer, followed, handedOut}
 use Rattle.history.specs.Sent.{Sent, Arrival, came, damaged, subframeEnd, event, events, Next, InOrder, group, groups, CameIn, Readable, In, Rising, Exactly}
 use Rattle.history.proofs.Laws.{group-le, group-lt}
 use Rattle.history.proofs.Full.{damaged-other, end-other, came-later, readable-later, behind, Full, full-join, full-part, full-lost, full-readable, full-past, full-later, full-done, full-end, full-held, full-none}
@@ -206,13 +207,6 @@ module _ (sent : Sent) (h : List Arrival)
       (handedOut (events sent h) g)
       (rest (suc (f .per * i + c)) q g os (holds-none sent (suc (f .per * i + c)) q g least (s .fits) refl refl))
 
-pub refused-hands-none : (r : Reason) → eqb (number r) 3 ≡ false
-unfolding number
-refused-hands-none typeUnreadable = refl
-refused-hands-none typeReserved = refl
-refused-hands-none typeScrambled = refl
-refused-hands-none wordUnreadable = refl
-
 exactly-end : (needs : ℕ) (sent : Sent) (a q : ℕ) → a < needs → Exactly needs sent (Full needs a q []) []
 unfolding groups Rising In
 exactly-end needs sent a q m = record {
@@ -234,7 +228,7 @@ exactly-from sent (came i c ∷ h) n q f (o, os) s =
 exactly-from sent (damaged i c r ∷ h) n q f (o, os) s =
     let m = suc (f .per * i + c) in
     let least : 1 ≤ f .needs = omega (arith, s .most) in
-    rw refused-hands-none
+    rw (no-whole r, all-drop r)
     (exactly-dropped sent h (λ n q f. exactly-from sent h n q f) n q i c f o os s (damaged i c r)
     (λ l e. damaged-other i c r q (f .head .awaited) e) (λ j d y e. damaged-other i c r j d e) (handedOut (events sent h) (dropped f))
     (exactly-from sent h m q (dropped f) os (holds-none sent m q (dropped f) least (s .fits) refl refl)))
@@ -307,5 +301,5 @@ one-handed sent [] f p m = refl
 one-handed sent (came i c ∷ h) f p m =
     one-packet sent h (λ g. one-handed sent h g) f p m (moveOf (f .per) (f .needs) (f .head .awaited) c) (c % f .per) (sent i c)
     (rw (p, m) (one-whole (f .head .awaited) c)) (rw p (mod-one c))
-one-handed sent (damaged i c r ∷ h) f p m = rw refused-hands-none (one-handed sent h (dropped f) p m)
+one-handed sent (damaged i c r ∷ h) f p m = rw (no-whole r, all-drop r) (one-handed sent h (dropped f) p m)
 one-handed sent (subframeEnd ∷ h) f p m = one-handed sent h (aged f) p m

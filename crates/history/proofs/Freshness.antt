@@ -21,8 +21,10 @@ use Rattle.head.specs.Head.{newHead, droppedHead, agedHead, shown}
 use Rattle.head.specs.Move.{Move, started, held, whole, outOfStep, moveOf, moveNumber, movedHead}
 use Rattle.head.specs.declared.Head.{Head}
 use Rattle.head.specs.declared.Wish.{Wish}
-use Rattle.history.specs.Followed.{Followed, Reason, typeUnreadable, typeReserved, typeScrambled, wordUnreadable, number, Event, packet, refused, ended, moved, dropped, aged, after, answer, followed, run}
-use Rattle.history.specs.Transcript.{Entry, answered, subframe, entry, told, isWhole, anyWhole, sinceWhole, ends, before, drops, marks, marked, called}
+use Rattle.faults.specs.Faults.{Fault, number, dropping}
+use Rattle.faults.proofs.Laws.{all-drop, number-drops, no-whole, no-part}
+use Rattle.history.specs.Followed.{Followed, Event, packet, refused, ended, moved, dropped, aged, after, answer, followed, run}
+use Rattle.history.specs.Transcript.{Entry, answered, subframe, entry, told, isWhole, anyWhole, sinceWhole, ends, before, marks, marked, called}
 
 abbrev pub Aged : ℕ → ℕ → Type 0
 Aged age n = (age ≡ n) ⊎ ((1500 ≤ age) × (age ≤ n))
@@ -64,7 +66,7 @@ cond-or true b = refl
 cond-or false b = refl
 
 module _ (limit : ℕ) (h : Head) (t : List Entry) (s : Tells limit h t) where
-  tells-dropped : (n : ℕ) → eqb n 3 ≡ false → (eqb n 1 || eqb n 2) ≡ false → drops n ≡ true → Tells limit (droppedHead h) (answered n ∷ t)
+  tells-dropped : (n : ℕ) → eqb n 3 ≡ false → (eqb n 1 || eqb n 2) ≡ false → dropping n ≡ true → Tells limit (droppedHead h) (answered n ∷ t)
   unfolding anyWhole isWhole sinceWhole marked marks before ends
   tells-dropped n e u d = record {
     limited = s .limited;
@@ -75,7 +77,7 @@ module _ (limit : ℕ) (h : Head) (t : List Entry) (s : Tells limit h t) where
   }
 
   tells-moved : (mv : Move) → Tells limit (movedHead mv h) (answered (moveNumber mv) ∷ t)
-  unfolding movedHead moveNumber anyWhole isWhole sinceWhole marked marks drops before ends
+  unfolding movedHead moveNumber anyWhole isWhole sinceWhole marked marks dropping before ends
   tells-moved started = record {
     limited = s .limited;
     grouped = s .grouped;
@@ -93,12 +95,8 @@ module _ (limit : ℕ) (h : Head) (t : List Entry) (s : Tells limit h t) where
   tells-moved whole = record { limited = s .limited; grouped = refl; gapped = refl; awaits = refl; age = λ e. inl refl }
   tells-moved outOfStep = tells-dropped 32 refl refl refl
 
-  tells-refused : (r : Reason) → Tells limit (droppedHead h) (answered (number r) ∷ t)
-  unfolding number drops
-  tells-refused typeUnreadable = tells-dropped 28 refl refl refl
-  tells-refused typeReserved = tells-dropped 29 refl refl refl
-  tells-refused typeScrambled = tells-dropped 30 refl refl refl
-  tells-refused wordUnreadable = tells-dropped 31 refl refl refl
+  tells-refused : (r : Fault) → Tells limit (droppedHead h) (answered (number r) ∷ t)
+  tells-refused r = tells-dropped (number r) (no-whole r) (no-part r) (number-drops r)
 
   tells-aged : Tells limit (agedHead h) (subframe ∷ t)
   unfolding anyWhole isWhole sinceWhole marked marks before ends
@@ -125,7 +123,7 @@ tells-after : (limit : ℕ) (f : Followed) (t : List Entry) → Tells limit (f .
     → (e : Event) → Tells limit (after e f .head) (entry e f ∷ t)
 unfolding after entry answer moved dropped aged
 tells-after limit f t s (packet c bytes) = tells-moved limit (f .head) t s (moveOf (f .per) (f .needs) (f .head .awaited) c)
-tells-after limit f t s (refused r) = tells-refused limit (f .head) t s r
+tells-after limit f t s (refused r) = rw (all-drop r) (tells-refused limit (f .head) t s r)
 tells-after limit f t s ended = tells-aged limit (f .head) t s
 
 pub tells-run : (limit : ℕ) → limit ≤ 1500 → (es : List Event) (f : Followed) (t : List Entry) → Tells limit (f .head) t

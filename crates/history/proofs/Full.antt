@@ -12,12 +12,12 @@ use mathlib.Core.Logic.{_⊎_, inl, inr}
 use Prim.Native.Nat.{ℕ, suc, _+_, _*_, _≤_, _<_}
 use native.Mathlib.Omega.{arith}
 use native.Mathlib.Decide.{ℕ-discrete}
-use Rattle.history.specs.Followed.{Reason}
+use Rattle.faults.specs.Faults.{Fault}
 use Rattle.history.specs.Sent.{Arrival, came, damaged, subframeEnd, InOrder, CameIn, Readable}
 
 -- ---- what is to come
 
-pub damaged-other : (i c : ℕ) (r : Reason) (j d : ℕ) → damaged i c r ≡ came j d → ⊥
+pub damaged-other : (i c : ℕ) (r : Fault) (j d : ℕ) → damaged i c r ≡ came j d → ⊥
 damaged-other i c r j d e =
     let z : _≡_ {A = ℕ} 0 1 = cc in
     omega arith

@@ -3,13 +3,14 @@
 --   group-le, group-lt, number-same    the groups that packets are of, by their numbers
 --   ordered, ordered-holds    a test for `InOrder`, so that a history written out is in order by computation
 --   group-four                the bytes of a group of four
+--   after-refused             a refused packet drops
 --   run-app                   events after events
 --   run-sizes                 events leave the two numbers of a group as they are
 --   index-modulo              an index counts modulo the packets of a group, for what a packet changes and for its answer
 --
 -- Assumes nothing.
-use mathlib.Core.Path.{_≡_, refl, sym, ap}
-use mathlib.Core.Bool.{Bool, true, _&&_, _||_}
+use mathlib.Core.Path.{_≡_, refl, sym, ap, subst}
+use mathlib.Core.Bool.{Bool, true, _&&_, _||_, cond}
 use mathlib.Core.List.{List, [], _∷_, _++_, append-assoc}
 use Prim.Native.Nat.{ℕ, suc, _+_, _*_, _%_, _≤_, _<_}
 use native.Mathlib.Decide.{decLe}
@@ -20,6 +21,8 @@ use borrow.Author.Tests.{leb-true, ltb-true, lt-leb}
 use Rattle.bits.proofs.Search.{and-left, and-right, or-right}
 use Rattle.head.specs.Move.{moveNumber}
 use Rattle.head.proofs.Moves.{move-modulo}
+use Rattle.faults.specs.Faults.{Fault}
+use Rattle.faults.proofs.Laws.{all-drop}
 use Rattle.history.specs.Followed.{Followed, Event, packet, refused, ended, moved, dropped, aged, after, answer, run}
 use Rattle.history.specs.Sent.{Sent, Arrival, came, damaged, subframeEnd, Next, InOrder, group}
 
@@ -100,11 +103,17 @@ unfolding run
 run-app [] ys f = refl
 run-app (e ∷ xs) ys f = run-app xs ys (after e f)
 
+-- every fault drops
+pub after-refused : (r : Fault) (f : Followed) → dropped f ≡ after (refused r) f
+unfolding after
+after-refused r f = sym (ap (λ (b : Bool). cond b (dropped f) f) (all-drop r))
+
 pub run-sizes : (es : List Event) (f : Followed) → (run es f .per ≡ f .per) × (run es f .needs ≡ f .needs)
 unfolding run after moved dropped aged
 run-sizes [] f = (refl, refl)
 run-sizes (packet c b ∷ es) f = run-sizes es (after (packet c b) f)
-run-sizes (refused r ∷ es) f = run-sizes es (dropped f)
+run-sizes (refused r ∷ es) f =
+    subst (λ (g : Followed). (run es g .per ≡ f .per) × (run es g .needs ≡ f .needs)) (after-refused r f) (run-sizes es (dropped f))
 run-sizes (ended ∷ es) f = run-sizes es (aged f)
 
 pub index-modulo : (c : ℕ) (b : List ℕ) (f : Followed)

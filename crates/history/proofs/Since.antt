@@ -26,12 +26,14 @@ use Rattle.head.specs.Head.{droppedHead, agedHead}
 use Rattle.head.specs.Move.{Move, started, held, whole, outOfStep, moveOf, moveNumber, movedHead}
 use Rattle.head.specs.declared.Head.{Head}
 use Rattle.head.proofs.Moves.{Row, move-row}
-use Rattle.history.specs.Followed.{Followed, Reason, moved, dropped, aged, after, answer, run, handedOut}
+use Rattle.faults.proofs.Laws.{all-drop, no-whole}
+use Rattle.faults.specs.Faults.{Fault}
+use Rattle.history.specs.Followed.{Followed, moved, dropped, aged, after, answer, run, handedOut}
 use Rattle.history.specs.Sent.{Sent, Arrival, came, damaged, subframeEnd, event, events, Next, InOrder, groups, CameIn, Readable, In}
 use Rattle.history.specs.Missing.{Reached, endings}
-use Rattle.history.proofs.Laws.{group-le, number-same}
+use Rattle.history.proofs.Laws.{group-le, number-same, after-refused}
 use Rattle.history.proofs.Full.{damaged-other, end-other, came-later}
-use Rattle.history.proofs.Exactness.{refused-hands-none, exactly}
+use Rattle.history.proofs.Exactness.{exactly}
 use Rattle.history.proofs.Freshness.{Aged, aged-next}
 
 -- ---- what is kept while nothing is handed out
@@ -87,8 +89,9 @@ kept-run sent (came j d ∷ l) f n m e q =
     kept-then (f .head) (g .head) (run (events sent l) g .head) n n m (kept-moved mv (f .head) n s) (kept-run sent l g n m e t)
 kept-run sent (damaged j d r ∷ l) f n m e q =
     let g = dropped f in
-    kept-then (f .head) (g .head) (run (events sent l) g .head) n n m (kept-dropped (f .head) n)
-    (kept-run sent l g n m e (rw refused-hands-none at q))
+    subst (λ (x : Followed). Kept (f .head) (run (events sent l) x .head) n m) (after-refused r f)
+    (kept-then (f .head) (g .head) (run (events sent l) g .head) n n m (kept-dropped (f .head) n)
+    (kept-run sent l g n m e (rw (no-whole r, all-drop r) at q)))
 kept-run sent (subframeEnd ∷ l) f n m e q =
     let g = aged f in
     kept-then (f .head) (g .head) (run (events sent l) g .head) n (suc n) m (kept-aged (f .head) n)
@@ -132,7 +135,7 @@ module _ (per most : ℕ) where
           omega (arith, ap (λ (x : ℕ). per * x) p)
       absent (inr x) = omega (arith, came-later per most (suc (per * j + d)) h o q a x)
 
-  lost-damaged : (n j d : ℕ) (r : Reason) (h : List Arrival) → Next per most n j d → InOrder per most (suc (per * j + d)) h → Lost per n (damaged j d r ∷ h)
+  lost-damaged : (n j d : ℕ) (r : Fault) (h : List Arrival) → Next per most n j d → InOrder per most (suc (per * j + d)) h → Lost per n (damaged j d r ∷ h)
   unfolding Reached CameIn
   lost-damaged n j d r h o os =
       record { group = j; index = d; below = o .index; from = o .once; reached = inl (omega arith); absent = absent }
@@ -285,7 +288,8 @@ gapped-run sent q (came j d ∷ l) n f all wide (o, os) t c m e =
     gapped-moved sent q l (λ n f. gapped-run sent q l n f) n f all wide j d o os c m e mv
     (move-row (f .per) (f .needs) (f .head .awaited) d (o .index)) s u
 gapped-run sent q (damaged j d r ∷ l) n f all wide (o, os) t c m e = inl (
-  kept-run sent l (dropped f) 0 (endings l) (omega arith) (rw refused-hands-none at t) .gap refl,
+  subst (λ (x : Followed). run (events sent l) x .head .gap ≡ 1) (after-refused r f)
+      (kept-run sent l (dropped f) 0 (endings l) (omega arith) (rw (no-whole r, all-drop r) at t) .gap refl),
   lost-damaged (f .per) (f .per - 1) n j d r l o os,
 )
 gapped-run sent q (subframeEnd ∷ l) n f all wide o t c m e =

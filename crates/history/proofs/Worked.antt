@@ -24,7 +24,8 @@ use mathlib.Core.List.{List, [], _∷_, _++_}
 use Prim.Native.Nat.{ℕ}
 use Rattle.head.specs.Head.{wishOf, shown}
 use Rattle.head.specs.Move.{perOf, needsOf, rowOf, moveOf, moveNumber, movedHead}
-use Rattle.history.specs.Followed.{Followed, typeUnreadable, wordUnreadable, number, begun, joined, lastOf, moved, dropped, aged, after, answer, followed, run, handedOut}
+use Rattle.faults.specs.Faults.{typeUnreadable, wordUnreadable}
+use Rattle.history.specs.Followed.{Followed, begun, joined, lastOf, moved, dropped, aged, after, answer, followed, run, handedOut}
 use Rattle.history.specs.Sent.{Arrival, came, damaged, subframeEnd, event, events, InOrder}
 use Rattle.history.proofs.Laws.{isNext, ordered, ordered-holds}
 use Rattle.history.proofs.Sharp.{sent}
@@ -42,7 +43,7 @@ unfolding broken wholeGroup ordered isNext
 in-order = ordered-holds 4 3 0 broken refl
 
 broken-recovers : handedOut (events sent broken) (followed (wishOf 17 0 2)) ≡ (8 ∷ 9 ∷ 10 ∷ 11 ∷ []) ∷ []
-unfolding broken wholeGroup sent events event followed perOf needsOf handedOut after answer number moved begun joined lastOf dropped moveOf rowOf moveNumber movedHead
+unfolding broken wholeGroup sent events event followed perOf needsOf handedOut after answer moved begun joined lastOf dropped moveOf rowOf moveNumber movedHead
 broken-recovers = refl
 
 unfoldable midway : List Arrival
@@ -114,7 +115,7 @@ unfolding singles ordered isNext
 singles-in-order = ordered-holds 1 0 0 singles refl
 
 singles-hand-out : handedOut (events sent singles) (single 0 []) ≡ (0 ∷ []) ∷ (20 ∷ []) ∷ (240 ∷ []) ∷ []
-unfolding single singles sent events event handedOut after answer number moved begun joined lastOf dropped moveOf rowOf moveNumber movedHead
+unfolding single singles sent events event handedOut after answer moved begun joined lastOf dropped moveOf rowOf moveNumber movedHead
 singles-hand-out = refl
 
 singles-show : shownAlong singles (single 0 []) ≡ 5 ∷ 5 ∷ 6 ∷ 5 ∷ []

@@ -2,7 +2,6 @@
 -- last whole one; and two numbers, how many packets a group has and how many of them, from the first on, make it whole. No
 -- place of a byte is told here.
 --
---   Reason, number        the refusals of a packet whose address is found: 28, 29, 30, 31
 --   Event                 what reaches a followed address: a readable data packet, a refused packet, the end of a subframe
 --   begun c u             what a packet with place c is joined to: nothing where c is 0, otherwise the unfinished group u
 --   after, answer         what an event changes, and its answer
@@ -12,6 +11,7 @@ use mathlib.Core.Bool.{cond}
 use mathlib.Core.List.{List, [], _∷_, _++_}
 use Prim.Native.Nat.{ℕ, zero, suc, _%_}
 use lib.Dec.{eqb}
+use Rattle.faults.specs.Faults.{Fault, number, drops}
 use Rattle.head.specs.Head.{newHead, droppedHead, agedHead}
 use Rattle.head.specs.Move.{Move, started, held, whole, outOfStep, perOf, needsOf, moveOf, moveNumber, movedHead}
 use Rattle.head.specs.declared.Head.{Head}
@@ -24,22 +24,9 @@ pub record Followed : Type 0 where
   pub unfinished : List ℕ
   pub last : List ℕ
 
--- section 6: "type unreadable", "type 3F or C7", "type F8", "a protected word can't be read"
-pub data Reason : Type 0 where
-  typeUnreadable : Reason
-  typeReserved : Reason
-  typeScrambled : Reason
-  wordUnreadable : Reason
-
-unfoldable pub number : Reason → ℕ
-number typeUnreadable = 28
-number typeReserved = 29
-number typeScrambled = 30
-number wordUnreadable = 31
-
 pub data Event : Type 0 where
   packet : ℕ → List ℕ → Event
-  refused : Reason → Event
+  refused : Fault → Event
   ended : Event
 
 -- "begins anew"
@@ -79,7 +66,7 @@ aged f = record { per = f .per; needs = f .needs; head = agedHead (f .head); unf
 
 unfoldable pub after : Event → Followed → Followed
 after (packet c bytes) f = moved (moveOf (f .per) (f .needs) (f .head .awaited) c) (c % f .per) bytes f
-after (refused r) f = dropped f
+after (refused r) f = cond (drops r) (dropped f) f
 after ended f = aged f
 
 unfoldable pub answer : Event → Followed → ℕ

@@ -13,14 +13,15 @@ use mathlib.Core.Path.{_≡_}
 use mathlib.Core.List.{List, [], _∷_, _++_}
 use mathlib.Core.Logic.{_⊎_}
 use Prim.Native.Nat.{ℕ, zero, suc, _+_, _*_, _≤_, _<_}
-use Rattle.history.specs.Followed.{Reason, Event, packet, refused, ended}
+use Rattle.faults.specs.Faults.{Fault}
+use Rattle.history.specs.Followed.{Event, packet, refused, ended}
 
 abbrev pub Sent : Type 0
 Sent = ℕ → ℕ → List ℕ
 
 pub data Arrival : Type 0 where
   came : ℕ → ℕ → Arrival
-  damaged : ℕ → ℕ → Reason → Arrival
+  damaged : ℕ → ℕ → Fault → Arrival
   subframeEnd : Arrival
 
 unfoldable pub event : Sent → Arrival → Event

@@ -31,6 +31,7 @@ use Rattle.image.proofs.Laws.{bytes-length}
 use Rattle.words.specs.Protected.{dataRead}
 use Rattle.words.specs.declared.Data.{Data}
 use Rattle.words.proofs.Each.{read-length}
+use Rattle.faults.specs.Faults.{unreadables, Numbered}
 use Rattle.packet.specs.Received.{typeOf, usefulOf, unreadable, receivedNumber, receivedBytes, filled, received, refusedAs, partAs, dataAs}
 use Rattle.packet.specs.Damage.{Refused}
 use Rattle.packet.specs.declared.Reading.{Reading}
@@ -184,14 +185,14 @@ received-length p s = filled-length (receivedNumber p s) (receivedBytes p s) (by
 pub received-either : (p : Bool) (s : List ℕ) → length s ≡ 94 → (received p s .number ≡ 0) ⊎ Refused (received p s)
 unfolding received refusal
 received-either p s l =
-    subst (λ (n : ℕ). (n ≡ 0) ⊎ ((n ≡ 28) ⊎ ((n ≡ 29) ⊎ ((n ≡ 30) ⊎ (n ≡ 31))))) (sym (typed p s l))
+    subst (λ (n : ℕ). (n ≡ 0) ⊎ Numbered unreadables n) (sym (typed p s l))
     (go (leb 256 (typeOf s)) (eqb (typeOf s) 0x3F) (eqb (typeOf s) 0xC7) (eqb (typeOf s) 0xF8) (unreadable p (usefulOf s)))
   where
     go : (a b c d e : Bool) → let n = refusal (row a 28 ∷ row b 29 ∷ row c 29 ∷ row d 30 ∷ row e 31 ∷ []) in
-        (n ≡ 0) ⊎ ((n ≡ 28) ⊎ ((n ≡ 29) ⊎ ((n ≡ 30) ⊎ (n ≡ 31))))
+        (n ≡ 0) ⊎ Numbered unreadables n
     go true b c d e = inr (inl refl)
     go false true c d e = inr (inr (inl refl))
-    go false false true d e = inr (inr (inl refl))
-    go false false false true e = inr (inr (inr (inl refl)))
-    go false false false false true = inr (inr (inr (inr refl)))
+    go false false true d e = inr (inr (inr (inl refl)))
+    go false false false true e = inr (inr (inr (inr (inl refl))))
+    go false false false false true = inr (inr (inr (inr (inr (inl refl)))))
     go false false false false false = inl refl

@@ -172,11 +172,11 @@ by-type p t l = unread (decLt (typeOf t) 256)
     numbered n r e q = ap (λ (x : Reading). x .number) e ∙ q
 
     scrambled : typeOf t < 256 → (typeOf t ≡ 0x3F → ⊥) → (typeOf t ≡ 0xC7 → ⊥) → Dec (typeOf t ≡ 0xF8) → Refused (received p t) ⊎ IsData t
-    scrambled h a b (yes e) = inl (inr (inr (inl (numbered 30 (refusedAs 30 0) (answer-scrambled p t l e) refl))))
+    scrambled h a b (yes e) = inl (inr (inr (inr (inl (numbered 30 (refusedAs 30 0) (answer-scrambled p t l e) refl)))))
     scrambled h a b (no e) = inr (isData t (typeOf t) l h refl a b e)
 
     reserved : typeOf t < 256 → (typeOf t ≡ 0x3F → ⊥) → Dec (typeOf t ≡ 0xC7) → Refused (received p t) ⊎ IsData t
-    reserved h a (yes e) = inl (inr (inl (numbered 29 (refusedAs 29 0) (answer-reserved p t l e) refl)))
+    reserved h a (yes e) = inl (inr (inr (inl (numbered 29 (refusedAs 29 0) (answer-reserved p t l e) refl))))
     reserved h a (no e) = scrambled h a e (ℕ-discrete (typeOf t) 0xF8)
 
     control : typeOf t < 256 → Dec (typeOf t ≡ 0x3F) → Refused (received p t) ⊎ IsData t
@@ -195,7 +195,7 @@ data-came false t d i is e l b kept =
 data-came true t d i is e l b kept = go (decLt (dataRead (usefulOf t) .place) 30)
   where
     go : Dec (dataRead (usefulOf t) .place < 30) → (received true t ≡ partAs i d) ⊎ Refused (received true t)
-    go (yes h) = inr (inr (inr (inr (ap (λ (x : Reading). x .number) (answer-protected t is ∙ data-short (indexOf t) (dataRead (usefulOf t)) h)))))
+    go (yes h) = inr (inr (inr (inr (inr (inl (ap (λ (x : Reading). x .number) (answer-protected t is ∙ data-short (indexOf t) (dataRead (usefulOf t)) h)))))))
     go (no h) =
         let whole : failed (informations (wordsOf (usefulOf t))) ≡ 30 = whole-of (usefulOf t) (omega (arith, h)) in
         inl (answer-protected t is ∙ data-whole (indexOf t) (dataRead (usefulOf t)) (omega arith)

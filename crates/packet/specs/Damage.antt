@@ -5,18 +5,18 @@
 --   carried p d      the useful bytes that carry them
 --   sentImage ..     the image of a data packet, type byte 00
 --   Came p s t       t came of the sent image s
---   Refused r        a refusal 28 to 31, by name
+--   Refused r        a refusal by one of the faults that are seen in a packet
 --   Corrected p s t  t came of s with no more than the codes correct: three flips in the header and in each word, two in
 --                    the type byte
 use mathlib.Core.Path.{_≡_}
 use mathlib.Core.Bool.{Bool, true, false}
 use mathlib.Core.List.{List}
-use mathlib.Core.Logic.{_⊎_}
 use Prim.Native.Nat.{ℕ, _≤_, _<_}
 use lib.ListN.{length, getD}
 use Rattle.bits.specs.Bits.{flips}
 use Rattle.image.specs.Image.{headerOf, bytesOf}
 use Rattle.words.specs.Protected.{protected, wordsOf}
+use Rattle.faults.specs.Faults.{unreadables, Numbered}
 use Rattle.packet.specs.Received.{usefulOf, written}
 use Rattle.packet.specs.declared.Reading.{Reading}
 
@@ -48,4 +48,4 @@ pub record Corrected (p : Bool) (s t : List ℕ) : Type 0 where
   pub useful : Kept 3 p (usefulOf s) (usefulOf t)
 
 abbrev pub Refused : Reading → Type 0
-Refused r = (r .number ≡ 28) ⊎ ((r .number ≡ 29) ⊎ ((r .number ≡ 30) ⊎ (r .number ≡ 31)))
+Refused r = Numbered unreadables (r .number)

@@ -2,6 +2,7 @@
 -- written.
 --
 --   typeOf s, usefulOf s           the type that the first of the 91 bytes is read as, 256 where none; the 90 others
+--   hasFault protected s f         which of the faults it has
 --   receivedNumber protected s     20, 28, 29, 30, 31 in this order, otherwise 0
 --   receivedBytes protected s      the 90 useful bytes, or the 45 of protected data
 --   received protected s           number, place of the word that made it 31, index, bytes with 0 behind them
@@ -18,6 +19,7 @@ use Rattle.golay.specs.Code.{word23}
 use Rattle.image.specs.Image.{headerOf, bytesOf, imageOf}
 use Rattle.words.specs.Protected.{dataRead}
 use Rattle.words.specs.declared.Data.{Data}
+use Rattle.faults.specs.Faults.{Fault, typeUnreadable, typeControl, typeReserved, typeScrambled, wordUnreadable, outOfStep, unreadables, rowsBy}
 use Rattle.packet.specs.declared.Reading.{Reading}
 
 unfoldable pub typeOf : List ℕ → ℕ
@@ -31,16 +33,18 @@ unfoldable pub unreadable : Bool → List ℕ → Bool
 unreadable false useful = false
 unreadable true useful = ltb (dataRead useful .place) 30
 
+-- which of the faults a packet has; whether it is in step is the slot's to say
+abbrev pub hasFault : Bool → List ℕ → Fault → Bool
+hasFault protected s typeUnreadable = leb 256 (typeOf s)
+hasFault protected s typeControl = eqb (typeOf s) 0x3F
+hasFault protected s typeReserved = eqb (typeOf s) 0xC7
+hasFault protected s typeScrambled = eqb (typeOf s) 0xF8
+hasFault protected s wordUnreadable = unreadable protected (usefulOf s)
+hasFault protected s outOfStep = false
+
 unfoldable pub receivedNumber : Bool → List ℕ → ℕ
 receivedNumber protected s =
-    refusal
-    (row (not (eqb (length s) 94)) 20
-    ∷ row (leb 256 (typeOf s)) 28
-    ∷ row (eqb (typeOf s) 0x3F) 29
-    ∷ row (eqb (typeOf s) 0xC7) 29
-    ∷ row (eqb (typeOf s) 0xF8) 30
-    ∷ row (unreadable protected (usefulOf s)) 31
-    ∷ [])
+    refusal (row (not (eqb (length s) 94)) 20 ∷ rowsBy (hasFault protected s) unreadables)
 
 unfoldable pub receivedBytes : Bool → List ℕ → List ℕ
 receivedBytes false s = usefulOf s

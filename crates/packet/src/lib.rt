@@ -9,6 +9,7 @@ ghost use Rattle.words.specs.Protected.{dataRead};
 ghost use Rattle.packet.specs.Received.{received, written, refusedAs, partAs, dataAs};
 use bare::Header;
 use bare::TypeByte;
+use faults::Faults;
 use image::Packet;
 use words::Data;
 
@@ -50,17 +51,17 @@ pub fn received_by(patterns: &[u32], header: Header, protected: bool, image: &[u
     let bytes = image::bytes(image);
     let kind = bare::read_type(bytes[0]);
     if kind.number != 0 {
-        return refused(28, 0);
+        return refused(Faults::TYPE_UNREADABLE, 0);
     }
     let value = kind.value;
     if value == TypeByte::CONTROL {
-        return refused(29, 0);
+        return refused(Faults::TYPE_CONTROL, 0);
     }
     if value == TypeByte::RESERVED {
-        return refused(29, 0);
+        return refused(Faults::TYPE_RESERVED, 0);
     }
     if value == TypeByte::SCRAMBLED {
-        return refused(30, 0);
+        return refused(Faults::TYPE_SCRAMBLED, 0);
     }
     if protected {
         unprotected(patterns, header.index, &bytes[1..91])
@@ -109,7 +110,7 @@ fn unprotected(patterns: &[u32], index: u8, useful: &[u8]) -> Reading
     let data = words::unprotect(patterns, useful);
     let place = data.place;
     if place < Data::ALL {
-        return refused(31, place);
+        return refused(Faults::WORD_UNREADABLE, place);
     }
     let bytes = data.bytes;
     part(index, &bytes)

@@ -22,8 +22,8 @@ taken-long c = length-take-le _ (start c .args .reading .bytes) (omega (arith, s
 
 -- ---- the answers
 
-dropped-requires : tie.Need-dropped-requires
-dropped-requires c κs = search needs
+refused-requires : tie.Need-refused-requires
+refused-requires c κs = search needs
 
 same-length : tie.Need-same-length
 same-length c = search needs
@@ -33,7 +33,7 @@ returns c =
     let test = c .before .before .before .before in
     let s = test .before .before in
     let t = taken-refused (s .args .reading) (s .args .head) (s .args .slot .now) (s .pre .1 .0) (test .if1 .taken) in
-    (t .0, c .before .before .dropped .ensures ∙ t .1)
+    (t .0, c .before .before .refused .ensures ∙ t .1)
 
 block-requires : tie.Need-block-requires
 block-requires c κs = search needs
@@ -65,7 +65,7 @@ pub taken-spec : {M : Type 1} → statement M
 taken-spec =
     tie.close
     (tie.spec
-    dropped-requires
+    refused-requires
     same-length
     returns
     block-requires
