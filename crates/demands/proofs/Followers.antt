@@ -39,7 +39,7 @@ use Rattle.demands.specs.Table.{Good, addressAfter, member, without, tak
 use Rattle.demands.proofs.Numbers.{among, in-among, rows-in}
 use Rattle.demands.proofs.Numbered.{ask-answers}
 use Rattle.demands.proofs.Counting.{count, count-le, count-agree, count-one, count-none, count-all, count-some, Distinct, without-none, without-other, without-gone, without-length, without-distinct}
-use Rattle.demands.proofs.Serving.{Serves, here-bounds, here-address, here-wish}
+use Rattle.demands.proofs.Serving.{Serves, here-address, here-wish}
 use Rattle.demands.proofs.Parts.{by-place}
 use Rattle.demands.proofs.First.{begins, placed-in}
 use Rattle.demands.proofs.Tables.{blank-state, end-passed, either, keeps-good, keeps-addresses}

@@ -3,6 +3,7 @@
 --   answers-same        where the answer is what the order gives
 --   slot-answers        28 to 32 and 1 to 3, by the tests of their rows
 --   packet-answers, ask-answers, question-answers, numbered     the calls on a state
+--                       follow's written rows are those that its contract cites of the crate head, by computation
 --   write-answers, bare-answers               the group writer, and the bare calls
 --
 -- Assumes nothing.

@@ -36,7 +36,7 @@ use Rattle.group.specs.Group.{takenNumber, takenAfter}
 use Rattle.adapter.specs.Calls.{addressOf, followed, unplaced, readingAt, slotAnswer, slotAfter, packetAnswer, packetAfter}
 use Rattle.adapter.proofs.Laws.{followed-both, Placed, placed, placed-zero, packet-placed}
 use Rattle.demands.specs.Seen.{lastIn, seenIn}
-use Rattle.demands.proofs.Serving.{Serves, view, here-size, here-address, here-good, here-bounds, here-wish}
+use Rattle.demands.proofs.Serving.{Serves, view, here-size, here-address, here-good, here-wish}
 use Rattle.demands.proofs.Acting.{taken-does}
 use Rattle.demands.proofs.Calling.{passed}
 

@@ -43,7 +43,7 @@ use Rattle.adapter.proofs.Writing.{packet-length, write-0}
 use Rattle.demands.specs.Machine.{packet, ours, ourAnswer, ourAfter, Bytes, run, questionAnswer}
 use Rattle.demands.specs.Demand2.{Follows, Writable, imageAt, Sound, answersTo, packets, ReadBack, Demand2}
 use Rattle.demands.specs.Seen.{eventOf, seenIn}
-use Rattle.demands.proofs.Serving.{Serves, view, Kept, here-bounds, here-address, here-wish}
+use Rattle.demands.proofs.Serving.{Serves, view, Kept, here-address, here-wish}
 use Rattle.demands.proofs.Acting.{event-read, protectedAt}
 use Rattle.demands.proofs.Calling.{Arrives, arrives-placed, answer-here, packet-here}
 use Rattle.demands.proofs.Parts.{ask-here, shown-here, followed-serves, placed-others}

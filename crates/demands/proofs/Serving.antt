@@ -3,6 +3,7 @@
 --   Serves s a       a good state that follows the address
 --   view s a         the address as its slot has it
 --   Kept t a f       t still follows it, and it is f there
+--   here-bounds      what its slot's head keeps to; here-wish: and the wish in it
 --   change-here      a change of its own slot
 --   change-apart     a change of others
 --   ages-at          what a subframe's end leaves of each slot; ages-long: no byte more or less

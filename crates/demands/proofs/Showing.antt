@@ -40,7 +40,7 @@ use Rattle.history.specs.Followed as one
 use Rattle.history.specs.Transcript.{drops, told, isWhole, anyWhole, sinceWhole, ends, before, marks, marked, called}
 use Rattle.adapter.specs.Calls.{addressOf, followed, packetAnswer}
 use Rattle.adapter.proofs.Laws.{both-followed}
-use Rattle.demands.specs.Machine.{Call, follow, packet, asks, ask, ours, ourAnswer, ourAfter, Bytes, run, questionAnswer}
+use Rattle.demands.specs.Machine.{Call, follow, packet, asks, ours, ourAnswer, ourAfter, Bytes, run, questionAnswer}
 use Rattle.demands.specs.Rows.{indexOf}
 use Rattle.demands.specs.Seen.{arrivesAt, eventOf, eventsAt, eventsOf, by, seenIn, marksBy, marksOf, latest}
 use Rattle.demands.specs.Demand2.{Follows}

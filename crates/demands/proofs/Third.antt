@@ -3,6 +3,7 @@
 --   goes-as, goes-from     at every moment, from any state that follows the address
 --   begun-goes             so from an accepted follow on
 --   exact, missed          what is handed out, and what ask says, where the channel is as supposed
+--   question-alike         what a call that only reads answers, in two states in which the address is the same
 --   alike                  two states in which the address is the same answer all that concerns it alike
 --   demand-3               ours
 --
@@ -12,10 +13,9 @@ use mathlib.Core.Bool.{Bool, true, false, cond, not}
 use mathlib.Core.List.{List, [], _∷_}
 use Prim.Native.Nat.{ℕ, _≤_}
 use native.Mathlib.Omega.{arith}
-use borrow.Author.Tests.{eq-eqb, eqb-true, leb-true, lt-ltb}
-use lib.Dec.{T, leb, ltb, eqb}
+use borrow.Author.Tests.{eq-eqb, eqb-true, lt-ltb}
+use lib.Dec.{T, ltb, eqb}
 use Rattle.bits.specs.Rows.{Row, row, refusal}
-use Rattle.bits.proofs.Search.{and-left, and-right}
 use Rattle.head.specs.Head.{wishRows, shown}
 use Rattle.head.specs.declared.Wish.{Wish}
 use Rattle.head.proofs.Bounds.{WishBounds, wish-bounds}

@@ -8,6 +8,7 @@
 --   dropping         those that drop an unfinished group: 28 to 32
 --   Dropped k s t    slot k's unfinished room is 0, its gap marked, its awaited index 0; all else of the state s is in t as it was
 --   AllZero ns       each is 0
+--   DroppedBy x s t  so by a packet at an address that is followed, and by no other call; all that only read are one case
 --   Demand1 m
 use mathlib.Core.Path.{_≡_}
 use mathlib.Core.Bool.{true}

@@ -5,6 +5,8 @@
 -- order, the first one after damage among them. The last of them is called fresh exactly while fewer subframes than its limit
 -- have ended since it was handed out and no gap has been marked since. Packets for other addresses alter none of this."
 --
+-- The calls that only read change nothing: they are one case, `asks q`, in all that follows.
+--
 --   Stays a x              a call that neither leaves the address nor starts
 --   Carries p sent         what is sent are packets of 90 bytes, or of 45 protected ones
 --   Lost image             refused with 20 or 21: it counts as lost
@@ -15,6 +17,7 @@
 --   handedOut m a h s      what ask shows of the address after each answer 3 to a packet read as it
 --   Goes m a f t s         what the machine answers and shows at the address from state s on, where the address is there as f says, and
 --                          t is its transcript so far
+--   concerns a x           a call that concerns the address; one that only reads by the address of its question
 --   only a h               the calls that concern the address; answersAt: the answers to them
 --   Demand3 m
 use mathlib.Core.Path.{_≡_}

@@ -1,4 +1,5 @@
--- Machines that would harm a board, each ours but for one thing. Each is to be refuted by the demands themselves.
+-- Machines that would harm a board, each ours but for one thing. Each is to be refuted by the demands themselves. Another answer to ask is
+-- one to that question alone (`asking`).
 --
 --   torn           while index 1 to 3 is awaited, ask shows 360 zeros and still answers 5
 --   silent         damage is answered 0, drops the open group and marks no gap

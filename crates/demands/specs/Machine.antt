@@ -2,13 +2,14 @@
 -- says how a machine keeps what it knows.
 --
 --   Question        what a call that only reads asks of a lent state; askedOf: the address that it is about
---   Call            a call on a lent state: those that change it, and every reading as one, so that what is said of changes has one case
---                   for all readings
+--   Call            a call on a lent state; those that only read are one case, `asks q`, in all that is said of changes, and what they
+--                   answer goes by the question
 --   Bare            a bare call, numbers in and numbers out
 --   bareNumber, bareValues     what a bare call gives by the definitions of the standard
 --   Board           what board text gives: number, text, and what was lent, afterwards
 --   Machine         answer and state after each call; the part that ask shows of an address; board text; the group writer; the bare
 --                   calls
+--   questionAnswer  what a call that only reads answers, by the same definitions as ours
 --   ours            the definitions that the contracts of the crates table, asking and adapter cite
 --   Bytes s         a list of bytes
 --   run m h s       the state after a list of calls, in order
@@ -21,7 +22,7 @@ use Rattle.table.specs.Calls.{startAnswer, startAfter, followAnswer, followAfte
 use Rattle.asking.specs.Asking.{asked, askPart, boardText}
 use Rattle.adapter.specs.Calls.{packetAnswer, packetAfter, writeAnswer, writeAfter}
 
--- of an address
+-- by the address
 pub data Question : Type 0 where
   ask : ℕ → Question
 

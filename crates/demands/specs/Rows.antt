@@ -2,11 +2,13 @@
 -- row in its order holds, and with the first such; otherwise it is accepted": then its answer is one of the call's own numbers.
 --
 -- The numbers and the order stand here once more, beside those that the contracts cite, so that no row can change with the code unseen.
+-- So it is with follow's: its wish has rows of its own in the crate head, and they are not cited here. That both are the same is proved.
 --
 --   holds s a             a slot of the state has the address; of 0: a slot is free
+--   wishRows w taken full     follow's rows behind those of the state; addressRows: those of a call that names an address
 --   rowsOf x s            a call on a state
 --   ownNumbers x          what it answers where none of its rows holds
---   questionRows, questionNumbers     the same of a call that only reads
+--   questionRows, questionNumbers     the same of a call that only reads, by its question
 --   writeRows, bareRows   the group writer, and the single readers and writers
 --   Answers rows own n    the number n is the first row's that holds, or where none does one of the call's own
 use mathlib.Core.Path.{_≡_}
@@ -42,12 +44,7 @@ stateRows s rest = row (not (eqb (length s) 11776)) 20 ∷ row (not (good s)) 34
 -- slot", the last two by what is followed and what is free
 abbrev pub wishRows : Wish → Bool → Bool → List Row
 wishRows w taken full =
-    row (not (within 1 1022 (w .address))) 22
-    ∷ row (ltb 1 (w .protection)) 23
-    ∷ row (not (within 1 1500 (w .limit))) 24
-    ∷ row taken 25
-    ∷ row full 26
-    ∷ []
+    row (not (within 1 1022 (w .address))) 22 ∷ row (ltb 1 (w .protection)) 23 ∷ row (not (within 1 1500 (w .limit))) 24 ∷ row taken 25 ∷ row full 26 ∷ []
 
 -- 22, 27 "address not followed"
 abbrev pub addressRows : ℕ → Bool → List Row

@@ -1,5 +1,5 @@
 -- What calls are to one followed address: which images reach it and what they are received as, and what its slot's own marks say. Nothing
--- here looks at a machine's answers.
+-- here looks at a machine's answers. A call that only reads is no event.
 --
 --   arrivesAt a image     the image has 94 bytes, its spare bit is 0, and it is read as the address
 --   eventOf p image       what it is there: a readable data packet, or refused with 28 to 31

@@ -1,8 +1,10 @@
 -- The table of followed addresses is the history's: what follow and leave made of it and nothing else (document 01, sections 3 and 6).
+-- The calls that only read are one case that changes nothing.
 --
 --   Good s                  a good state of the right length
 --   addressAfter x s k      the address of slot k after a call: "Follow takes the lowest free slot", "Leave sets the slot to 0"
 --   member a l              an address is one of a list
+--   taken w l               a follow of which no row holds, written out once more, where the addresses of l are followed
 --   followNow x l           the addresses that are followed after a call, where those of l were before it
 --   followedAfter h l       and after a list of calls; from a start on l is []
 --   ByHistory m l t         what the calls answer on a state t in which the addresses of l are followed
@@ -49,7 +51,7 @@ unfoldable pub without : ℕ → List ℕ → List ℕ
 without a [] = []
 without a (b ∷ l) = cond (eqb a b) l (b ∷ without a l)
 
--- a follow that is accepted
+-- a follow that is accepted: address 1 to 1,022, protection 0 or 1, limit 1 to 1,500, not followed yet, and fewer than sixteen are
 unfoldable pub taken : Wish → List ℕ → Bool
 taken w l =
     within 1 1022 (w .address) && (leb (w .protection) 1 && (within 1 1500 (w .limit) && (not (member (w .address) l) && ltb (length l) 16)))
