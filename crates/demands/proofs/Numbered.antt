@@ -3,7 +3,7 @@
 --   answers-same        where the answer is what the order gives
 --   slot-answers        28 to 32 and 1 to 3, by the tests of their rows
 --   packet-answers, ask-answers, question-answers, numbered     the calls on a state
---                       follow's written rows are those that its contract cites of the crate head, by computation
+--   follow-rows         follow's rows, as they are written out, are those that its contract cites
 --   write-answers, bare-answers               the group writer, and the bare calls
 --
 -- Assumes nothing.
@@ -30,6 +30,7 @@ use Rattle.slot.specs.Slot.{headOf}
 use Rattle.head.specs.Head.{shown, within}
 use Rattle.head.specs.Move.{started, held, whole, outOfStep, perOf, needsOf, rowOf, moveOf, moveNumber}
 use Rattle.head.specs.declared.Head.{Head}
+use Rattle.head.specs.declared.Wish.{Wish}
 use Rattle.table.specs.State.{slotAt, find}
 use Rattle.table.specs.Calls.{startAnswer, followAnswer, leaveAnswer, endAnswer}
 use Rattle.asking.specs.Asking.{askedAt, askedBy, asked}
@@ -194,10 +195,15 @@ question-answers (ask a) s = ask-answers _ s a refl
 
 -- ---- the calls
 
+-- follow's rows as they are written out are those that its contract cites, the wish's of the crate head
+follow-rows : (s : List ℕ) (w : Wish) → followAnswer s w ≡ refusal (rowsOf (follow w) s)
+unfolding followAnswer rowsOf
+follow-rows s w = refl
+
 pub numbered : (x : Call) (s : List ℕ) → Answers (rowsOf x s) (ownNumbers x) (ourAnswer x s)
-unfolding ourAnswer rowsOf ownNumbers startAnswer followAnswer leaveAnswer endAnswer
+unfolding ourAnswer rowsOf ownNumbers startAnswer leaveAnswer endAnswer
 numbered start s = answers-same _ _ refl
-numbered (follow w) s = answers-same _ _ refl
+numbered (follow w) s = answers-same _ _ (follow-rows s w)
 numbered (leave a) s = answers-same _ _ refl
 numbered (packet image) s = packet-answers s image
 numbered subframeEnd s = answers-same _ _ refl

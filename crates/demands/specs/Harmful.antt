@@ -160,8 +160,10 @@ halfStarted = but ourAnswer (leaving (roomless slots 0) followed left taken endA
 
 abbrev pub crowd : ℕ → ℕ → List Call
 crowd p l =
-    follow (wishOf 501 p l) ∷ follow (wishOf 502 p l) ∷ follow (wishOf 503 p l) ∷ follow (wishOf 504 p l) ∷ follow (wishOf 505 p l) ∷ follow (wishOf 506 p l) ∷ follow (wishOf 507 p l) ∷ follow (wishOf 508 p l)
-    ∷ follow (wishOf 509 p l) ∷ follow (wishOf 510 p l) ∷ follow (wishOf 511 p l) ∷ follow (wishOf 512 p l) ∷ follow (wishOf 513 p l) ∷ follow (wishOf 514 p l) ∷ follow (wishOf 515 p l) ∷ follow (wishOf 516 p l)
+    follow (wishOf 501 p l) ∷ follow (wishOf 502 p l) ∷ follow (wishOf 503 p l) ∷ follow (wishOf 504 p l)
+    ∷ follow (wishOf 505 p l) ∷ follow (wishOf 506 p l) ∷ follow (wishOf 507 p l) ∷ follow (wishOf 508 p l)
+    ∷ follow (wishOf 509 p l) ∷ follow (wishOf 510 p l) ∷ follow (wishOf 511 p l) ∷ follow (wishOf 512 p l)
+    ∷ follow (wishOf 513 p l) ∷ follow (wishOf 514 p l) ∷ follow (wishOf 515 p l) ∷ follow (wishOf 516 p l)
     ∷ []
 
 abbrev pub greedy : Machine
