@@ -39,7 +39,7 @@ use Rattle.history.specs.Followed.{Reason, typeUnreadable, typeReserved, typeSc
 use Rattle.history.specs.Followed as one
 use Rattle.adapter.specs.Calls.{addressOf, readingAt}
 use Rattle.table.specs.State.{slotAt, find}
-use Rattle.demands.specs.Machine.{Call, start, follow, leave, packet, subframeEnd, ask}
+use Rattle.demands.specs.Machine.{Call, start, follow, leave, packet, subframeEnd, asks}
 use Rattle.demands.specs.Seen.{reasonOf, eventBy, eventOf, seenIn}
 use Rattle.demands.proofs.View.{view-moved, view-dropped}
 
@@ -58,9 +58,9 @@ refused-not-zero r (inr (inl e)) z = omega (arith, e, z)
 refused-not-zero r (inr (inr (inl e))) z = omega (arith, e, z)
 refused-not-zero r (inr (inr (inr e))) z = omega (arith, e, z)
 
-block-size : (h : Head) → dataSize (eqb (h .protection) 1) ≡ blockOf h
+block-size : (h : Head) → dataSize (eqb (h .wish .protection) 1) ≡ blockOf h
 unfolding blockOf
-block-size h = go (eqb (h .protection) 1)
+block-size h = go (eqb (h .wish .protection) 1)
   where
     go : (b : Bool) → dataSize b ≡ cond b 45 90
     go true = refl
@@ -84,12 +84,12 @@ event-refused p image ne = go (received p image .number) ne
 pub record Does (e : Event) (x y : List ℕ) (n : ℕ) : Type 0 where
   pub size : length y ≡ 736
   pub good : goodSlot y ≡ true
-  pub address : headOf y .address ≡ headOf x .address
+  pub address : headOf y .wish .address ≡ headOf x .wish .address
   pub seen : seenIn y ≡ after e (seenIn x)
   pub number : n ≡ answer e (seenIn x)
 
 -- the address is none of what a row changes
-moved-address : (mv : Move) (h : Head) → movedHead mv h .address ≡ h .address
+moved-address : (mv : Move) (h : Head) → movedHead mv h .wish .address ≡ h .wish .address
 unfolding movedHead
 moved-address started h = refl
 moved-address held h = refl
@@ -98,7 +98,7 @@ moved-address outOfStep h = refl
 
 module _ (x image : List ℕ) (l : length x ≡ 736) (g : goodHead (headOf x) ≡ true) where
   abbrev p : Bool
-  p = eqb (headOf x .protection) 1
+  p = eqb (headOf x .wish .protection) 1
 
   abbrev r : Reading
   r = received p image
@@ -127,7 +127,7 @@ module _ (x image : List ℕ) (l : length x ≡ 736) (g : goodHead (headOf x) �
       record {
         size = ap length e ∙ moved-size mv place b x fits;
         good = good-slot (takenAfter r x) (ap goodHead h ∙ moved-good mv place b x fits);
-        address = ap (λ (y : Head). y .address) h ∙ moved-address mv (headOf x);
+        address = ap (λ (y : Head). y .wish .address) h ∙ moved-address mv (headOf x);
         seen = ap seenIn e ∙ view-moved mv place b x fits;
         number = further-passed (r .number) _ z;
       }
@@ -141,7 +141,7 @@ module _ (x image : List ℕ) (l : length x ≡ 736) (g : goodHead (headOf x) �
       record {
         size = ap length e ∙ dropped-size x l g;
         good = good-slot (takenAfter r x) (ap goodHead h ∙ good-dropped (headOf x) g);
-        address = ap (λ (y : Head). y .address) h;
+        address = ap (λ (y : Head). y .wish .address) h;
         seen = ap seenIn e ∙ view-dropped x l g;
         number = further-refused (r .number) _ ne ∙ sym (reason-number r f);
       }
@@ -157,4 +157,4 @@ module _ (x image : List ℕ) (l : length x ≡ 736) (g : goodHead (headOf x) �
           (refused-does f)
 
 abbrev pub protectedAt : List ℕ → ℕ → Bool
-protectedAt s a = eqb (headOf (slotAt (find s a) s) .protection) 1
+protectedAt s a = eqb (headOf (slotAt (find s a) s) .wish .protection) 1

@@ -1,7 +1,7 @@
 -- Demand 1 for our calls: a refusal changes nothing but for 28 to 32, which drop the unfinished group of a followed address; what is
 -- lent to be read stays as it is.
 --
---   start-in .. ask-in             so the numbers of each call but a packet: 0, 4 to 7, and those that change nothing
+--   start-in .. question-in        so the numbers of each call but a packet: 0, 4 to 7, and those that change nothing
 --   refused-in-plain, placed-in    a packet's: those, or where it is placed 1 to 3 and 28 to 32
 --   placed-drops                   and 28 to 32 drop
 --   valueless                      0 beside a bare call's refusal
@@ -29,6 +29,7 @@ use Rattle.slot.specs.Slot.{headOf, unfinished, stored}
 use Rattle.head.specs.Head.{shown}
 use Rattle.head.specs.Move.{Move, started, held, whole, outOfStep, moveNumber, rowAt, placeAt}
 use Rattle.head.specs.declared.Head.{Head}
+use Rattle.head.specs.declared.Wish.{Wish}
 use Rattle.table.specs.State.{stateSize, slotAt, find}
 use Rattle.table.specs.Calls.{startAnswer, startAfter, followAnswer, followAfter, leaveAnswer, leaveAfter, endAnswer, endAfter}
 use Rattle.table.proofs.Doing.{start-passed}
@@ -41,7 +42,7 @@ use Rattle.group.proofs.Doing.{out-drops}
 use Rattle.history.specs.Sent.{In}
 use Rattle.adapter.specs.Calls.{addressOf, unplaced, readingAt, packetAnswer, packetAfter, writeAnswer, writeAfter}
 use Rattle.adapter.proofs.Laws.{Placed, packet-refused}
-use Rattle.demands.specs.Machine.{Call, start, follow, leave, packet, subframeEnd, ask, ours, ourAnswer, ourAfter, ourBoard, Bare, readHeader, writeHeader, readWord, writeWord, readType, writeType, bareNumber, bareValues}
+use Rattle.demands.specs.Machine.{Call, start, follow, leave, packet, subframeEnd, asks, ask, Question, ours, questionAnswer, ourAnswer, ourAfter, ourBoard, Bare, readHeader, writeHeader, readWord, writeWord, readType, writeType, bareNumber, bareValues}
 use Rattle.demands.specs.Demand1.{unchanging, dropping, Dropped, DroppedBy, Demand1, AllZero}
 use Rattle.demands.proofs.Numbers.{among-in, in-among, in-every, in-none, rows-in}
 use Rattle.demands.proofs.Numbered.{numbered, write-answers, bare-answers}
@@ -62,9 +63,9 @@ start-in : (s : List ℕ) → In (startAnswer s) plain
 unfolding startAnswer
 start-in s = rows-in _ plain tt
 
-follow-in : (s : List ℕ) (a p l : ℕ) → In (followAnswer s a p l) plain
+follow-in : (s : List ℕ) (w : Wish) → In (followAnswer s w) plain
 unfolding followAnswer
-follow-in s a p l = rows-in _ plain tt
+follow-in s w = rows-in _ plain tt
 
 leave-in : (s : List ℕ) (a : ℕ) → In (leaveAnswer s a) plain
 unfolding leaveAnswer
@@ -80,7 +81,7 @@ unplaced-in s image = rows-in _ plain tt
 
 shown-in : (h : Head) → In (shown h) plain
 unfolding shown
-shown-in h = go (eqb (h .group) 0) (leb (h .limit) (h .age)) (eqb (h .gap) 1)
+shown-in h = go (eqb (h .group) 0) (leb (h .wish .limit) (h .age)) (eqb (h .gap) 1)
   where
     go : (a b c : Bool) → In (cond a 4 (cond b 7 (cond c 6 5))) plain
     go true b c = among-in 4 plain tt
@@ -98,6 +99,11 @@ ask-in s a = go (leaveAnswer s a) (leave-in s a)
     go : (n : ℕ) → In n plain → In (askedBy n found .number) plain
     go zero h = subst (λ (n : ℕ). In n plain) (sym (asked-number (find s a) _)) (shown-in _)
     go (suc n) h = h
+
+-- so of every call that only reads
+question-in : (q : Question) (s : List ℕ) → In (questionAnswer q s) plain
+unfolding questionAnswer
+question-in (ask a) s = ask-in s a
 
 move-in : (mv : Move) → In (moveNumber mv) placedNumbers
 unfolding moveNumber
@@ -177,22 +183,22 @@ done-unchanged n now s h = done-refused n now s (λ z. in-among 0 unchanging (su
 unchanged : (x : Call) (s : List ℕ) → In (ourAnswer x s) unchanging → ourAfter x s ≡ s
 unfolding ourAnswer ourAfter startAfter followAfter leaveAfter endAfter
 unchanged start s h = done-unchanged (startAnswer s) _ s h
-unchanged (follow a p l) s h = done-unchanged (followAnswer s a p l) _ s h
+unchanged (follow w) s h = done-unchanged (followAnswer s w) _ s h
 unchanged (leave a) s h = done-unchanged (leaveAnswer s a) _ s h
 unchanged (packet image) s h =
     by-place s image (λ ne. packet-refused s image ne .1) (λ p. absurd (in-none _ placedNumbers unchanging tt (placed-in s image p) h))
 unchanged subframeEnd s h = done-unchanged (endAnswer s) _ s h
-unchanged (ask a) s h = refl
+unchanged (asks q) s h = refl
 
 drops : (x : Call) (s : List ℕ) → In (ourAnswer x s) dropping → DroppedBy x s (ourAfter x s)
 unfolding ourAnswer ourAfter DroppedBy
 drops start s h = in-none _ plain dropping tt (start-in s) h
-drops (follow a p l) s h = in-none _ plain dropping tt (follow-in s a p l) h
+drops (follow w) s h = in-none _ plain dropping tt (follow-in s w) h
 drops (leave a) s h = in-none _ plain dropping tt (leave-in s a) h
 drops (packet image) s h =
     by-place s image (λ ne. absurd (in-none _ plain dropping tt (refused-in-plain s image ne) h)) (λ p. (p .place, placed-drops s image p h))
 drops subframeEnd s h = in-none _ plain dropping tt (end-in s) h
-drops (ask a) s h = in-none _ plain dropping tt (ask-in s a) h
+drops (asks q) s h = in-none _ plain dropping tt (question-in q s) h
 
 unwritten : (a p : ℕ) (m o : List ℕ) → (writeAnswer a p (length m) (length o) ≡ 0 → ⊥) → writeAfter a p m o ≡ o
 unfolding writeAfter
@@ -219,8 +225,8 @@ valueless (writeType b) ne = (given-refused _ _ ne, tt)
 -- where there is a group, ask says 5, 6 or 7
 shown-with : (h : Head) → (h .group ≡ 0 → ⊥) → In (shown h) (5 ∷ 6 ∷ 7 ∷ [])
 unfolding shown In
-shown-with h ne = subst (λ (b : Bool). In (cond b 4 (cond (leb (h .limit) (h .age)) 7 (cond (eqb (h .gap) 1) 6 5))) (5 ∷ 6 ∷ 7 ∷ [])) (sym (ne-eqb (h .group) 0 ne))
-    (go (leb (h .limit) (h .age)) (eqb (h .gap) 1))
+shown-with h ne = subst (λ (b : Bool). In (cond b 4 (cond (leb (h .wish .limit) (h .age)) 7 (cond (eqb (h .gap) 1) 6 5))) (5 ∷ 6 ∷ 7 ∷ [])) (sym (ne-eqb (h .group) 0 ne))
+    (go (leb (h .wish .limit) (h .age)) (eqb (h .gap) 1))
   where
     go : (b c : Bool) → In (cond b 7 (cond c 6 5)) (5 ∷ 6 ∷ 7 ∷ [])
     go true c = inr (inr (inl refl))
@@ -249,7 +255,7 @@ unfolding startAfter
 begins s l = done-passed (startAnswer s) (blank stateSize) s (sym (start-passed s l))
 
 pub demand-1 : Demand1 ours
-unfolding ourAnswer ourAfter ourBoard
+unfolding questionAnswer ourAnswer ourAfter ourBoard
 demand-1 = record {
   numbered = numbered;
   writes = λ a p m o. write-answers a p (length m) (length o);
@@ -260,6 +266,6 @@ demand-1 = record {
   valueless = valueless;
   started = begins;
   empty = λ a s none. empty s a none;
-  asks = λ a s. refl;
+  reads = λ q s. refl;
   boards = λ a notice s. (refl, refl);
 }

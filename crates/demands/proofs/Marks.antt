@@ -111,7 +111,7 @@ mark-not m h = go (eqb m 0) refl
     go true e = eqb-true m 0 e
     go false e = let ne = eqb-false m 0 e in omega arith
 
-pub tells-marks : (h : Head) → Bounds h → Tells (h .limit) h (marksOf h)
+pub tells-marks : (h : Head) → Bounds h → Tells (h .wish .limit) h (marksOf h)
 unfolding marksOf
 tells-marks h b =
     let m = marked-as (ltb 0 (h .awaited)) (eqb (h .gap) 1) (eqb (h .group) 0) (h .age) in

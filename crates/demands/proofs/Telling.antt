@@ -28,7 +28,7 @@ use Rattle.history.proofs.Laws.{run-app}
 use Rattle.history.specs.Sent.{In}
 use Rattle.adapter.specs.Calls.{addressOf, unplaced, packetAnswer}
 use Rattle.adapter.proofs.Laws.{size-refused, spare-refused, packet-refused}
-use Rattle.demands.specs.Machine.{Call, start, follow, leave, packet, subframeEnd, ask, ours, ourAnswer, ourAfter, run}
+use Rattle.demands.specs.Machine.{Call, start, follow, leave, packet, subframeEnd, asks, ours, ourAnswer, ourAfter, run}
 use Rattle.demands.specs.Demand3.{Stays, AllStay, handsOut, handedOut}
 use Rattle.demands.specs.Seen.{arrivesAt, eventBy, eventOf, eventsAt, eventsOf, by, seenIn}
 use Rattle.demands.proofs.Serving.{Serves, view, Kept}
@@ -38,20 +38,20 @@ use Rattle.demands.proofs.Parts.{shown-here}
 
 -- ---- the protection stays
 
-moved-protection : (mv : Move) (h : Head) → movedHead mv h .protection ≡ h .protection
+moved-protection : (mv : Move) (h : Head) → movedHead mv h .wish .protection ≡ h .wish .protection
 unfolding movedHead
 moved-protection started h = refl
 moved-protection held h = refl
 moved-protection whole h = refl
 moved-protection outOfStep h = refl
 
-pub after-protection : (e : one.Event) (f : one.Followed) → one.after e f .head .protection ≡ f .head .protection
+pub after-protection : (e : one.Event) (f : one.Followed) → one.after e f .head .wish .protection ≡ f .head .wish .protection
 unfolding one.after one.moved one.dropped one.aged
 after-protection (one.packet c b) f = moved-protection (moveOf (f .per) (f .needs) (f .head .awaited) c) (f .head)
 after-protection (one.refused r) f = refl
 after-protection one.ended f = refl
 
-pub run-protection : (es : List one.Event) (f : one.Followed) → one.run es f .head .protection ≡ f .head .protection
+pub run-protection : (es : List one.Event) (f : one.Followed) → one.run es f .head .wish .protection ≡ f .head .wish .protection
 unfolding one.run
 run-protection [] f = refl
 run-protection (e ∷ es) f = run-protection es (one.after e f) ∙ after-protection e f
@@ -194,13 +194,13 @@ module _ (s : List ℕ) (a : ℕ) (v : Serves s a) (es : List one.Event) (rest :
       → cond (handsOut a x (ourAnswer x s)) (askPart (ourAfter x s) a ∷ rest) rest ≡ one.handedOut (xs ++ es) (view s a)
   unfolding handsOut eventsAt ourAnswer Stays one.handedOut one.answer one.run
   step-hands start st er = absurd st
-  step-hands (follow b p l) st er = er
+  step-hands (follow w) st er = er
   step-hands (leave b) st er = er
   step-hands (packet image) st er =
       let n = next s a v (packet image) st in
       packet-hands image (arrivesAt a image) refl er (n .seen) (shown-here (ourAfter (packet image) s) a (n .serves))
   step-hands subframeEnd st er = er
-  step-hands (ask b) st er = er
+  step-hands (asks q) st er = er
 
 pub handed-same : (h : List Call) (s : List ℕ) (a : ℕ) → Serves s a → AllStay a h
     → handedOut ours a h s ≡ one.handedOut (eventsOf a (by (view s a)) h) (view s a)

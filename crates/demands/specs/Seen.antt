@@ -1,5 +1,5 @@
 -- What calls are to one followed address: which images reach it and what they are received as, and what its slot's own marks say. Nothing
--- here looks at a machine's answers.
+-- here looks at a machine's answers. A call that only reads is no event.
 --
 --   arrivesAt a image     the image has 94 bytes, its spare bit is 0, and it is read as the address
 --   eventOf p image       what it is there: a readable data packet, or refused with 28 to 31
@@ -25,7 +25,7 @@ use Rattle.history.specs.Followed.{Followed, Reason, typeUnreadable, typeReserv
 use Rattle.history.specs.Followed as one
 use Rattle.history.specs.Transcript.{Entry, answered, subframe}
 use Rattle.adapter.specs.Calls.{addressOf}
-use Rattle.demands.specs.Machine.{Call, start, follow, leave, packet, subframeEnd, ask}
+use Rattle.demands.specs.Machine.{Call, start, follow, leave, packet, subframeEnd, asks}
 
 -- ---- what a call is at an address
 
@@ -45,11 +45,11 @@ eventOf p image = eventBy (received p image .number) (received p image .index) (
 
 unfoldable pub eventsAt : ℕ → Bool → Call → List Event
 eventsAt a p start = []
-eventsAt a p (follow b q l) = []
+eventsAt a p (follow w) = []
 eventsAt a p (leave b) = []
 eventsAt a p (packet image) = cond (arrivesAt a image) (eventOf p image ∷ []) []
 eventsAt a p subframeEnd = ended ∷ []
-eventsAt a p (ask b) = []
+eventsAt a p (asks q) = []
 
 unfoldable pub eventsOf : ℕ → Bool → List Call → List Event
 eventsOf a p [] = []
@@ -57,7 +57,7 @@ eventsOf a p (x ∷ h) = eventsAt a p x ++ eventsOf a p h
 
 -- the protection that an address is followed with
 abbrev pub by : Followed → Bool
-by f = eqb (f .head .protection) 1
+by f = eqb (f .head .wish .protection) 1
 
 -- ---- what a slot's bytes say
 
