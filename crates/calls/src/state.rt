@@ -8,6 +8,7 @@
 //     board ADDRESS LENGTH = NUMBER LENGTH SHOWN           so many bytes of the message are the notice
 //     write ADDRESS PROTECTION LENGTH OUTPUT = NUMBER IMAGES    so many bytes of the message and of the images are lent
 use crate::images;
+use head::Wish;
 use rows::Answer;
 use rows::Row;
 use rows::bytes::START;
@@ -15,7 +16,6 @@ use rows::bytes::behind;
 use rows::bytes::digested;
 use rows::bytes::front;
 use rows::tell;
-use head::Wish;
 
 pub fn called(row: Row, state: &mut [u8], images: &mut [u8], message: &mut [u8]) -> Answer {
     let names = b"start follow leave end packet ask board write ";
