@@ -32,35 +32,31 @@ use Rattle.head.specs.Move.{Move, started, held, whole, outOfStep, movedHead, r
 use Rattle.head.specs.declared.Head.{Head}
 use Rattle.slot.proofs.Goods.{good-slot}
 use Rattle.head.proofs.Bounds.{good-dropped}
-use Rattle.group.specs.Group.{blockOf, slotMoved, slotDropped, takenNumber, takenAfter}
-use Rattle.group.proofs.Doing.{block-le}
+use Rattle.group.specs.Group.{refusedAfter, blockOf, slotMoved, slotDropped, takenNumber, takenAfter}
+use Rattle.group.proofs.Doing.{block-le, taken-dropped}
 use Rattle.group.proofs.Laws.{Fits, row-fits, moved-size, moved-good, moved-head, dropped-size, dropped-head}
-use Rattle.history.specs.Followed.{Reason, typeUnreadable, typeReserved, typeScrambled, wordUnreadable, number, Event, ended, after, answer}
+use Rattle.faults.specs.Faults.{number, faultOf}
+use Rattle.faults.proofs.Laws.{unreadable-drops, fault-number, unreadable-not-zero}
+use Rattle.history.proofs.Laws.{after-refused}
+use Rattle.history.specs.Followed.{Event, ended, after, answer}
 use Rattle.history.specs.Followed as one
 use Rattle.adapter.specs.Calls.{addressOf, readingAt}
 use Rattle.table.specs.State.{slotAt, find}
-use Rattle.demands.specs.Machine.{Call, start, follow, leave, packet, subframeEnd, ask}
-use Rattle.demands.specs.Seen.{reasonOf, eventBy, eventOf, seenIn}
+use Rattle.demands.specs.Machine.{Call, start, follow, leave, packet, subframeEnd, asks}
+use Rattle.demands.specs.Seen.{eventBy, eventOf, seenIn}
 use Rattle.demands.proofs.View.{view-moved, view-dropped}
 
 -- ---- what an image is to the address that it is read as
 
-pub reason-number : (r : Reading) → Refused r → number (reasonOf (r .number)) ≡ r .number
-unfolding number reasonOf
-reason-number r (inl e) = ap (λ (n : ℕ). number (reasonOf n)) e ∙ sym e
-reason-number r (inr (inl e)) = ap (λ (n : ℕ). number (reasonOf n)) e ∙ sym e
-reason-number r (inr (inr (inl e))) = ap (λ (n : ℕ). number (reasonOf n)) e ∙ sym e
-reason-number r (inr (inr (inr e))) = ap (λ (n : ℕ). number (reasonOf n)) e ∙ sym e
+pub fault-answered : (r : Reading) → Refused r → number (faultOf (r .number)) ≡ r .number
+fault-answered r f = fault-number (r .number) f .0
 
 pub refused-not-zero : (r : Reading) → Refused r → r .number ≡ 0 → ⊥
-refused-not-zero r (inl e) z = omega (arith, e, z)
-refused-not-zero r (inr (inl e)) z = omega (arith, e, z)
-refused-not-zero r (inr (inr (inl e))) z = omega (arith, e, z)
-refused-not-zero r (inr (inr (inr e))) z = omega (arith, e, z)
+refused-not-zero r f z = unreadable-not-zero (r .number) f z
 
-block-size : (h : Head) → dataSize (eqb (h .protection) 1) ≡ blockOf h
+block-size : (h : Head) → dataSize (eqb (h .wish .protection) 1) ≡ blockOf h
 unfolding blockOf
-block-size h = go (eqb (h .protection) 1)
+block-size h = go (eqb (h .wish .protection) 1)
   where
     go : (b : Bool) → dataSize b ≡ cond b 45 90
     go true = refl
@@ -71,11 +67,11 @@ pub event-read : (p : Bool) (image : List ℕ) → received p image .number ≡ 
 unfolding eventOf eventBy
 event-read p image e = ap (λ (n : ℕ). eventBy n (received p image .index) (take (dataSize p) (received p image .bytes))) e
 
-pub event-refused : (p : Bool) (image : List ℕ) → (received p image .number ≡ 0 → ⊥) → eventOf p image ≡ one.refused (reasonOf (received p image .number))
+pub event-refused : (p : Bool) (image : List ℕ) → (received p image .number ≡ 0 → ⊥) → eventOf p image ≡ one.refused (faultOf (received p image .number))
 unfolding eventOf eventBy
 event-refused p image ne = go (received p image .number) ne
   where
-    go : (n : ℕ) → (n ≡ 0 → ⊥) → eventBy n (received p image .index) (take (dataSize p) (received p image .bytes)) ≡ one.refused (reasonOf n)
+    go : (n : ℕ) → (n ≡ 0 → ⊥) → eventBy n (received p image .index) (take (dataSize p) (received p image .bytes)) ≡ one.refused (faultOf n)
     go zero q = absurd (q refl)
     go (suc n) q = refl
 
@@ -84,12 +80,12 @@ event-refused p image ne = go (received p image .number) ne
 pub record Does (e : Event) (x y : List ℕ) (n : ℕ) : Type 0 where
   pub size : length y ≡ 736
   pub good : goodSlot y ≡ true
-  pub address : headOf y .address ≡ headOf x .address
+  pub address : headOf y .wish .address ≡ headOf x .wish .address
   pub seen : seenIn y ≡ after e (seenIn x)
   pub number : n ≡ answer e (seenIn x)
 
 -- the address is none of what a row changes
-moved-address : (mv : Move) (h : Head) → movedHead mv h .address ≡ h .address
+moved-address : (mv : Move) (h : Head) → movedHead mv h .wish .address ≡ h .wish .address
 unfolding movedHead
 moved-address started h = refl
 moved-address held h = refl
@@ -98,7 +94,7 @@ moved-address outOfStep h = refl
 
 module _ (x image : List ℕ) (l : length x ≡ 736) (g : goodHead (headOf x) ≡ true) where
   abbrev p : Bool
-  p = eqb (headOf x .protection) 1
+  p = eqb (headOf x .wish .protection) 1
 
   abbrev r : Reading
   r = received p image
@@ -121,29 +117,29 @@ module _ (x image : List ℕ) (l : length x ≡ 736) (g : goodHead (headOf x) �
   unfolding takenAfter takenNumber after answer seenIn
   read-does z =
       let e : takenAfter r x ≡ slotMoved mv place b x =
-      done-passed (r .number) _ (slotDropped x) z
+      done-passed (r .number) _ (refusedAfter (r .number) x) z
       ∙ ap (λ (n : ℕ). slotMoved mv place (take n (r .bytes)) x) (sym (block-size (headOf x))) in
       let h : headOf (takenAfter r x) ≡ movedHead mv (headOf x) = ap headOf e ∙ moved-head mv place b x fits in
       record {
         size = ap length e ∙ moved-size mv place b x fits;
         good = good-slot (takenAfter r x) (ap goodHead h ∙ moved-good mv place b x fits);
-        address = ap (λ (y : Head). y .address) h ∙ moved-address mv (headOf x);
+        address = ap (λ (y : Head). y .wish .address) h ∙ moved-address mv (headOf x);
         seen = ap seenIn e ∙ view-moved mv place b x fits;
         number = further-passed (r .number) _ z;
       }
 
-  refused-does : Refused r → Does (one.refused (reasonOf (r .number))) x (takenAfter r x) (takenNumber r (headOf x))
+  refused-does : Refused r → Does (one.refused (faultOf (r .number))) x (takenAfter r x) (takenNumber r (headOf x))
   unfolding takenAfter takenNumber after answer
   refused-does f =
       let ne = refused-not-zero r f in
-      let e : takenAfter r x ≡ slotDropped x = done-refused (r .number) _ (slotDropped x) ne in
+      let e : takenAfter r x ≡ slotDropped x = taken-dropped r x ne (unreadable-drops (r .number) f) in
       let h : headOf (takenAfter r x) ≡ droppedHead (headOf x) = ap headOf e ∙ dropped-head x l g in
       record {
         size = ap length e ∙ dropped-size x l g;
         good = good-slot (takenAfter r x) (ap goodHead h ∙ good-dropped (headOf x) g);
-        address = ap (λ (y : Head). y .address) h;
-        seen = ap seenIn e ∙ view-dropped x l g;
-        number = further-refused (r .number) _ ne ∙ sym (reason-number r f);
+        address = ap (λ (y : Head). y .wish .address) h;
+        seen = ap seenIn e ∙ view-dropped x l g ∙ after-refused (faultOf (r .number)) (seenIn x);
+        number = further-refused (r .number) _ ne ∙ sym (fault-answered r f);
       }
 
   pub taken-does : length image ≡ 94 → Does (eventOf p image) x (takenAfter (readingAt x image) x) (takenNumber (readingAt x image) (headOf x))
@@ -157,4 +153,4 @@ module _ (x image : List ℕ) (l : length x ≡ 736) (g : goodHead (headOf x) �
           (refused-does f)
 
 abbrev pub protectedAt : List ℕ → ℕ → Bool
-protectedAt s a = eqb (headOf (slotAt (find s a) s) .protection) 1
+protectedAt s a = eqb (headOf (slotAt (find s a) s) .wish .protection) 1

@@ -12,8 +12,8 @@ use mathlib.Core.List.{List, [], _∷_}
 use Prim.Native.Nat.{ℕ, _≤_, _<_}
 use native.Mathlib.Omega.{arith}
 use native.Mathlib.Decide.{ℕ-discrete}
-use borrow.Author.Tests.{eq-eqb, ne-eqb, eqb-true, le-leb, leb-true}
-use lib.Dec.{T, leb, eqb}
+use borrow.Author.Tests.{eq-eqb, ne-eqb, eqb-true}
+use lib.Dec.{T, eqb}
 use lib.ListN.{length}
 use Rattle.bits.specs.Bits.{blank}
 use Rattle.bits.specs.Rows.{done}
@@ -25,7 +25,8 @@ use Rattle.runs.specs.Part.{part}
 use Rattle.slot.specs.Slot.{headOf, withHead}
 use Rattle.head.specs.Head.{newHead}
 use Rattle.head.specs.declared.Head.{Head}
-use Rattle.head.proofs.Bounds.{good-new}
+use Rattle.head.specs.declared.Wish.{Wish}
+use Rattle.head.proofs.Bounds.{wish-bounds, good-new}
 use Rattle.slot.proofs.Goods.{good-load, head-blank}
 use Rattle.slot.proofs.Heads.{withHead-length}
 use Rattle.table.specs.State.{stateSize, slots, slotAt, withSlot, addressAt, find, good}
@@ -37,7 +38,7 @@ use Rattle.group.specs.Group.{takenNumber, takenAfter}
 use Rattle.history.specs.Followed as one
 use Rattle.adapter.specs.Calls.{addressOf, followed, unplaced, readingAt, slotAnswer, slotAfter, packetAnswer, packetAfter}
 use Rattle.adapter.proofs.Laws.{both-followed, followed-both, Placed, placed, placed-zero, packet-refused, packet-placed}
-use Rattle.demands.specs.Machine.{Call, start, follow, leave, packet, subframeEnd, ask, ourAfter}
+use Rattle.demands.specs.Machine.{Call, start, follow, leave, packet, subframeEnd, asks, ourAfter}
 use Rattle.demands.specs.Demand3.{Stays}
 use Rattle.demands.specs.Seen.{arrivesAt, eventOf, eventsAt, seenIn}
 use Rattle.demands.proofs.View.{view-aged, view-new}
@@ -145,25 +146,25 @@ module _ (s : List ℕ) (a : ℕ) (v : Serves s a) where
           clash : arrivesAt a image ≡ true → ⊥
           clash q = subst T (sym q ∙ e) tt
 
-  follow-acts : (b p l : ℕ) → Kept (followAfter s b p l) a (view s a)
+  follow-acts : (w : Wish) → Kept (followAfter s w) a (view s a)
   unfolding followAfter
-  follow-acts b p l =
-      done-either (λ (t : List ℕ). Kept t a (view s a)) (followAnswer s b p l)
-      (withSlot (find s 0) (withHead (newHead b p l) (slotAt (find s 0) s)) s) s (λ e. go (follow-passed s b p l e) e) (change-none s a v)
+  follow-acts w =
+      done-either (λ (t : List ℕ). Kept t a (view s a)) (followAnswer s w)
+      (withSlot (find s 0) (withHead (newHead w) (slotAt (find s 0) s)) s) s (λ e. go (follow-passed s w e) e) (change-none s a v)
     where
-      go : Followed s b p l → followAnswer s b p l ≡ 0 → Kept (withSlot (find s 0) (withHead (newHead b p l) (slotAt (find s 0) s)) s) a (view s a)
+      go : Followed s w → followAnswer s w ≡ 0 → Kept (withSlot (find s 0) (withHead (newHead w) (slotAt (find s 0) s)) s) a (view s a)
       go f e =
           let k = find s 0 in
           let lk = slot-length s (v .size) k (f .room) in
-          let gh = good-new b p l (f .address) (le-leb p 1 (f .protection)) (f .limit) in
-          let new = withHead (newHead b p l) (slotAt k s) in
-          let there : headOf new .address ≡ b = ap (λ (h : Head). h .address) (good-load (newHead b p l) gh (slotAt k s) lk) in
-          let other : b ≡ a → ⊥ = λ q. omega (arith, v .found, subst (λ (n : ℕ). slots ≤ find s n) q (f .absent)) in
+          let gh = good-new w (f .wish) in
+          let new = withHead (newHead w) (slotAt k s) in
+          let there : headOf new .wish .address ≡ w .address = ap (λ (h : Head). h .wish .address) (good-load (newHead w) gh (slotAt k s) lk) in
+          let other : w .address ≡ a → ⊥ = λ q. omega (arith, v .found, subst (λ (n : ℕ). slots ≤ find s n) q (f .absent)) in
           let zero : addressAt s k ≡ 0 = find-has s 0 (f .room) in
-          change-apart s a v k new (f .room) (withHead-length (newHead b p l) (slotAt k s) lk ∙ lk)
+          change-apart s a v k new (f .room) (withHead-length (newHead w) (slotAt k s) lk ∙ lk)
           (λ q. omega (arith, sym zero ∙ ap (addressAt s) q ∙ find-has s a (v .found), v .pos))
-          (good-each _ (sym (ap good (done-passed (followAnswer s b p l) _ s e)) ∙ follow-good s b p l (each-good s (v .all))))
-          (ne-eqb (headOf new .address) a (λ q. other (sym there ∙ q)) ∙ sym (ne-eqb (addressAt s k) a (λ q. omega (arith, sym zero ∙ q, v .pos))))
+          (good-each _ (sym (ap good (done-passed (followAnswer s w) _ s e)) ∙ follow-good s w (each-good s (v .all))))
+          (ne-eqb (headOf new .wish .address) a (λ q. other (sym there ∙ q)) ∙ sym (ne-eqb (addressAt s k) a (λ q. omega (arith, sym zero ∙ q, v .pos))))
 
   leave-acts : (b : ℕ) → (b ≡ a → ⊥) → Kept (leaveAfter s b) a (view s a)
   unfolding leaveAfter
@@ -176,7 +177,7 @@ module _ (s : List ℕ) (a : ℕ) (v : Serves s a) where
           change-apart s a v (find s b) (blank 736) h (blank-length 736)
           (λ q. ne (sym (find-has s b h) ∙ ap (addressAt s) q ∙ find-has s a (v .found)))
           (good-each _ (sym (ap good (done-passed (leaveAnswer s b) _ s e)) ∙ leave-good s b (each-good s (v .all))))
-          (ne-eqb (headOf (blank 736) .address) a (λ q. omega (arith, sym (ap (λ (y : Head). y .address) (head-blank 736)) ∙ q, v .pos))
+          (ne-eqb (headOf (blank 736) .wish .address) a (λ q. omega (arith, sym (ap (λ (y : Head). y .wish .address) (head-blank 736)) ∙ q, v .pos))
           ∙ sym (ne-eqb (addressAt s (find s b)) a (λ q. ne (sym (find-has s b h) ∙ q))))
 
   pub end-zero : endAnswer s ≡ 0
@@ -193,7 +194,7 @@ module _ (s : List ℕ) (a : ℕ) (v : Serves s a) where
       let t = ages slots 0 s in
       let aged : (j : ℕ) → j < slots → slotAt j t ≡ older (slotAt j s) = λ j h. ages-at slots 0 s (omega arith) (v .size) j (omega arith) h in
       let k = kept-by s a v t (older (slotAt (find s a) s)) (ages-long slots 0 s (omega arith) (v .size)) (ages-good slots 0 s (omega arith) (v .size) (v .all))
-      (λ j h. ap (λ (n : ℕ). eqb n a) (sym (address-is t j) ∙ ap (λ (y : List ℕ). headOf y .address) (aged j h)
+      (λ j h. ap (λ (n : ℕ). eqb n a) (sym (address-is t j) ∙ ap (λ (y : List ℕ). headOf y .wish .address) (aged j h)
       ∙ aged-slot (slotAt j s) (slot-length s (v .size) j h) (v .all .slot j h) .1 ∙ address-is s j))
       (aged (find s a) (v .found)) in
       subst (λ (x : List ℕ). Kept x a (one.aged (view s a))) (sym (done-passed (endAnswer s) t s end-zero))
@@ -202,11 +203,11 @@ module _ (s : List ℕ) (a : ℕ) (v : Serves s a) where
   pub acts : (x : Call) → Stays a x → Kept (ourAfter x s) a (one.run (eventsAt a (protectedAt s a) x) (view s a))
   unfolding ourAfter eventsAt Stays one.run
   acts start st = absurd st
-  acts (follow b p l) st = follow-acts b p l
+  acts (follow w) st = follow-acts w
   acts (leave b) st = leave-acts b st
   acts (packet image) st = packet-acts image (arrivesAt a image) refl
   acts subframeEnd st = end-acts
-  acts (ask b) st = change-none s a v
+  acts (asks q) st = change-none s a v
 
 -- ---- follow
 
@@ -216,27 +217,28 @@ only-slot : (s : List ℕ) (a k : ℕ) (b : List ℕ) (l : length s ≡ stateSiz
 only-slot s a k b l h lb none j hj q (yes e) = e
 only-slot s a k b l h lb none j hj q (no e) = absurd (find-none s a none j hj (sym (address-other s l k b h lb j e) ∙ q))
 
-pub follow-serves : (s : List ℕ) (a p l : ℕ) → followAnswer s a p l ≡ 0 → Kept (followAfter s a p l) a (one.followed a p l)
+pub follow-serves : (s : List ℕ) (w : Wish) → followAnswer s w ≡ 0 → Kept (followAfter s w) (w .address) (one.followed w)
 unfolding followAfter view
-follow-serves s a p l e =
-    let f = follow-passed s a p l e in
+follow-serves s w e =
+    let f = follow-passed s w e in
+    let a = w .address in
     let k = find s 0 in
     let size = f .state .size in
     let lk = slot-length s size k (f .room) in
-    let gh = good-new a p l (f .address) (le-leb p 1 (f .protection)) (f .limit) in
-    let new = withHead (newHead a p l) (slotAt k s) in
-    let ln = withHead-length (newHead a p l) (slotAt k s) lk ∙ lk in
+    let gh = good-new w (f .wish) in
+    let new = withHead (newHead w) (slotAt k s) in
+    let ln = withHead-length (newHead w) (slotAt k s) lk ∙ lk in
     let t = withSlot k new s in
-    let there : headOf new .address ≡ a = ap (λ (h : Head). h .address) (good-load (newHead a p l) gh (slotAt k s) lk) in
+    let there : headOf new .wish .address ≡ a = ap (λ (h : Head). h .wish .address) (good-load (newHead w) gh (slotAt k s) lk) in
     let at : find t a ≡ k = find-only t a k (f .room) (address-same s size k new (f .room) ln ∙ there) (λ j hj q. only-slot s a k new size (f .room) ln (f .absent) j hj q (ℕ-discrete j k)) in
-    let same : t ≡ followAfter s a p l = sym (done-passed (followAnswer s a p l) t s e) in
-    subst (λ (x : List ℕ). Kept x a (one.followed a p l)) same
+    let same : t ≡ followAfter s w = sym (done-passed (followAnswer s w) t s e) in
+    subst (λ (x : List ℕ). Kept x a (one.followed w)) same
     (record {
       serves = record {
         size = with-length s size k new (f .room) ln;
-        all = good-each t (ap good same ∙ follow-good s a p l (f .state .all-good));
-        pos = leb-true 1 a (and-left (leb 1 a) (leb a 1022) (f .address));
+        all = good-each t (ap good same ∙ follow-good s w (f .state .all-good));
+        pos = wish-bounds w (f .wish) .address-from;
         found = subst (λ (n : ℕ). n < slots) (sym at) (f .room);
       };
-      seen = ap (λ (n : ℕ). seenIn (slotAt n t)) at ∙ ap seenIn (slot-same s size k new (f .room) ln) ∙ view-new a p l (slotAt k s) lk gh;
+      seen = ap (λ (n : ℕ). seenIn (slotAt n t)) at ∙ ap seenIn (slot-same s size k new (f .room) ln) ∙ view-new w (slotAt k s) lk gh;
     })

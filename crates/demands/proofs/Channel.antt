@@ -20,7 +20,8 @@ use Prim.Native.Nat.{ℕ, _+_, _*_, _<_}
 use native.Mathlib.Omega.{arith}
 use lib.Dec.{lit<, lit≤}
 use Rattle.history.specs.Sent.{Next}
-use Rattle.demands.specs.Machine.{follow, leave, packet, subframeEnd, ask}
+use Rattle.head.specs.Head.{wishOf}
+use Rattle.demands.specs.Machine.{follow, leave, packet, subframeEnd, asks, ask}
 use Rattle.demands.specs.Demand3.{Happening, arrives, call, Apart, Comes, Channel}
 use Rattle.demands.proofs.Damaged.{worked-sent, as-sent, hit, header-three, word-three, word-four, type-eight, Receives, sent-receives, header-receives, word-three-receives, word-four-receives, type-receives, other, other-apart, spare-one, spare-apart, cut, cut-apart}
 
@@ -33,7 +34,7 @@ from-5 =
 unfoldable pub from-4 : List Happening
 from-4 =
     arrives 4 0 (hit 4 0 type-eight) ∷ arrives 4 1 (as-sent 4 1) ∷ arrives 4 2 (as-sent 4 2) ∷ arrives 4 3 (as-sent 4 3)
-    ∷ call subframeEnd ∷ call (ask 17) ∷ from-5
+    ∷ call subframeEnd ∷ call (asks (ask 17)) ∷ from-5
 
 unfoldable pub from-3 : List Happening
 from-3 =
@@ -45,7 +46,7 @@ from-2 = arrives 2 0 (as-sent 2 0) ∷ call (packet spare-one) ∷ call (packet 
 unfoldable pub from-1 : List Happening
 from-1 =
     arrives 1 0 (hit 1 0 header-three) ∷ arrives 1 1 (hit 1 1 word-three)
-    ∷ call (follow 18 1 2) ∷ call (packet other) ∷ call (leave 18)
+    ∷ call (follow (wishOf 18 1 2)) ∷ call (packet other) ∷ call (leave 18)
     ∷ arrives 1 2 (as-sent 1 2) ∷ call subframeEnd ∷ arrives 1 3 (as-sent 1 3) ∷ from-2
 
 unfoldable pub worked : List Happening

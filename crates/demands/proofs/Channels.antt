@@ -23,12 +23,13 @@ use Rattle.packet.specs.Received.{received, partAs, filled}
 use Rattle.packet.specs.Damage.{dataSize, sentImage, Came, Refused}
 use Rattle.packet.specs.declared.Reading.{Reading}
 use Rattle.packet.proofs.Damages.{header-came, received-came}
+use Rattle.faults.specs.Faults.{faultOf}
 use Rattle.history.specs.Followed as one
 use Rattle.history.specs.Sent as sent
 use Rattle.adapter.specs.Calls.{addressOf}
-use Rattle.demands.specs.Machine.{Call, start, follow, leave, packet, subframeEnd, ask, Bytes}
+use Rattle.demands.specs.Machine.{Call, start, follow, leave, packet, subframeEnd, asks, Bytes}
 use Rattle.demands.specs.Demand3.{Stays, AllStay, Carries, Lost, Happening, arrives, call, callOf, calls, Apart, Channel, ReadableIn, arrivalBy, passing, arrivals}
-use Rattle.demands.specs.Seen.{arrivesAt, reasonOf, eventOf, eventsAt, eventsOf}
+use Rattle.demands.specs.Seen.{arrivesAt, eventOf, eventsAt, eventsOf}
 use Rattle.demands.proofs.Acting.{event-read, event-refused, refused-not-zero}
 use Rattle.demands.proofs.Calling.{Arrives, is-arrives, arrives-is}
 
@@ -69,11 +70,11 @@ next-by (suc m) n i c h x y = (x, y)
 passing-order : (x : Call) (n : ℕ) (h : List sent.Arrival) → sent.InOrder 4 3 n h → sent.InOrder 4 3 n (passing x ++ h)
 unfolding passing sent.InOrder
 passing-order start n h o = o
-passing-order (follow b p l) n h o = o
+passing-order (follow w) n h o = o
 passing-order (leave b) n h o = o
 passing-order (packet image) n h o = o
 passing-order subframeEnd n h o = o
-passing-order (ask b) n h o = o
+passing-order (asks q) n h o = o
 
 pub channel-order : (p : Bool) (a : ℕ) (s : sent.Sent) (n : ℕ) (h : List Happening) → Channel p a s n h → sent.InOrder 4 3 n (arrivals p h)
 unfolding Channel arrivals sent.InOrder
@@ -85,11 +86,11 @@ channel-order p a s n (call x ∷ h) ch = passing-order x n (arrivals p h) (chan
 apart-stays : (a : ℕ) (x : Call) → Apart a x → Stays a x
 unfolding Apart Stays
 apart-stays a start q = q
-apart-stays a (follow b p l) q = q
+apart-stays a (follow w) q = q
 apart-stays a (leave b) q = q
 apart-stays a (packet image) q = tt
 apart-stays a subframeEnd q = q
-apart-stays a (ask b) q = q
+apart-stays a (asks r) q = q
 
 pub channel-stays : (p : Bool) (a : ℕ) (s : sent.Sent) (n : ℕ) (h : List Happening) → Channel p a s n h → AllStay a (calls h)
 unfolding Channel calls callOf AllStay Stays
@@ -116,12 +117,12 @@ passing-events : (p : Bool) (a : ℕ) (s : sent.Sent) (x : Call) (h : List sent.
     → sent.events s h ≡ es → sent.events s (passing x ++ h) ≡ eventsAt a p x ++ es
 unfolding passing sent.events sent.event eventsAt Apart
 passing-events p a s start h es q e = e
-passing-events p a s (follow b r l) h es q e = e
+passing-events p a s (follow w) h es q e = e
 passing-events p a s (leave b) h es q e = e
 passing-events p a s (packet image) h es q e =
     e ∙ sym (ap (λ (b : Bool). cond b (eventOf p image ∷ []) [] ++ es) (apart-away a image q))
 passing-events p a s subframeEnd h es q e = ap (λ (x : List one.Event). one.ended ∷ x) e
-passing-events p a s (ask b) h es q e = e
+passing-events p a s (asks r) h es q e = e
 
 arrival-event : (p : Bool) (s : sent.Sent) (i c : ℕ) (image : List ℕ)
     → (received p image .number ≡ 0 → eventOf p image ≡ one.packet c (s i c))
@@ -132,7 +133,7 @@ arrival-event p s i c image read = go (received p image .number) refl
     go : (n : ℕ) → received p image .number ≡ n → sent.event s (arrivalBy n i c) ≡ eventOf p image
     go zero e = sym (read e)
     go (suc n) e =
-        sym (event-refused p image (λ z. omega (arith, sym e ∙ z)) ∙ ap (λ (m : ℕ). one.refused (reasonOf m)) e)
+        sym (event-refused p image (λ z. omega (arith, sym e ∙ z)) ∙ ap (λ (m : ℕ). one.refused (faultOf m)) e)
 
 pub channel-events : (p : Bool) (a : ℕ) (s : sent.Sent) → a ≤ 1023 → Carries p s → (n : ℕ) (h : List Happening) → Channel p a s n h
     → sent.events s (arrivals p h) ≡ eventsOf a p (calls h)
@@ -171,21 +172,21 @@ came-by (suc m) j d i c e = absurd (subst T (sym (ap isCame e)) tt)
 passing-in : (i c : ℕ) (x : Call) (h : List sent.Arrival) → sent.CameIn i c h → sent.CameIn i c (passing x ++ h)
 unfolding passing sent.CameIn
 passing-in i c start h q = q
-passing-in i c (follow b p l) h q = q
+passing-in i c (follow w) h q = q
 passing-in i c (leave b) h q = q
 passing-in i c (packet image) h q = q
 passing-in i c subframeEnd h q = inr q
-passing-in i c (ask b) h q = q
+passing-in i c (asks r) h q = q
 
 passing-out : (i c : ℕ) (x : Call) (h : List sent.Arrival) → sent.CameIn i c (passing x ++ h) → sent.CameIn i c h
 unfolding passing sent.CameIn isCame
 passing-out i c start h q = q
-passing-out i c (follow b p l) h q = q
+passing-out i c (follow w) h q = q
 passing-out i c (leave b) h q = q
 passing-out i c (packet image) h q = q
 passing-out i c subframeEnd h (inl e) = absurd (subst T (sym (ap isCame e)) tt)
 passing-out i c subframeEnd h (inr q) = q
-passing-out i c (ask b) h q = q
+passing-out i c (asks r) h q = q
 
 pub readable-came : (p : Bool) (i c : ℕ) (h : List Happening) → ReadableIn p i c h → sent.CameIn i c (arrivals p h)
 unfolding ReadableIn arrivals sent.CameIn arrivalBy

@@ -8,7 +8,7 @@
 --
 -- Assumes nothing.
 use mathlib.Core.Path.{_≡_, refl, sym, ap, ap₂, _∙_, subst}
-use mathlib.Core.Bool.{true, cond}
+use mathlib.Core.Bool.{Bool, true, false, cond}
 use mathlib.Core.List.{List, _++_}
 use mathlib.Core.Logic.{_⊎_, inl, inr}
 use Prim.Native.Nat.{ℕ, zero, suc, _+_, _-_, _*_, _≤_, _<_}
@@ -28,6 +28,7 @@ use Rattle.slot.specs.Slot.{roomSize, slotSize, headOf, withHead, unfinished, s
 use Rattle.head.specs.Head.{newHead, agedHead, goodHead}
 use Rattle.head.specs.Move.{Move, started, held, whole, outOfStep, movedHead, rowAt, placeAt}
 use Rattle.head.specs.declared.Head.{Head}
+use Rattle.head.specs.declared.Wish.{Wish}
 use Rattle.runs.proofs.Parts.{part-length}
 use Rattle.slot.proofs.Laws.{unfinished-room, unfinished-put, unfinished-length}
 use Rattle.slot.proofs.Heads.{store-unfinished, store-stored, withHead-length}
@@ -40,12 +41,13 @@ use Rattle.table.proofs.Looking.{Passed, state-passed}
 use Rattle.table.proofs.Kept.{part-blank, Followed, follow-passed, leave-passed, done-either}
 use Rattle.table.proofs.Doing.{start-passed}
 use Rattle.asking.specs.Asking.{groupLength}
-use Rattle.group.specs.Group.{blockOf, placed, begunRoom, slotJoined, roomsMoved, slotMoved, slotDropped, takenAfter}
+use Rattle.faults.specs.Faults.{numberDrops}
+use Rattle.group.specs.Group.{refusedAfter, blockOf, placed, begunRoom, slotJoined, roomsMoved, slotMoved, slotDropped, takenAfter}
 use Rattle.group.proofs.Laws.{Fits, row-fits, moved-head, started-stored, held-stored, whole-room, whole-stored, dropped-room, dropped-stored, dropped-head}
 use Rattle.group.proofs.Doing.{begun-length, room-length, joined-length, out-drops, block-le}
 use Rattle.adapter.specs.Calls.{addressOf, readingAt, packetAfter}
 use Rattle.adapter.proofs.Laws.{packet-refused}
-use Rattle.demands.specs.Machine.{Call, start, follow, leave, packet, subframeEnd, ask, ours, ourAfter}
+use Rattle.demands.specs.Machine.{Call, start, follow, leave, packet, subframeEnd, asks, ours, ourAfter}
 use Rattle.demands.specs.Clean.{heldLength, shownLength, CleanSlot, Clean, StaysClean}
 use Rattle.demands.proofs.View.{group-four, needs-four}
 use Rattle.demands.proofs.Serving.{here-size, here-good, older, ages-at}
@@ -92,7 +94,7 @@ empty-clean : (x : List ℕ) → unfinished x ≡ blank roomSize → stored x �
 empty-clean x eu ev = clean-by x _ _ _ _ refl refl eu ev (blank-clear (heldLength (headOf x))) (blank-clear (shownLength (headOf x)))
 
 -- as much is shown by a head with the same mark and protection
-shown-same : (g h : Head) → g .group ≡ h .group → g .protection ≡ h .protection → shownLength g ≡ shownLength h
+shown-same : (g h : Head) → g .group ≡ h .group → g .wish .protection ≡ h .wish .protection → shownLength g ≡ shownLength h
 unfolding shownLength groupLength
 shown-same g h eg ep = λ i. cond (eqb (eg i) 0) 0 (cond (eqb (ep i) 1) 180 360)
 
@@ -107,7 +109,7 @@ dropped-clean x l g k =
     (dropped-room x l g) (dropped-stored x l g) (blank-clear _) (k .whole)
 
 -- one packet more is held
-held-next : (h g : Head) (c : ℕ) (b : List ℕ) → length b ≡ blockOf h → g .protection ≡ h .protection → g .awaited ≡ c + 1
+held-next : (h g : Head) (c : ℕ) (b : List ℕ) → length b ≡ blockOf h → g .wish .protection ≡ h .wish .protection → g .awaited ≡ c + 1
     → heldLength g ≡ c * length b + length b
 unfolding heldLength blockOf
 held-next h g c b lb ep ea =
@@ -128,7 +130,7 @@ module _ (c : ℕ) (b x : List ℕ) (k : CleanSlot x) where
 
   -- c packets are held and one more
   joined-clean : (mv : Move) → Fits mv c b x → (c ≡ 0) ⊎ (c ≡ headOf x .awaited) → movedHead mv (headOf x) .awaited ≡ c + 1
-      → movedHead mv (headOf x) .protection ≡ headOf x .protection → movedHead mv (headOf x) .group ≡ headOf x .group
+      → movedHead mv (headOf x) .wish .protection ≡ headOf x .wish .protection → movedHead mv (headOf x) .group ≡ headOf x .group
       → slotMoved mv c b x ≡ withHead (movedHead mv (headOf x)) (withUnfinished room x) → stored (slotMoved mv c b x) ≡ stored x
       → CleanSlot (slotMoved mv c b x)
   joined-clean mv f at ea ep eg es et =
@@ -169,6 +171,14 @@ moved-clean held c b x f k = held-clean c b x k f
 moved-clean whole c b x f k = whole-clean c b x k f
 moved-clean outOfStep c b x f k = subst CleanSlot (out-drops c b x) (dropped-clean x (f .size) (f .good) k)
 
+refused-clean : (n : ℕ) (x : List ℕ) → length x ≡ slotSize → goodHead (headOf x) ≡ true → CleanSlot x → CleanSlot (refusedAfter n x)
+unfolding refusedAfter
+refused-clean n x l g k = go (numberDrops n)
+  where
+    go : (b : Bool) → CleanSlot (cond b (slotDropped x) x)
+    go true = dropped-clean x l g k
+    go false = k
+
 taken-clean : (x image : List ℕ) → length x ≡ slotSize → goodHead (headOf x) ≡ true → CleanSlot x → CleanSlot (takenAfter (readingAt x image) x)
 unfolding takenAfter readingAt
 taken-clean x image l g k = go (ℕ-discrete (r .number) 0)
@@ -179,11 +189,11 @@ taken-clean x image l g k = go (ℕ-discrete (r .number) 0)
     fits : Fits (rowAt (headOf x) (r .index)) (placeAt (headOf x) (r .index)) (take (blockOf (headOf x)) (r .bytes)) x
     fits =
         row-fits (r .index) (take (blockOf (headOf x)) (r .bytes)) x l g
-        (length-take-le (blockOf (headOf x)) (r .bytes) (omega (arith, received-length (eqb (headOf x .protection) 1) image, block-le (headOf x))))
+        (length-take-le (blockOf (headOf x)) (r .bytes) (omega (arith, received-length (eqb (headOf x .wish .protection) 1) image, block-le (headOf x))))
 
     go : Dec (r .number ≡ 0) → CleanSlot (takenAfter r x)
-    go (yes z) = subst CleanSlot (sym (done-passed (r .number) _ (slotDropped x) z)) (moved-clean _ _ _ x fits k)
-    go (no ne) = subst CleanSlot (sym (done-refused (r .number) _ (slotDropped x) ne)) (dropped-clean x l g k)
+    go (yes z) = subst CleanSlot (sym (done-passed (r .number) _ (refusedAfter (r .number) x) z)) (moved-clean _ _ _ x fits k)
+    go (no ne) = subst CleanSlot (sym (done-refused (r .number) _ (refusedAfter (r .number) x) ne)) (refused-clean (r .number) x l g k)
 
 -- ---- a free slot, and a slot that is aged
 
@@ -240,19 +250,19 @@ module _ (s : List ℕ) (c : Clean s) where
   unfolding startAfter
   start-clean = done-either Clean (startAnswer s) (blank stateSize) s (λ e. state-clean) c
 
-  follow-clean : (a p n : ℕ) → Clean (followAfter s a p n)
+  follow-clean : (w : Wish) → Clean (followAfter s w)
   unfolding followAfter
-  follow-clean a p n = done-either Clean (followAnswer s a p n) _ s (λ e. go (follow-passed s a p n e)) c
+  follow-clean w = done-either Clean (followAnswer s w) _ s (λ e. go (follow-passed s w e)) c
     where
-      go : Followed s a p n → Clean (withSlot (find s 0) (withHead (newHead a p n) (slotAt (find s 0) s)) s)
+      go : Followed s w → Clean (withSlot (find s 0) (withHead (newHead w) (slotAt (find s 0) s)) s)
       go f =
           let k = find s 0 in
           let x = slotAt k s in
           let l = f .state .size in
           let lx = slot-length s l k (f .room) in
           let is-free : free x ≡ true = zero-free x (good-each s (f .state .all-good) .slot k (f .room)) (address-is s k ∙ find-has s 0 (f .room)) in
-          with-clean s k (withHead (newHead a p n) x) l (f .room) (withHead-length (newHead a p n) x lx ∙ lx)
-          (headed-clean (newHead a p n) x lx (free-blank x is-free)) c
+          with-clean s k (withHead (newHead w) x) l (f .room) (withHead-length (newHead w) x lx ∙ lx)
+          (headed-clean (newHead w) x lx (free-blank x is-free)) c
 
   leave-clean : (a : ℕ) → Clean (leaveAfter s a)
   unfolding leaveAfter
@@ -282,11 +292,11 @@ module _ (s : List ℕ) (c : Clean s) where
 stays : (x : Call) (s : List ℕ) → Clean s → Clean (ourAfter x s)
 unfolding ourAfter
 stays start s c = start-clean s c
-stays (follow a p n) s c = follow-clean s c a p n
+stays (follow w) s c = follow-clean s c w
 stays (leave a) s c = leave-clean s c a
 stays (packet image) s c = packet-clean s c image
 stays subframeEnd s c = end-clean s c
-stays (ask a) s c = c
+stays (asks q) s c = c
 
 pub stays-clean : StaysClean ours
 unfolding ourAfter

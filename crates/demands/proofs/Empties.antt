@@ -18,7 +18,7 @@ use lib.Dec.{T, eqb, lit≤, lit<}
 use lib.ListN.{getD}
 use Rattle.bits.specs.Bits.{blank}
 use Rattle.bits.proofs.Storing.{blank-length}
-use Rattle.head.specs.Head.{shown}
+use Rattle.head.specs.Head.{shown, wishOf}
 use Rattle.head.specs.Move.{perOf, needsOf, rowOf, moveOf, moveNumber, movedHead}
 use Rattle.table.specs.State.{find}
 use Rattle.table.specs.Calls.{followAnswer, followAfter, endAfter}
@@ -32,7 +32,7 @@ use Rattle.history.specs.Sent.{group, groups, In, Exactly}
 use Rattle.history.specs.Transcript.{entry, told, isWhole, anyWhole, sinceWhole, ends, marked, called}
 use Rattle.adapter.specs.Calls.{addressOf, packetAnswer, packetAfter, writeAfter}
 use Rattle.adapter.proofs.Laws.{both-followed}
-use Rattle.demands.specs.Machine.{Call, follow, packet, subframeEnd, ask, Machine, ours, ourAnswer, run}
+use Rattle.demands.specs.Machine.{Call, follow, packet, subframeEnd, asks, ask, Machine, ours, ourAnswer, run, questionAnswer}
 use Rattle.demands.specs.Demand2.{Follows, Writable, imageAt, Sound, answersTo, packets, Demand2}
 use Rattle.demands.specs.Demand3.{AllStay, Stays, Arrived, calls, callOf, handsOut, handedOut, Demand3}
 use Rattle.demands.specs.Empty.{fixed, answerTo, leaving, deaf, untouching, nods, leaves, indexIn, nodding, still, aging}
@@ -42,7 +42,7 @@ use Rattle.demands.proofs.Calling.{follow-serves}
 use Rattle.demands.proofs.Second.{sent-sound}
 use Rattle.demands.proofs.Parts.{shown-here}
 use Rattle.demands.proofs.Examples.{bytes-zero, empty-state, empty-passed, empty-absent, accepted, zeros, zeros-carried, clean, whole-group, whole-channel, whole-arrived, clean-arrives, clean-index, end-step}
-use Rattle.demands.proofs.Turns.{begun-at, first-step, four, four-events, four-then, asks}
+use Rattle.demands.proofs.Turns.{begun-at, first-step, four, four-events, four-then, says}
 
 -- ---- what any machine that meets the demand hands out of the group of zeros
 
@@ -78,39 +78,39 @@ module _ (out : List (List ℕ)) (x : Exactly 4 zeros (Arrived false whole-group
       go [] q = subst T (sym (ap isSome q)) tt
       go (j ∷ which) q = subst T (ap first q) tt
 
-yes-1 : followAnswer empty-state 17 0 1 ≡ 0
+yes-1 : followAnswer empty-state (wishOf 17 0 1) ≡ 0
 yes-1 = accepted 1 refl
 
-yes-2 : followAnswer empty-state 17 0 2 ≡ 0
+yes-2 : followAnswer empty-state (wishOf 17 0 2) ≡ 0
 yes-2 = accepted 2 refl
 
 module _ (m : Machine) (d : Demand3 m) where
   abbrev begun : List ℕ
-  begun = m .after (follow 17 0 2) empty-state
+  begun = m .after (follow (wishOf 17 0 2)) empty-state
 
   handed : Exactly 4 zeros (Arrived false whole-group) (handedOut m 17 (calls whole-group) begun)
-  handed = d .exactly empty-state 17 0 2 yes-2 zeros zeros-carried 0 whole-group whole-channel
+  handed = d .exactly empty-state (wishOf 17 0 2) yes-2 zeros zeros-carried 0 whole-group whole-channel
 
 -- ---- one fixed answer
 
 pub fixed-fails : (n : ℕ) (m : Machine) → Demand3 (fixed n m) → ⊥
 unfolding called anyWhole told run AllStay eventsOf
 fixed-fails n m d =
-    let done : n ≡ 0 = d .accepted empty-state 17 0 2 yes-2 in
-    let nothing-yet : n ≡ 4 = d .follows empty-state 17 0 2 yes-2 .asks [] tt in
+    let done : n ≡ 0 = d .accepted empty-state (wishOf 17 0 2) yes-2 in
+    let nothing-yet : n ≡ 4 = d .follows empty-state (wishOf 17 0 2) yes-2 .asks [] tt in
     omega arith
 
 -- by demand 2 too: it must write, and the packets of what it wrote are answered 1, 2, 2 and 3
 pub fixed-unread : (n : ℕ) → Demand2 (fixed n ours) → ⊥
 unfolding answersTo one.followed view seenIn
 fixed-unread n d =
-    let k = follow-serves empty-state 17 0 2 yes-2 in
-    let t = followAfter empty-state 17 0 2 in
+    let k = follow-serves empty-state (wishOf 17 0 2) yes-2 in
+    let t = followAfter empty-state (wishOf 17 0 2) in
     let follows : Follows t 17 0 = record {
       size = k .serves .size;
       good = each-good t (k .serves .all);
       found = both-followed t 17 (k .serves .pos) (k .serves .found);
-      protection = ap (λ (f : one.Followed). f .head .protection) (k .seen);
+      protection = ap (λ (f : one.Followed). f .head .wish .protection) (k .seen);
     } in
     let writable : Writable 17 0 (blank 360) (blank 376) = record {
       address-from = lit≤ tt;
@@ -144,11 +144,11 @@ silent n e (i ∷ ts) s =
     never false = refl
 
 -- an address that was just followed shows nothing
-new-shows : (l : ℕ) → followAnswer empty-state 17 0 l ≡ 0 → askPart (followAfter empty-state 17 0 l) 17 ≡ []
+new-shows : (l : ℕ) → followAnswer empty-state (wishOf 17 0 l) ≡ 0 → askPart (followAfter empty-state (wishOf 17 0 l)) 17 ≡ []
 unfolding one.followed
 new-shows l e =
-    let k = follow-serves empty-state 17 0 l e in
-    shown-here (followAfter empty-state 17 0 l) 17 (k .serves) ∙ ap (λ (f : one.Followed). f .last) (k .seen)
+    let k = follow-serves empty-state (wishOf 17 0 l) e in
+    shown-here (followAfter empty-state (wishOf 17 0 l)) 17 (k .serves) ∙ ap (λ (f : one.Followed). f .last) (k .seen)
 
 pub deaf-fails : (n : ℕ) → Demand3 (deaf n) → ⊥
 unfolding calls callOf packets handedOut handsOut leaving answerTo
@@ -156,9 +156,9 @@ deaf-fails n d = go (ℕ-discrete n 3)
   where
     go : Dec (n ≡ 3) → ⊥
     go (no ne) =
-        something _ (handed (deaf n) d) (silent n (ne-eqb n 3 ne) (clean 0 ∷ clean 1 ∷ clean 2 ∷ clean 3 ∷ []) (followAfter empty-state 17 0 2))
+        something _ (handed (deaf n) d) (silent n (ne-eqb n 3 ne) (clean 0 ∷ clean 1 ∷ clean 2 ∷ clean 3 ∷ []) (followAfter empty-state (wishOf 17 0 2)))
     go (yes e) =
-        let s = followAfter empty-state 17 0 2 in
+        let s = followAfter empty-state (wishOf 17 0 2) in
         let rest = handedOut (deaf n) 17 (packets (clean 1 ∷ clean 2 ∷ clean 3 ∷ [])) s in
         no-empty _ (handed (deaf n) d) rest
         (ap₂ (λ (b c : Bool). cond (b && c) (askPart s 17 ∷ rest) rest) (eq-eqb (addressOf (clean 0)) 17 (clean-arrives 0 (lit< tt) .address)) (eq-eqb n 3 e)
@@ -167,12 +167,12 @@ deaf-fails n d = go (ℕ-discrete n 3)
 -- ---- nothing touched
 
 pub untouching-fails : Demand3 untouching → ⊥
-unfolding called anyWhole told run AllStay ourAnswer eventsOf
+unfolding called anyWhole told run AllStay questionAnswer ourAnswer eventsOf
 untouching-fails d =
     let q : 27 ≡ asked empty-state 17 .number =
     ap (λ (x : Asked). x .number) (asked-refused empty-state 17 27
     (sym (leave-27 empty-state 17 empty-passed refl (find empty-state 17) refl (empty-absent 17 (lit< tt)))) (λ z. omega (arith, z))) in
-    let nothing-yet : asked empty-state 17 .number ≡ 4 = d .follows empty-state 17 0 2 yes-2 .asks [] tt in
+    let nothing-yet : asked empty-state 17 .number ≡ 4 = d .follows empty-state (wishOf 17 0 2) yes-2 .asks [] tt in
     omega arith
 
 -- ---- the first packet truly, and nods at the rest
@@ -216,27 +216,27 @@ nodding-fails d =
 
 -- ask after the four packets and calls behind them, by the demand
 module _ (m : Machine) (d : Demand3 m) (h : List Call) (st : AllStay 17 (four ++ h)) where
-  after-four : m .answer (ask 17) (run m (four ++ h) (m .after (follow 17 0 1) empty-state))
-      ≡ called 1 (told (four-events ++ eventsOf 17 false h) (one.followed 17 0 1) [])
+  after-four : m .answer (asks (ask 17)) (run m (four ++ h) (m .after (follow (wishOf 17 0 1)) empty-state))
+      ≡ called 1 (told (four-events ++ eventsOf 17 false h) (one.followed (wishOf 17 0 1)) [])
   unfolding one.followed
   after-four =
-      d .follows empty-state 17 0 1 yes-1 .asks (four ++ h) st
-      ∙ ap (λ (es : List one.Event). called 1 (told es (one.followed 17 0 1) [])) (four-then h)
+      d .follows empty-state (wishOf 17 0 1) yes-1 .asks (four ++ h) st
+      ∙ ap (λ (es : List one.Event). called 1 (told es (one.followed (wishOf 17 0 1)) [])) (four-then h)
 
 pub still-fails : Demand3 still → ⊥
-unfolding told entry run leaving AllStay Stays ourAnswer eventsOf eventsAt one.followed one.after one.answer one.moved one.begun one.joined one.lastOf one.aged perOf needsOf rowOf moveOf moveNumber movedHead shown called anyWhole isWhole sinceWhole ends marked
+unfolding questionAnswer told entry run leaving AllStay Stays ourAnswer eventsOf eventsAt one.followed one.after one.answer one.moved one.begun one.joined one.lastOf one.aged perOf needsOf rowOf moveOf moveNumber movedHead shown called anyWhole isWhole sinceWhole ends marked
 still-fails d =
-    let same : (f : one.Followed) → f .head .protection ≡ f .head .protection = λ f. refl in
-    let fresh : asked _ 17 .number ≡ 5 = asks 1 yes-1 (λ s. s) (λ f. f) (λ s f k. k) same in
+    let same : (f : one.Followed) → f .head .wish .protection ≡ f .head .wish .protection = λ f. refl in
+    let fresh : asked _ 17 .number ≡ 5 = says 1 yes-1 (λ s. s) (λ f. f) (λ s f k. k) same in
     let stale = after-four still d (subframeEnd ∷ []) (tt, (tt, (tt, (tt, (tt, tt))))) in
     let clash : _≡_ {A = ℕ} 5 7 = sym fresh ∙ stale in
     omega arith
 
 pub aging-fails : Demand3 aging → ⊥
-unfolding told entry run leaving AllStay Stays ourAnswer eventsOf one.followed one.after one.answer one.moved one.begun one.joined one.lastOf one.aged perOf needsOf rowOf moveOf moveNumber movedHead shown called anyWhole isWhole sinceWhole ends marked
+unfolding questionAnswer told entry run leaving AllStay Stays ourAnswer eventsOf one.followed one.after one.answer one.moved one.begun one.joined one.lastOf one.aged perOf needsOf rowOf moveOf moveNumber movedHead shown called anyWhole isWhole sinceWhole ends marked
 aging-fails d =
-    let same : (f : one.Followed) → one.aged f .head .protection ≡ f .head .protection = λ f. refl in
-    let stale : asked _ 17 .number ≡ 7 = asks 1 yes-1 endAfter one.aged end-step same in
+    let same : (f : one.Followed) → one.aged f .head .wish .protection ≡ f .head .wish .protection = λ f. refl in
+    let stale : asked _ 17 .number ≡ 7 = says 1 yes-1 endAfter one.aged end-step same in
     let fresh = after-four aging d [] (tt, (tt, (tt, (tt, tt)))) in
     let clash : _≡_ {A = ℕ} 7 5 = sym stale ∙ fresh in
     omega arith

@@ -27,6 +27,8 @@ use Rattle.packet.specs.Received.{received, partAs}
 use Rattle.packet.specs.Damage.{sentImage}
 use Rattle.packet.specs.declared.Reading.{Reading}
 use Rattle.packet.proofs.Damages.{sent-corrected, corrected-came, sent-spare, received-sent, header-came}
+use Rattle.head.specs.Head.{wishOf}
+use Rattle.head.proofs.Wishes.{wish-0}
 use Rattle.slot.specs.Slot.{headOf}
 use Rattle.head.specs.declared.Head.{Head}
 use Rattle.runs.proofs.Parts.{blank-at}
@@ -53,7 +55,7 @@ empty-state = blank stateSize
 -- no slot of it has an address
 pub empty-address : (k : ℕ) → k < slots → addressAt empty-state k ≡ 0
 empty-address k h =
-    sym (address-is empty-state k) ∙ ap (λ (x : List ℕ). headOf x .address) (slot-blank k h) ∙ ap (λ (h : Head). h .address) (head-blank 736)
+    sym (address-is empty-state k) ∙ ap (λ (x : List ℕ). headOf x .wish .address) (slot-blank k h) ∙ ap (λ (h : Head). h .wish .address) (head-blank 736)
 
 pub empty-passed : Passed empty-state
 empty-passed = record { size = blank-length stateSize; all-good = each-good empty-state blank-good }
@@ -72,8 +74,8 @@ empty-free = go (decLt (find empty-state 0) slots)
     go (yes q) = q
     go (no q) = absurd (find-none empty-state 0 (omega arith) 0 (lit< tt) (empty-address 0 (lit< tt)))
 
-pub accepted : (l : ℕ) → (ltb l 1 || ltb 1500 l) ≡ false → followAnswer empty-state 17 0 l ≡ 0
-accepted l t = follow-0 empty-state 17 0 l empty-passed refl (lit≤ tt) t (find empty-state 17) refl (empty-absent 17 (lit< tt)) (find empty-state 0) refl empty-free
+pub accepted : (l : ℕ) → (ltb l 1 || ltb 1500 l) ≡ false → followAnswer empty-state (wishOf 17 0 l) ≡ 0
+accepted l t = follow-0 empty-state (wishOf 17 0 l) empty-passed (sym (wish-0 (wishOf 17 0 l) refl (lit≤ tt) t)) (find empty-state 17) refl (empty-absent 17 (lit< tt)) (find empty-state 0) refl empty-free
 
 -- ---- a group of zeros
 
@@ -152,7 +154,7 @@ pub record Steps (s : List ℕ) (c : ℕ) (f : one.Followed) : Type 0 where
   pub answer : packetAnswer s (clean c) ≡ one.answer (one.packet c (blank 90)) f
   pub next : Kept (packetAfter s (clean c)) 17 (one.after (one.packet c (blank 90)) f)
 
-pub clean-step : (s : List ℕ) (f : one.Followed) → Kept s 17 f → f .head .protection ≡ 0 → (c : ℕ) → c < 4 → Steps s c f
+pub clean-step : (s : List ℕ) (f : one.Followed) → Kept s 17 f → f .head .wish .protection ≡ 0 → (c : ℕ) → c < 4 → Steps s c f
 unfolding ourAfter one.run
 clean-step s f k p c h =
     let plain : by (view s 17) ≡ false = ap by (k .seen) ∙ ap (λ (n : ℕ). eqb n 1) p in

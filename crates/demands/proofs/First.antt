@@ -1,7 +1,7 @@
 -- Demand 1 for our calls: a refusal changes nothing but for 28 to 32, which drop the unfinished group of a followed address; what is
 -- lent to be read stays as it is.
 --
---   start-in .. ask-in             so the numbers of each call but a packet: 0, 4 to 7, and those that change nothing
+--   start-in .. question-in        so the numbers of each call but a packet: 0, 4 to 7, and those that change nothing
 --   refused-in-plain, placed-in    a packet's: those, or where it is placed 1 to 3 and 28 to 32
 --   placed-drops                   and 28 to 32 drop
 --   valueless                      0 beside a bare call's refusal
@@ -9,7 +9,7 @@
 --
 -- Assumes nothing.
 use mathlib.Core.Path.{_≡_, refl, sym, ap, _∙_, subst}
-use mathlib.Core.Bool.{Bool, true, false, cond}
+use mathlib.Core.Bool.{Bool, true, false, cond, _&&_, _||_}
 use mathlib.Core.List.{List, [], _∷_}
 use mathlib.Core.Logic.{_⊎_, inl, inr}
 use Prim.Native.Nat.{ℕ, zero, suc}
@@ -29,19 +29,23 @@ use Rattle.slot.specs.Slot.{headOf, unfinished, stored}
 use Rattle.head.specs.Head.{shown}
 use Rattle.head.specs.Move.{Move, started, held, whole, outOfStep, moveNumber, rowAt, placeAt}
 use Rattle.head.specs.declared.Head.{Head}
+use Rattle.head.specs.declared.Wish.{Wish}
 use Rattle.table.specs.State.{stateSize, slotAt, find}
 use Rattle.table.specs.Calls.{startAnswer, startAfter, followAnswer, followAfter, leaveAnswer, leaveAfter, endAnswer, endAfter}
 use Rattle.table.proofs.Doing.{start-passed}
 use Rattle.asking.specs.Asking.{askedAt, askedBy, asked, askPart}
 use Rattle.asking.specs.declared.Asked.{Asked}
 use Rattle.asking.proofs.Laws.{asked-group, asked-none, asked-refused, asked-found}
-use Rattle.group.specs.Group.{slotMoved, slotDropped, takenNumber, takenAfter}
+use Rattle.group.specs.Group.{refusedAfter, slotMoved, slotDropped, takenNumber, takenAfter}
 use Rattle.group.proofs.Laws.{dropped-room, dropped-stored, dropped-head}
-use Rattle.group.proofs.Doing.{out-drops}
+use Rattle.faults.specs.Faults.{numberDrops}
+use Rattle.faults.proofs.Laws.{unreadable-drops}
+use Rattle.group.proofs.Doing.{out-drops, taken-dropped}
 use Rattle.history.specs.Sent.{In}
 use Rattle.adapter.specs.Calls.{addressOf, unplaced, readingAt, packetAnswer, packetAfter, writeAnswer, writeAfter}
 use Rattle.adapter.proofs.Laws.{Placed, packet-refused}
-use Rattle.demands.specs.Machine.{Call, start, follow, leave, packet, subframeEnd, ask, ours, ourAnswer, ourAfter, ourBoard, Bare, readHeader, writeHeader, readWord, writeWord, readType, writeType, bareNumber, bareValues}
+use Rattle.demands.specs.Machine.{Call, start, follow, leave, packet, subframeEnd, asks, ask, Question, ours, questionAnswer, ourAnswer, ourAfter, ourBoard, Bare, readHeader, writeHeader, readWord, writeWord, readType, writeType, bareNumber, bareValues}
+use Rattle.demands.specs.Table.{member}
 use Rattle.demands.specs.Demand1.{unchanging, dropping, Dropped, DroppedBy, Demand1, AllZero}
 use Rattle.demands.proofs.Numbers.{among-in, in-among, in-every, in-none, rows-in}
 use Rattle.demands.proofs.Numbered.{numbered, write-answers, bare-answers}
@@ -62,9 +66,9 @@ start-in : (s : List ℕ) → In (startAnswer s) plain
 unfolding startAnswer
 start-in s = rows-in _ plain tt
 
-follow-in : (s : List ℕ) (a p l : ℕ) → In (followAnswer s a p l) plain
+follow-in : (s : List ℕ) (w : Wish) → In (followAnswer s w) plain
 unfolding followAnswer
-follow-in s a p l = rows-in _ plain tt
+follow-in s w = rows-in _ plain tt
 
 leave-in : (s : List ℕ) (a : ℕ) → In (leaveAnswer s a) plain
 unfolding leaveAnswer
@@ -80,7 +84,7 @@ unplaced-in s image = rows-in _ plain tt
 
 shown-in : (h : Head) → In (shown h) plain
 unfolding shown
-shown-in h = go (eqb (h .group) 0) (leb (h .limit) (h .age)) (eqb (h .gap) 1)
+shown-in h = go (eqb (h .group) 0) (leb (h .wish .limit) (h .age)) (eqb (h .gap) 1)
   where
     go : (a b c : Bool) → In (cond a 4 (cond b 7 (cond c 6 5))) plain
     go true b c = among-in 4 plain tt
@@ -99,6 +103,11 @@ ask-in s a = go (leaveAnswer s a) (leave-in s a)
     go zero h = subst (λ (n : ℕ). In n plain) (sym (asked-number (find s a) _)) (shown-in _)
     go (suc n) h = h
 
+-- so of every call that only reads
+question-in : (q : Question) (s : List ℕ) → In (questionAnswer q s) plain
+unfolding questionAnswer
+question-in (ask a) s = ask-in s a
+
 move-in : (mv : Move) → In (moveNumber mv) placedNumbers
 unfolding moveNumber
 move-in started = among-in 1 placedNumbers tt
@@ -106,12 +115,29 @@ move-in held = among-in 2 placedNumbers tt
 move-in whole = among-in 3 placedNumbers tt
 move-in outOfStep = among-in 32 placedNumbers tt
 
+-- demand 1's numbers, written out, are those of the list of faults that drop
+pub dropping-is : (n : ℕ) → numberDrops n ≡ member n dropping
+unfolding numberDrops member
+dropping-is n = go (eqb n 28) (eqb n 29) (eqb n 30) (eqb n 31) (eqb n 32)
+  where
+    go : (a b c d e : Bool)
+        → ((a && true) || ((b && true) || ((b && true) || ((c && true) || ((d && true) || ((e && true) || false))))))
+        ≡ (a || (b || (c || (d || (e || false)))))
+    go true b c d e = refl
+    go false true c d e = refl
+    go false false true d e = refl
+    go false false false true e = refl
+    go false false false false true = refl
+    go false false false false false = refl
+
 refused-in : (r : Reading) → Refused r → In (r .number) dropping
 unfolding In
 refused-in r (inl e) = inl e
 refused-in r (inr (inl e)) = inr (inl e)
-refused-in r (inr (inr (inl e))) = inr (inr (inl e))
-refused-in r (inr (inr (inr e))) = inr (inr (inr (inl e)))
+refused-in r (inr (inr (inl e))) = inr (inl e)
+refused-in r (inr (inr (inr (inl e)))) = inr (inr (inl e))
+refused-in r (inr (inr (inr (inr (inl e))))) = inr (inr (inr (inl e)))
+refused-in r (inr (inr (inr (inr (inr x))))) = absurd x
 
 taken-in : (r : Reading) (h : Head) → (r .number ≡ 0) ⊎ Refused r → In (takenNumber r h) placedNumbers
 unfolding takenNumber
@@ -136,9 +162,9 @@ move-drops outOfStep c b x h = sym (out-drops c b x)
 taken-drops : (r : Reading) (x : List ℕ) → (r .number ≡ 0) ⊎ Refused r → In (takenNumber r (headOf x)) dropping → takenAfter r x ≡ slotDropped x
 unfolding takenNumber takenAfter
 taken-drops r x (inl z) h =
-    done-passed (r .number) _ (slotDropped x) z
+    done-passed (r .number) _ (refusedAfter (r .number) x) z
     ∙ move-drops (rowAt (headOf x) (r .index)) (placeAt (headOf x) (r .index)) _ x (subst (λ (n : ℕ). In n dropping) (further-passed (r .number) _ z) h)
-taken-drops r x (inr f) h = done-refused (r .number) _ (slotDropped x) (refused-not-zero r f)
+taken-drops r x (inr f) h = taken-dropped r x (refused-not-zero r f) (unreadable-drops (r .number) f)
 
 module _ (s image : List ℕ) (p : Placed s image) where
   abbrev x : List ℕ
@@ -177,22 +203,22 @@ done-unchanged n now s h = done-refused n now s (λ z. in-among 0 unchanging (su
 unchanged : (x : Call) (s : List ℕ) → In (ourAnswer x s) unchanging → ourAfter x s ≡ s
 unfolding ourAnswer ourAfter startAfter followAfter leaveAfter endAfter
 unchanged start s h = done-unchanged (startAnswer s) _ s h
-unchanged (follow a p l) s h = done-unchanged (followAnswer s a p l) _ s h
+unchanged (follow w) s h = done-unchanged (followAnswer s w) _ s h
 unchanged (leave a) s h = done-unchanged (leaveAnswer s a) _ s h
 unchanged (packet image) s h =
     by-place s image (λ ne. packet-refused s image ne .1) (λ p. absurd (in-none _ placedNumbers unchanging tt (placed-in s image p) h))
 unchanged subframeEnd s h = done-unchanged (endAnswer s) _ s h
-unchanged (ask a) s h = refl
+unchanged (asks q) s h = refl
 
 drops : (x : Call) (s : List ℕ) → In (ourAnswer x s) dropping → DroppedBy x s (ourAfter x s)
 unfolding ourAnswer ourAfter DroppedBy
 drops start s h = in-none _ plain dropping tt (start-in s) h
-drops (follow a p l) s h = in-none _ plain dropping tt (follow-in s a p l) h
+drops (follow w) s h = in-none _ plain dropping tt (follow-in s w) h
 drops (leave a) s h = in-none _ plain dropping tt (leave-in s a) h
 drops (packet image) s h =
     by-place s image (λ ne. absurd (in-none _ plain dropping tt (refused-in-plain s image ne) h)) (λ p. (p .place, placed-drops s image p h))
 drops subframeEnd s h = in-none _ plain dropping tt (end-in s) h
-drops (ask a) s h = in-none _ plain dropping tt (ask-in s a) h
+drops (asks q) s h = in-none _ plain dropping tt (question-in q s) h
 
 unwritten : (a p : ℕ) (m o : List ℕ) → (writeAnswer a p (length m) (length o) ≡ 0 → ⊥) → writeAfter a p m o ≡ o
 unfolding writeAfter
@@ -219,8 +245,8 @@ valueless (writeType b) ne = (given-refused _ _ ne, tt)
 -- where there is a group, ask says 5, 6 or 7
 shown-with : (h : Head) → (h .group ≡ 0 → ⊥) → In (shown h) (5 ∷ 6 ∷ 7 ∷ [])
 unfolding shown In
-shown-with h ne = subst (λ (b : Bool). In (cond b 4 (cond (leb (h .limit) (h .age)) 7 (cond (eqb (h .gap) 1) 6 5))) (5 ∷ 6 ∷ 7 ∷ [])) (sym (ne-eqb (h .group) 0 ne))
-    (go (leb (h .limit) (h .age)) (eqb (h .gap) 1))
+shown-with h ne = subst (λ (b : Bool). In (cond b 4 (cond (leb (h .wish .limit) (h .age)) 7 (cond (eqb (h .gap) 1) 6 5))) (5 ∷ 6 ∷ 7 ∷ [])) (sym (ne-eqb (h .group) 0 ne))
+    (go (leb (h .wish .limit) (h .age)) (eqb (h .gap) 1))
   where
     go : (b c : Bool) → In (cond b 7 (cond c 6 5)) (5 ∷ 6 ∷ 7 ∷ [])
     go true c = inr (inr (inl refl))
@@ -249,7 +275,7 @@ unfolding startAfter
 begins s l = done-passed (startAnswer s) (blank stateSize) s (sym (start-passed s l))
 
 pub demand-1 : Demand1 ours
-unfolding ourAnswer ourAfter ourBoard
+unfolding questionAnswer ourAnswer ourAfter ourBoard
 demand-1 = record {
   numbered = numbered;
   writes = λ a p m o. write-answers a p (length m) (length o);
@@ -260,6 +286,6 @@ demand-1 = record {
   valueless = valueless;
   started = begins;
   empty = λ a s none. empty s a none;
-  asks = λ a s. refl;
+  reads = λ q s. refl;
   boards = λ a notice s. (refl, refl);
 }

@@ -21,7 +21,9 @@ use Rattle.bits.specs.Rows.{Row, row, refusal}
 use Rattle.bits.proofs.Rows.{refusal-hit, refusal-miss}
 use Rattle.bits.proofs.Search.{and-left, and-right}
 use Rattle.image.specs.Image.{spareOf}
-use Rattle.head.specs.Head.{within}
+use Rattle.head.specs.Head.{within, wishOf, goodWish}
+use Rattle.head.proofs.Bounds.{wish-bounds}
+use Rattle.head.specs.declared.Wish.{Wish}
 use Rattle.slot.specs.Slot.{headOf}
 use Rattle.table.specs.State.{stateSize, slots, slotAt, addressAt, find, good}
 use Rattle.table.specs.Calls.{startAnswer, followAnswer, leaveAnswer}
@@ -31,13 +33,13 @@ use Rattle.table.proofs.Kept.{Followed, follow-passed, leave-passed}
 use Rattle.history.specs.Sent.{In}
 use Rattle.adapter.specs.Calls.{addressOf, followed, unplaced, packetAnswer}
 use Rattle.adapter.proofs.Laws.{packet-refused}
-use Rattle.demands.specs.Machine.{Call, start, follow, leave, packet, subframeEnd, ask, ours, ourAnswer, ourAfter, run}
+use Rattle.demands.specs.Machine.{Call, start, follow, leave, packet, subframeEnd, asks, ask, Question, ours, questionAnswer, ourAnswer, ourAfter, run}
 use Rattle.demands.specs.Rows.{wishRows, addressRows, rowsOf}
 use Rattle.demands.specs.Table.{Good, addressAfter, member, without, taken, followNow, followedAfter, ByHistory, KeepsTable}
 use Rattle.demands.proofs.Numbers.{among, in-among, rows-in}
 use Rattle.demands.proofs.Numbered.{ask-answers}
 use Rattle.demands.proofs.Counting.{count, count-le, count-agree, count-one, count-none, count-all, count-some, Distinct, without-none, without-other, without-gone, without-length, without-distinct}
-use Rattle.demands.proofs.Serving.{Serves, here-bounds, here-address}
+use Rattle.demands.proofs.Serving.{Serves, here-address, here-wish}
 use Rattle.demands.proofs.Parts.{by-place}
 use Rattle.demands.proofs.First.{begins, placed-in}
 use Rattle.demands.proofs.Tables.{blank-state, end-passed, either, keeps-good, keeps-addresses}
@@ -217,15 +219,18 @@ module _ (l s : List ℕ) (k : Lists l s) where
   full : not (ltb (find s 0) 16) ≡ eqb (length l) 16
   full = used-full s ∙ ap (λ (n : ℕ). eqb n 16) (sym (k .size))
 
-  follow-by : (a p limit : ℕ) → followAnswer s a p limit ≡ refusal (wishRows a p limit (member a l) (eqb (length l) 16))
+  follow-by : (w : Wish) → followAnswer s w ≡ refusal (wishRows w (member (w .address) l) (eqb (length l) 16))
   unfolding followAnswer refusal
-  follow-by a p limit =
-      state-rest s (wishRows a p limit (ltb (find s a) 16) (not (ltb (find s 0) 16))) (k .state .size) (k .state .good)
-      ∙ ap (λ (b : Bool). refusal (wishRows a p limit (ltb (find s a) 16) b)) full ∙ at a
+  follow-by w =
+      state-rest s (wishRows w (ltb (find s (w .address)) 16) (not (ltb (find s 0) 16))) (k .state .size) (k .state .good)
+      ∙ ap (λ (b : Bool). refusal (wishRows w (ltb (find s (w .address)) 16) b)) full ∙ at (w .address)
     where
-      at : (a : ℕ) → refusal (wishRows a p limit (ltb (find s a) 16) (eqb (length l) 16)) ≡ refusal (wishRows a p limit (member a l) (eqb (length l) 16))
+      rows : ℕ → Bool → List Row
+      rows a b = wishRows (wishOf a (w .protection) (w .limit)) b (eqb (length l) 16)
+
+      at : (a : ℕ) → refusal (rows a (ltb (find s a) 16)) ≡ refusal (rows a (member a l))
       at zero = refl
-      at (suc n) = ap (λ (b : Bool). refusal (wishRows (suc n) p limit b (eqb (length l) 16))) (sym (k .same (suc n) (omega arith)))
+      at (suc n) = ap (λ (b : Bool). refusal (rows (suc n) b)) (sym (k .same (suc n) (omega arith)))
 
   leave-by : (a : ℕ) → leaveAnswer s a ≡ refusal (addressRows a (not (member a l)))
   unfolding leaveAnswer refusal
@@ -260,24 +265,28 @@ module _ (l s : List ℕ) (k : Lists l s) where
   not-34 : (n : ℕ) (ns : List ℕ) → In n ns → (T (among 34 ns) → ⊥) → n ≡ 34 → ⊥
   not-34 n ns h none e = none (in-among 34 ns (subst (λ (m : ℕ). In m ns) e h))
 
+  question-34 : (q : Question) → questionAnswer q s ≡ 34 → ⊥
+  unfolding questionAnswer
+  question-34 (ask a) e =
+      let rows = addressRows a (not (member a l)) in
+      let w = ask-answers rows s a (leave-by a) in
+      either (refusal rows) (λ z. not-34 _ (4 ∷ 5 ∷ 6 ∷ 7 ∷ []) (w .accepted z) (λ q. q) e)
+      (λ ne. not-34 _ (0 ∷ 22 ∷ 27 ∷ []) (rows-in rows _ tt) (λ q. q) (sym (w .refused ne) ∙ e))
+
   never-34 : (x : Call) → ourAnswer x s ≡ 34 → ⊥
   unfolding ourAnswer startAnswer
   never-34 start e = not-34 _ (0 ∷ 20 ∷ []) (rows-in _ _ tt) (λ z. z) e
-  never-34 (follow a p m) e = not-34 _ (0 ∷ 22 ∷ 23 ∷ 24 ∷ 25 ∷ 26 ∷ []) (rows-in _ _ tt) (λ z. z) (sym (follow-by a p m) ∙ e)
+  never-34 (follow w) e = not-34 _ (0 ∷ 22 ∷ 23 ∷ 24 ∷ 25 ∷ 26 ∷ []) (rows-in _ _ tt) (λ z. z) (sym (follow-by w) ∙ e)
   never-34 (leave a) e = not-34 _ (0 ∷ 22 ∷ 27 ∷ []) (rows-in _ _ tt) (λ z. z) (sym (leave-by a) ∙ e)
   never-34 (packet image) e =
       by-place s image
       (λ ne. not-34 _ (0 ∷ 20 ∷ 21 ∷ 27 ∷ []) (rows-in _ _ tt) (λ z. z) (sym (packet-refused s image ne .0 ∙ placed-by image) ∙ e))
       (λ p. not-34 _ _ (placed-in s image p) (λ z. z) e)
   never-34 subframeEnd e = omega (arith, end-passed s (k .state), e)
-  never-34 (ask a) e =
-      let rows = addressRows a (not (member a l)) in
-      let w = ask-answers rows s a (leave-by a) in
-      either (refusal rows) (λ z. not-34 _ (4 ∷ 5 ∷ 6 ∷ 7 ∷ []) (w .accepted z) (λ q. q) e)
-      (λ ne. not-34 _ (0 ∷ 22 ∷ 27 ∷ []) (rows-in rows _ tt) (λ q. q) (sym (w .refused ne) ∙ e))
+  never-34 (asks q) e = question-34 q e
 
   pub by-history : ByHistory ours l s
-  unfolding ourAnswer
+  unfolding questionAnswer ourAnswer
   by-history = record {
     follows = follow-by;
     leaves = leave-by;
@@ -290,9 +299,12 @@ module _ (l s : List ℕ) (k : Lists l s) where
 -- ---- each call keeps it
 
 -- a follow that the list takes is accepted
-wish-taken : (a p limit : ℕ) (l : List ℕ) → taken a p limit l ≡ true → refusal (wishRows a p limit (member a l) (eqb (length l) 16)) ≡ 0
+wish-taken : (w : Wish) (l : List ℕ) → taken w l ≡ true → refusal (wishRows w (member (w .address) l) (eqb (length l) 16)) ≡ 0
 unfolding taken refusal
-wish-taken a p limit l e =
+wish-taken w l e =
+    let a = w .address in
+    let p = w .protection in
+    let limit = w .limit in
     let r1 = and-right (within 1 1022 a) _ e in
     let r2 = and-right (leb p 1) _ r1 in
     let r3 = and-right (within 1 1500 limit) _ r2 in
@@ -300,8 +312,8 @@ wish-taken a p limit l e =
     ∷ row (not (and-left (within 1 1500 limit) _ r2 i)) 24 ∷ row (flipped (member a l) (and-left (not (member a l)) _ r3) i) 25
     ∷ row (ne-eqb (length l) 16 (λ q. omega (arith, q, ltb-true (length l) 16 (and-right (not (member a l)) _ r3))) i) 26 ∷ [])
   where
-    low : leb p 1 ≡ true → ltb 1 p ≡ false
-    low q = le-ltb 1 p (leb-true p 1 q)
+    low : leb (w .protection) 1 ≡ true → ltb 1 (w .protection) ≡ false
+    low q = le-ltb 1 (w .protection) (leb-true (w .protection) 1 q)
 
     flipped : (b : Bool) → not b ≡ true → b ≡ false
     flipped true q = sym q
@@ -311,32 +323,39 @@ module _ (l s : List ℕ) (k : Lists l s) where
   keeps : (x : Call) → ((j : ℕ) → j < slots → addressAfter x s j ≡ addressAt s j) → Lists l (ourAfter x s)
   keeps x e = lists-same l s (ourAfter x s) k (keeps-good x s (k .state)) (λ j h. keeps-addresses x s (k .state) j h ∙ e j h)
 
-  is-taken : (a p m : ℕ) → Followed s a p m → taken a p m l ≡ true
-  unfolding taken
-  is-taken a p m f =
-      let pos = leb-true 1 a (and-left (leb 1 a) (leb a 1022) (f .address)) in
+  is-taken : (w : Wish) → Followed s w → taken w l ≡ true
+  unfolding taken goodWish
+  is-taken w f =
+      let a = w .address in
       let less : length l < 16 = room (eqb-false (length l) 16 (sym (full l s k) ∙ ap not (lt-ltb (find s 0) 16 (f .room)))) in
-      λ i. f .address i && (le-leb p 1 (f .protection) i && (f .limit i
-      && (not ((k .same a pos ∙ le-ltb (find s a) 16 (f .absent)) i) && lt-ltb (length l) 16 less i)))
+      let same : goodWish w && (not (member a l) && ltb (length l) 16) ≡ true =
+      λ i. f .wish i && (not ((k .same a (wish-bounds w (f .wish) .address-from) ∙ le-ltb (find s a) 16 (f .absent)) i) && lt-ltb (length l) 16 less i) in
+      three (within 1 1022 a) (leb (w .protection) 1) (within 1 1500 (w .limit)) (not (member a l) && ltb (length l) 16) ∙ same
     where
+      three : (a p n b : Bool) → (a && (p && (n && b))) ≡ ((a && (p && n)) && b)
+      three true true true b = refl
+      three true true false b = refl
+      three true false n b = refl
+      three false p n b = refl
+
       room : (length l ≡ 16 → ⊥) → length l < 16
       room ne = omega (arith, ne, k .size, used-le s)
 
-  follow-now : (a p m : ℕ) → Lists (followNow (follow a p m) l) (ourAfter (follow a p m) s)
+  follow-now : (w : Wish) → Lists (followNow (follow w) l) (ourAfter (follow w) s)
   unfolding followNow addressAfter rowsOf followAnswer
-  follow-now a p m =
-      either (followAnswer s a p m)
-      (λ z. let f = follow-passed s a p m z in
-      subst (λ (b : Bool). Lists (cond b (a ∷ l) l) (ourAfter (follow a p m) s)) (sym (is-taken a p m f))
-      (lists-add l s (ourAfter (follow a p m) s) k (keeps-good (follow a p m) s (k .state)) a
-      (leb-true 1 a (and-left (leb 1 a) (leb a 1022) (f .address))) (f .absent) (f .room)
-      (λ j h. keeps-addresses (follow a p m) s (k .state) j h
-      ∙ ap (λ (b : Bool). cond (b && eqb j (find s 0)) a (addressAt s j)) (eq-eqb (followAnswer s a p m) 0 z))))
-      (λ ne. subst (λ (b : Bool). Lists (cond b (a ∷ l) l) (ourAfter (follow a p m) s)) (sym (untaken (taken a p m l) refl ne))
-      (keeps (follow a p m) (λ j h. ap (λ (b : Bool). cond (b && eqb j (find s 0)) a (addressAt s j)) (ne-eqb (followAnswer s a p m) 0 ne))))
+  follow-now w =
+      either (followAnswer s w)
+      (λ z. let f = follow-passed s w z in
+      subst (λ (b : Bool). Lists (cond b (w .address ∷ l) l) (ourAfter (follow w) s)) (sym (is-taken w f))
+      (lists-add l s (ourAfter (follow w) s) k (keeps-good (follow w) s (k .state)) (w .address)
+      (wish-bounds w (f .wish) .address-from) (f .absent) (f .room)
+      (λ j h. keeps-addresses (follow w) s (k .state) j h
+      ∙ ap (λ (b : Bool). cond (b && eqb j (find s 0)) (w .address) (addressAt s j)) (eq-eqb (followAnswer s w) 0 z))))
+      (λ ne. subst (λ (b : Bool). Lists (cond b (w .address ∷ l) l) (ourAfter (follow w) s)) (sym (untaken (taken w l) refl ne))
+      (keeps (follow w) (λ j h. ap (λ (b : Bool). cond (b && eqb j (find s 0)) (w .address) (addressAt s j)) (ne-eqb (followAnswer s w) 0 ne))))
     where
-      untaken : (b : Bool) → taken a p m l ≡ b → (followAnswer s a p m ≡ 0 → ⊥) → taken a p m l ≡ false
-      untaken true e ne = absurd (ne (follow-by l s k a p m ∙ wish-taken a p m l e))
+      untaken : (b : Bool) → taken w l ≡ b → (followAnswer s w ≡ 0 → ⊥) → taken w l ≡ false
+      untaken true e ne = absurd (ne (follow-by l s k w ∙ wish-taken w l e))
       untaken false e ne = e
 
   -- a member is an address that can be left
@@ -347,9 +366,8 @@ module _ (l s : List ℕ) (k : Lists l s) where
       let a = suc n in
       let at : find s a < slots = ltb-true (find s a) 16 (sym (k .same a (omega arith)) ∙ e) in
       let v : Serves s a = record { size = k .state .size; all = good-each s (k .state .good); pos = omega arith; found = at } in
-      let b = here-bounds s a v in
       let q = here-address s a v in
-      let w : within 1 1022 a ≡ true = ap₂ (λ (x y : Bool). x && y) (le-leb 1 a (omega arith)) (le-leb a 1022 (omega (arith, b .address-to, q))) in
+      let w : within 1 1022 a ≡ true = ap₂ (λ (x y : Bool). x && y) (le-leb 1 a (omega arith)) (le-leb a 1022 (omega (arith, here-wish s a v .address-to, q))) in
       leave-by l s k a ∙ ap₂ (λ (x y : Bool). refusal (row (not x) 22 ∷ row (not y) 27 ∷ [])) w e
 
   leave-now : (a : ℕ) → Lists (followNow (leave a) l) (ourAfter (leave a) s)
@@ -370,11 +388,11 @@ module _ (l s : List ℕ) (k : Lists l s) where
   lists-now : (x : Call) → Lists (followNow x l) (ourAfter x s)
   unfolding followNow addressAfter ourAfter
   lists-now start = subst (Lists []) (sym (begins s (k .state .size))) lists-empty
-  lists-now (follow a p m) = follow-now a p m
+  lists-now (follow w) = follow-now w
   lists-now (leave a) = leave-now a
   lists-now (packet image) = keeps (packet image) (λ j h. refl)
   lists-now subframeEnd = keeps subframeEnd (λ j h. refl)
-  lists-now (ask a) = k
+  lists-now (asks q) = k
 
 pub lists-run : (h : List Call) (l s : List ℕ) → Lists l s → Lists (followedAfter h l) (run ours h s)
 unfolding followedAfter run

@@ -21,7 +21,7 @@ use Rattle.bits.proofs.Storing.{blank-length}
 use Rattle.runs.specs.Part.{part}
 use Rattle.slot.specs.Slot.{roomSize, slotSize, headOf, withUnfinished, withStored, free, goodSlot}
 use Rattle.runs.specs.Numbers.{fourAt}
-use Rattle.head.specs.Head.{shown, goodHead}
+use Rattle.head.specs.Head.{shown, goodHead, wishOf, goodWish}
 use Rattle.slot.proofs.Laws.{unfinished-head, unfinished-length, stored-head, stored-length}
 use Rattle.slot.proofs.Goods.{blank-free}
 use Rattle.table.specs.State.{stateSize, slots, slotAt, withSlot, addressAt, find, goodAt, good}
@@ -29,7 +29,7 @@ use Rattle.table.specs.Calls.{startAfter, followAnswer, followAfter, leaveAnswe
 use Rattle.table.proofs.States.{slot-length, with-length, address-is, address-same, address-other, find-has}
 use Rattle.asking.specs.Asking.{asked}
 use Rattle.history.specs.Followed as one
-use Rattle.demands.specs.Machine.{Call, start, follow, leave, subframeEnd, ask, ours, ourAnswer, ourAfter, run}
+use Rattle.demands.specs.Machine.{Call, start, follow, leave, subframeEnd, asks, ours, ourAnswer, ourAfter, run, questionAnswer}
 use Rattle.demands.specs.Rows.{wishRows, addressRows}
 use Rattle.demands.specs.Demand1.{Demand1}
 use Rattle.demands.specs.Table.{member, without, taken, followNow, followedAfter, ByHistory, KeepsTable}
@@ -54,15 +54,15 @@ answers-then h = by-history _ _ (lists-run h [] begun begun-lists)
 -- ---- leave and start
 
 pub clinging-fails : KeepsTable clinging → ⊥
-unfolding byCall run ourAnswer ourAfter followedAfter followNow taken member without refusal one.followed shown
+unfolding questionAnswer byCall run ourAnswer ourAfter followedAfter followNow taken member without refusal one.followed shown
 clinging-fails d =
-    let t = followAfter begun 17 0 1 in
-    let k = follow-serves empty-state 17 0 1 (accepted 1 refl) in
+    let t = followAfter begun (wishOf 17 0 1) in
+    let k = follow-serves empty-state (wishOf 17 0 1) (accepted 1 refl) in
     let four : asked t 17 .number ≡ 4 =
-    ap (λ (s : List ℕ). asked (followAfter s 17 0 1) 17 .number) (begins empty-state (blank-length stateSize))
+    ap (λ (s : List ℕ). asked (followAfter s (wishOf 17 0 1)) 17 .number) (begins empty-state (blank-length stateSize))
     ∙ ask-here _ 17 (k .serves) ∙ ap (λ (f : one.Followed). shown (f .head)) (k .seen) in
     let gone : asked t 17 .number ≡ 27 =
-    d .history empty-state (blank-length stateSize) (follow 17 0 1 ∷ leave 17 ∷ []) .asks 17 .refused (λ z. omega (arith, z)) in
+    d .history empty-state (blank-length stateSize) (follow (wishOf 17 0 1) ∷ leave 17 ∷ []) .asks 17 .refused (λ z. omega (arith, z)) in
     omega (arith, four, gone)
 
 -- the heads are kept
@@ -82,7 +82,7 @@ roomless-address (suc n) k s h l j =
     let lb = stored-length (blank roomSize) y ly room-size ∙ ly in
     let head : headOf b ≡ headOf x = stored-head (blank roomSize) y ly room-size ∙ unfinished-head (blank roomSize) x lx room-size in
     roomless-address n (suc k) (withSlot k b s) (omega arith) (with-length s l k b hk lb) j
-    ∙ go (ℕ-discrete j k) (λ q. ap (addressAt (withSlot k b s)) q ∙ address-same s l k b hk lb ∙ ap (λ y. y .address) head ∙ address-is s k ∙ ap (addressAt s) (sym q))
+    ∙ go (ℕ-discrete j k) (λ q. ap (addressAt (withSlot k b s)) q ∙ address-same s l k b hk lb ∙ ap (λ y. y .wish .address) head ∙ address-is s k ∙ ap (addressAt s) (sym q))
     (λ q. address-other s l k b hk lb j q)
   where
     go : {A : Type 0} → Dec (j ≡ k) → (j ≡ k → A) → ((j ≡ k → ⊥) → A) → A
@@ -92,8 +92,8 @@ roomless-address (suc n) k s h l j =
 pub half-started-fails : Demand1 halfStarted → ⊥
 unfolding byCall
 half-started-fails d =
-    let k = follow-serves empty-state 17 0 1 (accepted 1 refl) in
-    let t = followAfter empty-state 17 0 1 in
+    let k = follow-serves empty-state (wishOf 17 0 1) (accepted 1 refl) in
+    let t = followAfter empty-state (wishOf 17 0 1) in
     let j = find t 17 in
     let kept : addressAt (roomless slots 0 t) j ≡ 17 = roomless-address slots 0 t (omega arith) (k .serves .size) j ∙ find-has t 17 (k .serves .found) in
     let none : addressAt (roomless slots 0 t) j ≡ 0 =
@@ -105,31 +105,31 @@ half-started-fails d =
 pub greedy-fails : KeepsTable greedy → ⊥
 unfolding byCall run ourAnswer ourAfter followedAfter followNow taken member refusal
 greedy-fails d =
-    let zero-first : followAnswer begun 17 0 1 ≡ 0 = answers-then [] .follows 17 0 1 in
-    let t = run ours (follow 17 0 1 ∷ crowd 0 1) begun in
-    let after : run greedy (follow 17 0 1 ∷ []) begun ≡ t = done-passed (followAnswer begun 17 0 1) t begun zero-first in
-    let full : followAnswer t 18 0 1 ≡ 26 = answers-then (follow 17 0 1 ∷ crowd 0 1) .follows 18 0 1 in
-    let room : followAnswer (run greedy (follow 17 0 1 ∷ []) begun) 18 0 1 ≡ 0 =
-    d .history empty-state (blank-length stateSize) (follow 17 0 1 ∷ []) .follows 18 0 1 in
-    omega (arith, full, ap (λ (s : List ℕ). followAnswer s 18 0 1) (sym after) ∙ room)
+    let zero-first : followAnswer begun (wishOf 17 0 1) ≡ 0 = answers-then [] .follows (wishOf 17 0 1) in
+    let t = run ours (follow (wishOf 17 0 1) ∷ crowd 0 1) begun in
+    let after : run greedy (follow (wishOf 17 0 1) ∷ []) begun ≡ t = done-passed (followAnswer begun (wishOf 17 0 1)) t begun zero-first in
+    let full : followAnswer t (wishOf 18 0 1) ≡ 26 = answers-then (follow (wishOf 17 0 1) ∷ crowd 0 1) .follows (wishOf 18 0 1) in
+    let room : followAnswer (run greedy (follow (wishOf 17 0 1) ∷ []) begun) (wishOf 18 0 1) ≡ 0 =
+    d .history empty-state (blank-length stateSize) (follow (wishOf 17 0 1) ∷ []) .follows (wishOf 18 0 1) in
+    omega (arith, full, ap (λ (s : List ℕ). followAnswer s (wishOf 18 0 1)) (sym after) ∙ room)
 
 pub leaking-fails : KeepsTable leaking → ⊥
 unfolding byCall run ourAnswer ourAfter followedAfter followNow taken member without refusal
 leaking-fails d =
-    let s = followAfter begun 17 0 1 in
-    let zero-leave : leaveAnswer s 17 ≡ 0 = answers-then (follow 17 0 1 ∷ []) .leaves 17 in
-    let t = followAfter (leaveAfter s 17) 500 0 1 in
-    let h = follow 17 0 1 ∷ leave 17 ∷ [] in
+    let s = followAfter begun (wishOf 17 0 1) in
+    let zero-leave : leaveAnswer s 17 ≡ 0 = answers-then (follow (wishOf 17 0 1) ∷ []) .leaves 17 in
+    let t = followAfter (leaveAfter s 17) (wishOf 500 0 1) in
+    let h = follow (wishOf 17 0 1) ∷ leave 17 ∷ [] in
     let after : run leaking h begun ≡ t = done-passed (leaveAnswer s 17) t s zero-leave in
-    let held : followAnswer t 500 0 1 ≡ 25 = answers-then (follow 17 0 1 ∷ leave 17 ∷ follow 500 0 1 ∷ []) .follows 500 0 1 in
-    let free-again : followAnswer (run leaking h begun) 500 0 1 ≡ 0 = d .history empty-state (blank-length stateSize) h .follows 500 0 1 in
-    omega (arith, held, ap (λ (x : List ℕ). followAnswer x 500 0 1) (sym after) ∙ free-again)
+    let held : followAnswer t (wishOf 500 0 1) ≡ 25 = answers-then (follow (wishOf 17 0 1) ∷ leave 17 ∷ follow (wishOf 500 0 1) ∷ []) .follows (wishOf 500 0 1) in
+    let free-again : followAnswer (run leaking h begun) (wishOf 500 0 1) ≡ 0 = d .history empty-state (blank-length stateSize) h .follows (wishOf 500 0 1) in
+    omega (arith, held, ap (λ (x : List ℕ). followAnswer x (wishOf 500 0 1)) (sym after) ∙ free-again)
 
 -- ---- a subframe's end
 
 -- a byte of a room, and no address
 bad-state : good (1 ∷ blank 11775) ≡ false
-unfolding good goodAt all goodSlot goodHead free headOf fourAt slotAt part blank
+unfolding good goodAt all goodSlot goodWish goodHead free headOf fourAt slotAt part blank
 bad-state = refl
 
 pub brittle-fails : KeepsTable brittle → ⊥

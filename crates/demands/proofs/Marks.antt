@@ -15,7 +15,8 @@ use lib.Dec.{ltb, eqb}
 use lib.ListN.{replicate}
 use Rattle.head.specs.declared.Head.{Head}
 use Rattle.head.proofs.Bounds.{Bounds}
-use Rattle.history.specs.Transcript.{Entry, answered, subframe, isWhole, anyWhole, sinceWhole, ends, before, drops, marks, marked}
+use Rattle.faults.specs.Faults.{numberDrops}
+use Rattle.history.specs.Transcript.{Entry, answered, subframe, isWhole, anyWhole, sinceWhole, ends, before, marks, marked}
 use Rattle.history.proofs.Freshness.{Tells}
 use Rattle.demands.specs.Seen.{marksBy, marksOf}
 
@@ -77,7 +78,7 @@ record Marked (w g z : Bool) (n : ℕ) : Type 0 where
   age : anyWhole (marksBy w g z n) ≡ true → n ≡ ends (sinceWhole (marksBy w g z n))
 
 marked-as : (w g z : Bool) (n : ℕ) → Marked w g z n
-unfolding marksBy anyWhole isWhole sinceWhole marked marks drops before ends
+unfolding marksBy anyWhole isWhole sinceWhole marked marks numberDrops before ends
 marked-as w g z n = go w g (plain z n)
   where
     go : (w g : Bool) → Plain (cond z [] (aged n)) n z → Marked w g z n
@@ -111,7 +112,7 @@ mark-not m h = go (eqb m 0) refl
     go true e = eqb-true m 0 e
     go false e = let ne = eqb-false m 0 e in omega arith
 
-pub tells-marks : (h : Head) → Bounds h → Tells (h .limit) h (marksOf h)
+pub tells-marks : (h : Head) → Bounds h → Tells (h .wish .limit) h (marksOf h)
 unfolding marksOf
 tells-marks h b =
     let m = marked-as (ltb 0 (h .awaited)) (eqb (h .gap) 1) (eqb (h .group) 0) (h .age) in

@@ -2,7 +2,8 @@
 --
 --   answers-same        where the answer is what the order gives
 --   slot-answers        28 to 32 and 1 to 3, by the tests of their rows
---   packet-answers, ask-answers, numbered     the calls on a state
+--   packet-answers, ask-answers, question-answers, numbered     the calls on a state
+--   follow-rows         follow's rows, as they are written out, are those that its contract cites
 --   write-answers, bare-answers               the group writer, and the bare calls
 --
 -- Assumes nothing.
@@ -29,6 +30,7 @@ use Rattle.slot.specs.Slot.{headOf}
 use Rattle.head.specs.Head.{shown, within}
 use Rattle.head.specs.Move.{started, held, whole, outOfStep, perOf, needsOf, rowOf, moveOf, moveNumber}
 use Rattle.head.specs.declared.Head.{Head}
+use Rattle.head.specs.declared.Wish.{Wish}
 use Rattle.table.specs.State.{slotAt, find}
 use Rattle.table.specs.Calls.{startAnswer, followAnswer, leaveAnswer, endAnswer}
 use Rattle.asking.specs.Asking.{askedAt, askedBy, asked}
@@ -37,8 +39,8 @@ use Rattle.group.specs.Group.{takenNumber}
 use Rattle.history.specs.Sent.{In}
 use Rattle.adapter.specs.Calls.{addressOf, unplaced, readingAt, slotAnswer, packetAnswer, groupSize, writeAnswer}
 use Rattle.adapter.proofs.Laws.{Placed, placed-zero, packet-refused}
-use Rattle.demands.specs.Machine.{Call, start, follow, leave, packet, subframeEnd, ask, ourAnswer, Bare, readHeader, writeHeader, readWord, writeWord, readType, writeType, bareNumber}
-use Rattle.demands.specs.Rows.{indexOf, slotRows, rowsOf, ownNumbers, writeRows, bareRows, Answers}
+use Rattle.demands.specs.Machine.{Call, start, follow, leave, packet, subframeEnd, asks, ask, Question, questionAnswer, ourAnswer, Bare, readHeader, writeHeader, readWord, writeWord, readType, writeType, bareNumber}
+use Rattle.demands.specs.Rows.{indexOf, slotRows, questionRows, rowsOf, questionNumbers, ownNumbers, writeRows, bareRows, Answers}
 use Rattle.demands.proofs.Parts.{asked-number, by-place, placed-answer}
 
 -- where the answer is what the order gives, 0 is the only number of the call's own
@@ -105,11 +107,11 @@ slot-answers false false false false false a c h =
 
 -- a reading of 94 bytes at a head
 taken-answers : (h : Head) (image : List ℕ) → length image ≡ 94
-    → Answers (slotRows h image) (1 ∷ 2 ∷ 3 ∷ []) (takenNumber (received (eqb (h .protection) 1) image) h)
+    → Answers (slotRows h image) (1 ∷ 2 ∷ 3 ∷ []) (takenNumber (received (eqb (h .wish .protection) 1) image) h)
 unfolding takenNumber received receivedNumber refusal perOf needsOf
 taken-answers h image l =
     let t = typeOf image in
-    let u = unreadable (eqb (h .protection) 1) (usefulOf image) in
+    let u = unreadable (eqb (h .wish .protection) 1) (usefulOf image) in
     let n : refusal (row (not (eqb (length image) 94)) 20 ∷ readingRows (leb 256 t) (eqb t 0x3F) (eqb t 0xC7) (eqb t 0xF8) u)
     ≡ refusal (readingRows (leb 256 t) (eqb t 0x3F) (eqb t 0xC7) (eqb t 0xF8) u) =
     ap (λ (x : Bool). cond (not x) 20 (refusal (readingRows (leb 256 t) (eqb t 0x3F) (eqb t 0xC7) (eqb t 0xF8) u))) (eq-eqb (length image) 94 l) in
@@ -164,7 +166,7 @@ module _ (s image : List ℕ) where
 
 shown-in : (h : Head) → In (shown h) (4 ∷ 5 ∷ 6 ∷ 7 ∷ [])
 unfolding shown In
-shown-in h = go (eqb (h .group) 0) (leb (h .limit) (h .age)) (eqb (h .gap) 1)
+shown-in h = go (eqb (h .group) 0) (leb (h .wish .limit) (h .age)) (eqb (h .gap) 1)
   where
     go : (a b c : Bool) → In (cond a 4 (cond b 7 (cond c 6 5))) (4 ∷ 5 ∷ 6 ∷ 7 ∷ [])
     go true b c = inl refl
@@ -186,16 +188,26 @@ ask-answers rows s a e = go (leaveAnswer s a) e
     }
     go (suc n) q = refused-answers rows _ (suc n) (record { same = q; not-zero = λ z. omega (arith, z) })
 
+-- a call that only reads
+question-answers : (q : Question) (s : List ℕ) → Answers (questionRows q s) (questionNumbers q) (questionAnswer q s)
+unfolding questionAnswer questionRows questionNumbers leaveAnswer
+question-answers (ask a) s = ask-answers _ s a refl
+
 -- ---- the calls
 
+-- follow's rows as they are written out are those that its contract cites, the wish's of the crate head
+follow-rows : (s : List ℕ) (w : Wish) → followAnswer s w ≡ refusal (rowsOf (follow w) s)
+unfolding followAnswer rowsOf
+follow-rows s w = refl
+
 pub numbered : (x : Call) (s : List ℕ) → Answers (rowsOf x s) (ownNumbers x) (ourAnswer x s)
-unfolding ourAnswer rowsOf ownNumbers startAnswer followAnswer leaveAnswer endAnswer
+unfolding ourAnswer rowsOf ownNumbers startAnswer leaveAnswer endAnswer
 numbered start s = answers-same _ _ refl
-numbered (follow a p l) s = answers-same _ _ refl
+numbered (follow w) s = answers-same _ _ (follow-rows s w)
 numbered (leave a) s = answers-same _ _ refl
 numbered (packet image) s = packet-answers s image
 numbered subframeEnd s = answers-same _ _ refl
-numbered (ask a) s = ask-answers _ s a refl
+numbered (asks q) s = question-answers q s
 
 -- the message's length, by the protection
 length-row : (p m : ℕ) (rest : List Row)

@@ -19,21 +19,23 @@ use Rattle.bits.specs.Rows.{Row, row, refusal}
 use Rattle.bits.proofs.Storing.{blank-length}
 use Rattle.bare.specs.Bare.{headerWritten}
 use Rattle.image.specs.Image.{spareOf}
+use Rattle.head.specs.Head.{wishOf, wishAnswer}
+use Rattle.head.proofs.Wishes.{wish-22}
 use Rattle.slot.specs.Slot.{headOf}
 use Rattle.table.specs.State.{slotAt, find}
 use Rattle.table.specs.Calls.{followAnswer, leaveAnswer, endAnswer}
-use Rattle.table.proofs.Looking.{follow-22, leave-27}
+use Rattle.table.proofs.Looking.{follow-wish, leave-27}
 use Rattle.asking.specs.Asking.{asked, askedBy, askPart}
 use Rattle.asking.specs.declared.Asked.{Asked}
 use Rattle.asking.proofs.Laws.{asked-refused}
 use Rattle.history.specs.Sent.{In}
 use Rattle.adapter.specs.Calls.{addressOf, followed, packetAnswer, writeAfter}
-use Rattle.demands.specs.Machine.{Call, follow, packet, subframeEnd, ask, ourAnswer, writeHeader, bareNumber}
-use Rattle.demands.specs.Rows.{stateRows, slotRows, rowsOf, ownNumbers, Answers}
+use Rattle.demands.specs.Machine.{Call, follow, packet, subframeEnd, asks, ourAnswer, writeHeader, bareNumber, questionAnswer, ask}
+use Rattle.demands.specs.Rows.{stateRows, slotRows, rowsOf, ownNumbers, Answers, questionNumbers}
 use Rattle.demands.specs.Demand1.{Demand1}
 use Rattle.demands.specs.Demand2.{Writable, Demand2}
 use Rattle.demands.specs.Demand3.{Demand3}
-use Rattle.demands.specs.Harmful.{byCall, lenient, long, misnumbered, knowing, babbling, boasting, mute, sparing}
+use Rattle.demands.specs.Harmful.{byCall, lenient, long, misnumbered, knowing, babbling, boasting, mute, sparing, asking}
 use Rattle.demands.proofs.Numbers.{in-among}
 use Rattle.demands.proofs.Numbered.{numbered}
 use Rattle.demands.proofs.Second.{written-images, written-length}
@@ -49,11 +51,14 @@ refused-too x s n m e none d =
     let ne : refusal (rowsOf x s) ≡ 0 → ⊥ = λ z. none (subst (λ (i : ℕ). In i (ownNumbers x)) e (k .accepted z)) in
     d .refused ne ∙ sym (k .refused ne) ∙ e
 
+zero-22 : wishAnswer (wishOf 0 0 1) ≡ 22
+zero-22 = sym (wish-22 (wishOf 0 0 1) refl)
+
 pub lenient-fails : Demand1 lenient → ⊥
 unfolding byCall ourAnswer ownNumbers
 lenient-fails d =
-    let z : _≡_ {A = ℕ} 0 22 = refused-too (follow 0 0 1) empty-state 22 0 (follow-22 empty-state 0 0 1 empty-passed refl) (in-among 22 (0 ∷ []))
-    (d .numbered (follow 0 0 1) empty-state) in
+    let z : _≡_ {A = ℕ} 0 22 = refused-too (follow (wishOf 0 0 1)) empty-state 22 0 (follow-wish empty-state (wishOf 0 0 1) empty-passed (λ z. omega (arith, sym zero-22 ∙ z)) ∙ zero-22) (in-among 22 (0 ∷ []))
+    (d .numbered (follow (wishOf 0 0 1)) empty-state) in
     omega arith
 
 pub long-fails : Demand1 long → ⊥
@@ -76,14 +81,14 @@ ask-27 =
     (sym (leave-27 empty-state 17 empty-passed refl (find empty-state 17) refl (empty-absent 17 (lit< tt)))) (λ z. omega (arith, z))))
 
 pub knowing-fails : Demand1 knowing → ⊥
-unfolding byCall ourAnswer ownNumbers
+unfolding byCall asking questionAnswer ourAnswer questionNumbers ownNumbers
 knowing-fails d =
     let e : cond (eqb (asked empty-state 17 .number) 27) 5 (asked empty-state 17 .number) ≡ 5 = ap (λ (n : ℕ). cond (eqb n 27) 5 n) ask-27 in
-    let z : _≡_ {A = ℕ} 5 27 = sym e ∙ refused-too (ask 17) empty-state 27 _ ask-27 (in-among 27 (4 ∷ 5 ∷ 6 ∷ 7 ∷ [])) (d .numbered (ask 17) empty-state) in
+    let z : _≡_ {A = ℕ} 5 27 = sym e ∙ refused-too (asks (ask 17)) empty-state 27 _ ask-27 (in-among 27 (4 ∷ 5 ∷ 6 ∷ 7 ∷ [])) (d .numbered (asks (ask 17)) empty-state) in
     omega arith
 
 pub babbling-fails : Demand1 babbling → ⊥
-unfolding ourAnswer
+unfolding questionAnswer ourAnswer
 babbling-fails d =
     let e : cond (ltb 7 (asked empty-state 17 .number)) (1 ∷ []) (askPart empty-state 17) ≡ [] =
     d .empty 17 empty-state (λ h. in-among 27 (5 ∷ 6 ∷ 7 ∷ []) (subst (λ (n : ℕ). In n (5 ∷ 6 ∷ 7 ∷ [])) ask-27 h)) in
@@ -94,7 +99,7 @@ babbling-fails d =
 -- ---- by demand 3
 
 pub boasting-fails : Demand3 boasting → ⊥
-unfolding ourAnswer
+unfolding questionAnswer ourAnswer
 boasting-fails d =
     let z : _≡_ {A = ℕ} 5 27 = d .boards 17 [] empty-state ∙ ask-27 in
     omega arith

@@ -36,7 +36,7 @@ use Rattle.group.specs.Group.{takenNumber, takenAfter}
 use Rattle.adapter.specs.Calls.{addressOf, followed, unplaced, readingAt, slotAnswer, slotAfter, packetAnswer, packetAfter}
 use Rattle.adapter.proofs.Laws.{followed-both, Placed, placed, placed-zero, packet-placed}
 use Rattle.demands.specs.Seen.{lastIn, seenIn}
-use Rattle.demands.proofs.Serving.{Serves, view, here-size, here-address, here-good, here-bounds}
+use Rattle.demands.proofs.Serving.{Serves, view, here-size, here-address, here-good, here-wish}
 use Rattle.demands.proofs.Acting.{taken-does}
 use Rattle.demands.proofs.Calling.{passed}
 
@@ -44,7 +44,7 @@ use Rattle.demands.proofs.Calling.{passed}
 
 shown-none : (h : Head) → h .group ≡ 0 → shown h ≡ 4
 unfolding shown
-shown-none h e = ap (λ (b : Bool). cond b 4 (cond (leb (h .limit) (h .age)) 7 (cond (eqb (h .gap) 1) 6 5))) (eq-eqb (h .group) 0 e)
+shown-none h e = ap (λ (b : Bool). cond b 4 (cond (leb (h .wish .limit) (h .age)) 7 (cond (eqb (h .gap) 1) 6 5))) (eq-eqb (h .group) 0 e)
 
 last-none : (h : Head) (room : List ℕ) → h .group ≡ 0 → lastIn h room ≡ []
 unfolding lastIn
@@ -56,7 +56,7 @@ last-group h room ne = ap (λ (b : Bool). cond b [] (part 0 (groupLength h) room
 
 group-le : (h : Head) → groupLength h ≤ roomSize
 unfolding groupLength
-group-le h = go (eqb (h .protection) 1)
+group-le h = go (eqb (h .wish .protection) 1)
   where
     go : (b : Bool) → cond b 180 360 ≤ roomSize
     go true = omega arith
@@ -94,7 +94,7 @@ asked-shows k s = go (ℕ-discrete (headOf (slotAt k s) .group) 0)
 module _ (s : List ℕ) (a : ℕ) (v : Serves s a) where
   asked-here : asked s a ≡ askedAt (find s a) (headOf (slotAt (find s a) s))
   asked-here =
-      let b = here-bounds s a v in
+      let b = here-wish s a v in
       let e = here-address s a v in
       let inside : (ltb a 1 || ltb 1022 a) ≡ false =
       ap₂ (λ (x y : Bool). x || y) (le-ltb a 1 (omega (arith, b .address-from, e))) (le-ltb 1022 a (omega (arith, b .address-to, e))) in

@@ -40,10 +40,10 @@ use Rattle.history.specs.Followed.{Followed, Event, moved, begun, joined, lastO
 use Rattle.history.specs.Followed as one
 use Rattle.adapter.specs.Calls.{addressOf, groupSize, imagesSize, packetOf, groupImages, packetAnswer, packetAfter, writeAnswer, writeAfter}
 use Rattle.adapter.proofs.Writing.{packet-length, write-0}
-use Rattle.demands.specs.Machine.{packet, ours, ourAnswer, ourAfter, Bytes, run}
+use Rattle.demands.specs.Machine.{packet, ours, ourAnswer, ourAfter, Bytes, run, questionAnswer}
 use Rattle.demands.specs.Demand2.{Follows, Writable, imageAt, Sound, answersTo, packets, ReadBack, Demand2}
 use Rattle.demands.specs.Seen.{eventOf, seenIn}
-use Rattle.demands.proofs.Serving.{Serves, view, Kept, here-bounds, here-address}
+use Rattle.demands.proofs.Serving.{Serves, view, Kept, here-address, here-wish}
 use Rattle.demands.proofs.Acting.{event-read, protectedAt}
 use Rattle.demands.proofs.Calling.{Arrives, arrives-placed, answer-here, packet-here}
 use Rattle.demands.proofs.Parts.{ask-here, shown-here, followed-serves, placed-others}
@@ -163,20 +163,20 @@ record Brings (q : Bool) (a i : ℕ) (d t : List ℕ) : Type 0 where
   spare : spareOf t ≡ 0
 
 -- no row changes the protection
-moved-protection : (mv : Move) (h : Head) → movedHead mv h .protection ≡ h .protection
+moved-protection : (mv : Move) (h : Head) → movedHead mv h .wish .protection ≡ h .wish .protection
 unfolding movedHead
 moved-protection started h = refl
 moved-protection held h = refl
 moved-protection whole h = refl
 moved-protection outOfStep h = refl
 
-after-protection : (i : ℕ) (d : List ℕ) (f : Followed) → after (one.packet i d) f .head .protection ≡ f .head .protection
+after-protection : (i : ℕ) (d : List ℕ) (f : Followed) → after (one.packet i d) f .head .wish .protection ≡ f .head .wish .protection
 unfolding after moved
 after-protection i d f = moved-protection (moveOf (f .per) (f .needs) (f .head .awaited) i) (f .head)
 
-seen-protection : (s : List ℕ) (a : ℕ) (f : Followed) → view s a ≡ f → protectedAt s a ≡ eqb (f .head .protection) 1
+seen-protection : (s : List ℕ) (a : ℕ) (f : Followed) → view s a ≡ f → protectedAt s a ≡ eqb (f .head .wish .protection) 1
 unfolding view seenIn
-seen-protection s a f e = ap (λ (g : Followed). eqb (g .head .protection) 1) e
+seen-protection s a f e = ap (λ (g : Followed). eqb (g .head .wish .protection) 1) e
 
 -- what was filled up to 90 bytes begins with what was sent
 filled-begins : (n : ℕ) (d : List ℕ) → length d ≡ n → take n (filled 0 d) ≡ d
@@ -191,7 +191,7 @@ event-sent q i d t e l =
 
 module _ (s : List ℕ) (a : ℕ) (q : Bool) (k : ℕ) (f : Followed) (r : Reads s a q k f) (i : ℕ) (d t : List ℕ) (b : Brings q a i d t) where
   known : a ≤ 1023
-  known = omega (arith, here-bounds s a (r .serves) .address-to, here-address s a (r .serves))
+  known = omega (arith, here-wish s a (r .serves) .address-to, here-address s a (r .serves))
 
   arrives : Arrives a t
   unfolding addressOf
@@ -227,7 +227,7 @@ module _ (s : List ℕ) (a : ℕ) (q : Bool) (k : ℕ) (f : Followed) (r : Reads
           let v = r .serves in
           let h = kept-here .serves .found in
           let was : addressAt s (find u a) ≡ a =
-          sym (address-is s (find u a)) ∙ ap (λ (x : List ℕ). headOf x .address) (sym (others-here (find u a) ne)) ∙ address-is u (find u a)
+          sym (address-is s (find u a)) ∙ ap (λ (x : List ℕ). headOf x .wish .address) (sym (others-here (find u a) ne)) ∙ address-is u (find u a)
           ∙ find-has u a h in
           let now = find-has s a (v .found) in
           used-one s (v .all) (find u a) (find s a) h (v .found) (was ∙ sym now) (subst (λ (n : ℕ). 0 < n) (sym now) (v .pos))
@@ -274,7 +274,7 @@ module _ (s : List ℕ) (a : ℕ) (d : ℕ → List ℕ) where
   unfolding view seenIn after moved perOf needsOf rowOf moveOf movedHead begun joined lastOf
   four-group = refl
 
-  four-fresh : 1 ≤ seen .head .limit → shown (f4 seen d .head) ≡ 5
+  four-fresh : 1 ≤ seen .head .wish .limit → shown (f4 seen d .head) ≡ 5
   unfolding view seenIn after moved perOf needsOf rowOf moveOf movedHead
   four-fresh h = shown-5 (f4 seen d .head) (λ e. omega (arith, e)) h (λ e. omega (arith, e))
 
@@ -295,13 +295,13 @@ module _ (s : List ℕ) (a p : ℕ) (m o t0 t1 t2 t3 : List ℕ) (w : Follows s 
   serves : Serves s a
   serves = followed-serves s a (w .size) (w .good) (w .found)
 
-  limit-from : 1 ≤ f .head .limit
+  limit-from : 1 ≤ f .head .wish .limit
   unfolding view seenIn
-  limit-from = here-bounds s a serves .limit-from
+  limit-from = here-wish s a serves .limit-from
 
   brings : (i : ℕ) (t : List ℕ) → i < 4 → Sound q (writeAfter a p m o) i t → Brings q a i (d i) t
   brings i t h sound =
-      let b = here-bounds s a serves in
+      let b = here-wish s a serves in
       let e = here-address s a serves in
       let writable : Writable a p m o = record {
         address-from = omega (arith, b .address-from, e);
@@ -347,7 +347,7 @@ module _ (s : List ℕ) (a p : ℕ) (m o t0 t1 t2 t3 : List ℕ) (w : Follows s 
     s4 = packetAfter s3 t3
 
     read-back : ReadBack ours s a m (t0 ∷ t1 ∷ t2 ∷ t3 ∷ [])
-    unfolding answersTo packets run ourAnswer ourAfter
+    unfolding answersTo packets run questionAnswer ourAnswer ourAfter
     read-back =
         let r = step-3 .next in
         record {

@@ -3,6 +3,7 @@
 --   Serves s a       a good state that follows the address
 --   view s a         the address as its slot has it
 --   Kept t a f       t still follows it, and it is f there
+--   here-bounds      what its slot's head keeps to; here-wish: and the wish in it
 --   change-here      a change of its own slot
 --   change-apart     a change of others
 --   ages-at          what a subframe's end leaves of each slot; ages-long: no byte more or less
@@ -21,7 +22,7 @@ use Rattle.bits.specs.Bits.{blank}
 use Rattle.slot.specs.Slot.{headOf, withHead, goodSlot}
 use Rattle.head.specs.Head.{agedHead, goodHead}
 use Rattle.head.specs.declared.Head.{Head}
-use Rattle.head.proofs.Bounds.{Bounds, good-bounds}
+use Rattle.head.proofs.Bounds.{Bounds, good-bounds, WishBounds, wish-bounds}
 use Rattle.slot.proofs.Goods.{good-cases, head-blank}
 use Rattle.slot.proofs.Heads.{withHead-length}
 use Rattle.table.specs.State.{stateSize, slots, slotAt, withSlot, addressAt, find}
@@ -44,18 +45,18 @@ pub record Kept (t : List ℕ) (a : ℕ) (f : Followed) : Type 0 where
   pub seen : view t a ≡ f
 
 -- a good slot with an address is within the bounds
-pub used-head : (x : List ℕ) → goodSlot x ≡ true → 0 < headOf x .address → goodHead (headOf x) ≡ true
+pub used-head : (x : List ℕ) → goodSlot x ≡ true → 0 < headOf x .wish .address → goodHead (headOf x) ≡ true
 used-head x g h = go (good-cases x g)
   where
     go : (x ≡ blank (length x)) ⊎ (goodHead (headOf x) ≡ true) → goodHead (headOf x) ≡ true
     go (inr e) = e
-    go (inl e) = absurd (omega (arith, ap (λ (y : List ℕ). headOf y .address) e, ap (λ (y : Head). y .address) (head-blank (length x))))
+    go (inl e) = absurd (omega (arith, ap (λ (y : List ℕ). headOf y .wish .address) e, ap (λ (y : Head). y .wish .address) (head-blank (length x))))
 
 module _ (s : List ℕ) (a : ℕ) (v : Serves s a) where
   pub here-size : length (slotAt (find s a) s) ≡ 736
   here-size = slot-length s (v .size) (find s a) (v .found)
 
-  pub here-address : headOf (slotAt (find s a) s) .address ≡ a
+  pub here-address : headOf (slotAt (find s a) s) .wish .address ≡ a
   here-address = address-is s (find s a) ∙ find-has s a (v .found)
 
   pub here-good : goodHead (headOf (slotAt (find s a) s)) ≡ true
@@ -64,6 +65,9 @@ module _ (s : List ℕ) (a : ℕ) (v : Serves s a) where
 
   pub here-bounds : Bounds (headOf (slotAt (find s a) s))
   here-bounds = good-bounds (headOf (slotAt (find s a) s)) here-good
+
+  pub here-wish : WishBounds (headOf (slotAt (find s a) s) .wish)
+  here-wish = wish-bounds (headOf (slotAt (find s a) s) .wish) (here-bounds .wish)
 
   -- a state in which the same slots have the address, and its own slot is b
   pub kept-by : (t b : List ℕ) → length t ≡ stateSize → Good t → ((k : ℕ) → k < slots → eqb (addressAt t k) a ≡ eqb (addressAt s k) a)
@@ -76,15 +80,15 @@ module _ (s : List ℕ) (a : ℕ) (v : Serves s a) where
         seen = ap (λ (k : ℕ). seenIn (slotAt k t)) e ∙ ap seenIn here;
       }
 
-  pub change-here : (b : List ℕ) → length b ≡ 736 → goodSlot b ≡ true → headOf b .address ≡ a → Kept (withSlot (find s a) b s) a (seenIn b)
+  pub change-here : (b : List ℕ) → length b ≡ 736 → goodSlot b ≡ true → headOf b .wish .address ≡ a → Kept (withSlot (find s a) b s) a (seenIn b)
   change-here b lb gb e =
       let k = find s a in
-      let at : headOf b .address ≡ addressAt s k = e ∙ sym (find-has s a (v .found)) in
+      let at : headOf b .wish .address ≡ addressAt s k = e ∙ sym (find-has s a (v .found)) in
       kept-by (withSlot k b s) b (with-length s (v .size) k b (v .found) lb)
       (good-change s (v .size) (v .all) k b (v .found) lb gb at) (λ j hj. same j (ℕ-discrete j k) at)
       (slot-same s (v .size) k b (v .found) lb)
     where
-      same : (j : ℕ) → Dec (j ≡ find s a) → headOf b .address ≡ addressAt s (find s a)
+      same : (j : ℕ) → Dec (j ≡ find s a) → headOf b .wish .address ≡ addressAt s (find s a)
           → eqb (addressAt (withSlot (find s a) b s) j) a ≡ eqb (addressAt s j) a
       same j (yes q) at =
           subst (λ (i : ℕ). eqb (addressAt (withSlot (find s a) b s) i) a ≡ eqb (addressAt s i) a) (sym q)
@@ -93,7 +97,7 @@ module _ (s : List ℕ) (a : ℕ) (v : Serves s a) where
 
   -- another slot, which neither had the address nor has it
   pub change-apart : (k : ℕ) (b : List ℕ) → k < slots → length b ≡ 736 → (k ≡ find s a → ⊥) → Good (withSlot k b s)
-      → eqb (headOf b .address) a ≡ eqb (addressAt s k) a → Kept (withSlot k b s) a (view s a)
+      → eqb (headOf b .wish .address) a ≡ eqb (addressAt s k) a → Kept (withSlot k b s) a (view s a)
   unfolding view
   change-apart k b hk lb ne gt at =
       kept-by (withSlot k b s) (slotAt (find s a) s) (with-length s (v .size) k b hk lb) gt (λ j hj. same j (ℕ-discrete j k))

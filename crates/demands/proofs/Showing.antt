@@ -26,7 +26,7 @@ use Rattle.packet.specs.declared.Reading.{Reading}
 use Rattle.packet.proofs.Damages.{sent-corrected, corrected-came, sent-spare, received-sent}
 use Rattle.runs.specs.Part.{put}
 use Rattle.slot.specs.Slot.{slotSize, headOf, withHead}
-use Rattle.head.specs.Head.{shown, goodHead}
+use Rattle.head.specs.Head.{shown, goodHead, wishOf, goodWish}
 use Rattle.head.specs.Move.{perOf, needsOf, rowOf, moveOf, moveNumber, movedHead}
 use Rattle.head.specs.declared.Head.{Head}
 use Rattle.slot.proofs.Goods.{good-load, good-store}
@@ -37,15 +37,16 @@ use Rattle.table.proofs.States.{each-good, slot-same, with-length, address-same
 use Rattle.table.proofs.Kept.{blank-good}
 use Rattle.asking.specs.Asking.{asked, askPart}
 use Rattle.history.specs.Followed as one
-use Rattle.history.specs.Transcript.{drops, told, isWhole, anyWhole, sinceWhole, ends, before, marks, marked, called}
+use Rattle.faults.specs.Faults.{numberDrops}
+use Rattle.history.specs.Transcript.{told, isWhole, anyWhole, sinceWhole, ends, before, marks, marked, called}
 use Rattle.adapter.specs.Calls.{addressOf, followed, packetAnswer}
 use Rattle.adapter.proofs.Laws.{both-followed}
-use Rattle.demands.specs.Machine.{Call, follow, packet, ask, ours, ourAnswer, ourAfter, Bytes, run}
+use Rattle.demands.specs.Machine.{Call, follow, packet, asks, ours, ourAnswer, ourAfter, Bytes, run, questionAnswer}
 use Rattle.demands.specs.Rows.{indexOf}
 use Rattle.demands.specs.Seen.{arrivesAt, eventOf, eventsAt, eventsOf, by, seenIn, marksBy, marksOf, latest}
 use Rattle.demands.specs.Demand2.{Follows}
 use Rattle.demands.specs.Demand3.{AllStay, Stays, Goes, Demand3}
-use Rattle.demands.specs.Harmful.{byCall, torn, silent, bold, dirty, trusting, hasty}
+use Rattle.demands.specs.Harmful.{byCall, torn, silent, bold, dirty, trusting, hasty, asking}
 use Rattle.demands.proofs.Serving.{view, Kept}
 use Rattle.demands.proofs.Calling.{Arrives, is-arrives, follow-serves}
 use Rattle.demands.proofs.Parts.{ask-here, shown-here}
@@ -108,20 +109,20 @@ unfolding AllStay Stays
 then-stays c = (tt, (tt, (tt, (tt, (tt, tt)))))
 
 abbrev begun : List ℕ
-begun = followAfter empty-state 17 0 2
+begun = followAfter empty-state (wishOf 17 0 2)
 
-yes-2 : followAnswer empty-state 17 0 2 ≡ 0
+yes-2 : followAnswer empty-state (wishOf 17 0 2) ≡ 0
 yes-2 = accepted 2 refl
 
-then-kept : (c : ℕ) → c < 4 → Kept (run ours (then c) begun) 17 (one.run (then-events c) (one.followed 17 0 2))
+then-kept : (c : ℕ) → c < 4 → Kept (run ours (then c) begun) 17 (one.run (then-events c) (one.followed (wishOf 17 0 2)))
 unfolding one.followed
 then-kept c h =
-    let k = follow-serves empty-state 17 0 2 yes-2 in
+    let k = follow-serves empty-state (wishOf 17 0 2) yes-2 in
     let r = run-acts (then c) begun 17 (k .serves) (then-stays c) in
     record {
       serves = r .serves;
       seen = r .seen ∙ ap (λ (f : one.Followed). one.run (eventsOf 17 (by f) (then c)) f) (k .seen)
-          ∙ ap (λ (es : List one.Event). one.run es (one.followed 17 0 2)) (then-is c h);
+          ∙ ap (λ (es : List one.Event). one.run es (one.followed (wishOf 17 0 2))) (then-is c h);
     }
 
 -- ---- torn
@@ -139,35 +140,35 @@ torn-here =
 pub torn-fails : Demand3 torn → ⊥
 unfolding run ourAfter one.followed one.handedOut one.answer one.after one.moved one.begun one.joined one.lastOf perOf needsOf rowOf moveOf moveNumber movedHead latest blank
 torn-fails d =
-    let e = d .follows empty-state 17 0 2 yes-2 .shows (then 0) (then-stays 0)
-    ∙ ap (λ (es : List one.Event). latest [] (one.handedOut es (one.followed 17 0 2))) (then-is 0 (lit< tt)) in
+    let e = d .follows empty-state (wishOf 17 0 2) yes-2 .shows (then 0) (then-stays 0)
+    ∙ ap (λ (es : List one.Event). latest [] (one.handedOut es (one.followed (wishOf 17 0 2)))) (then-is 0 (lit< tt)) in
     let z : _≡_ {A = ℕ} 0 1 = ap (λ (l : List ℕ). getD l 0 0) (sym torn-here ∙ e) in
     omega arith
 
 -- ---- silent about damage
 
 pub silent-fails : Demand3 silent → ⊥
-unfolding byCall run AllStay eventsOf one.run one.followed one.answer perOf needsOf rowOf moveOf moveNumber drops
+unfolding byCall run AllStay eventsOf one.run one.followed one.answer perOf needsOf rowOf moveOf moveNumber numberDrops
 silent-fails d =
     let arrives = is-arrives 17 (clean 1) (clean-arrives 1 (lit< tt)) in
-    let k = follow-serves empty-state 17 0 2 yes-2 in
+    let k = follow-serves empty-state (wishOf 17 0 2) yes-2 in
     let due : packetAnswer begun (clean 1) ≡ 32 =
     answer-by begun 17 (k .serves) (clean 1) (clean-arrives 1 (lit< tt)) ∙ ap (λ (f : one.Followed). one.answer (eventOf (by f) (clean 1)) f) (k .seen)
-    ∙ ap (λ (e : one.Event). one.answer e (one.followed 17 0 2)) (clean-read-event 1 (lit< tt)) in
-    let said = d .follows empty-state 17 0 2 yes-2 .answers [] tt (clean 1) arrives
-    ∙ ap (λ (e : one.Event). one.answer e (one.followed 17 0 2)) (clean-read-event 1 (lit< tt)) in
-    let z : _≡_ {A = ℕ} 0 32 = sym (ap (λ (n : ℕ). cond (drops n) 0 n) due) ∙ said in
+    ∙ ap (λ (e : one.Event). one.answer e (one.followed (wishOf 17 0 2))) (clean-read-event 1 (lit< tt)) in
+    let said = d .follows empty-state (wishOf 17 0 2) yes-2 .answers [] tt (clean 1) arrives
+    ∙ ap (λ (e : one.Event). one.answer e (one.followed (wishOf 17 0 2))) (clean-read-event 1 (lit< tt)) in
+    let z : _≡_ {A = ℕ} 0 32 = sym (ap (λ (n : ℕ). cond (numberDrops n) 0 n) due) ∙ said in
     omega arith
 
 -- ---- a board that shows a doubtful group
 
 pub bold-fails : Demand3 bold → ⊥
-unfolding ourAnswer run one.run one.followed one.after one.moved one.begun one.dropped one.joined one.lastOf perOf needsOf rowOf moveOf movedHead shown
+unfolding questionAnswer ourAnswer run one.run one.followed one.after one.moved one.begun one.dropped one.joined one.lastOf perOf needsOf rowOf moveOf movedHead shown
 bold-fails d =
     let k = then-kept 2 (lit< tt) in
     let s = run ours (then 2) begun in
     let six : asked s 17 .number ≡ 6 = ask-here s 17 (k .serves) ∙ ap (λ (f : one.Followed). shown (f .head)) (k .seen) in
-    let group : askPart s 17 ≡ one.run (then-events 2) (one.followed 17 0 2) .last = shown-here s 17 (k .serves) ∙ ap (λ (f : one.Followed). f .last) (k .seen) in
+    let group : askPart s 17 ≡ one.run (then-events 2) (one.followed (wishOf 17 0 2)) .last = shown-here s 17 (k .serves) ∙ ap (λ (f : one.Followed). f .last) (k .seen) in
     let text : askPart s 17 ≡ [] =
     sym (ap (λ (n : ℕ). cond (eqb n 5 || eqb n 6) (askPart s 17) []) six) ∙ d .texts 17 [] s ∙ ap (λ (n : ℕ). cond (eqb n 5) (askPart s 17) []) six in
     let z : _≡_ {A = ℕ} 1 0 = ap (λ (l : List ℕ). getD l 0 0) (sym group ∙ text) in
@@ -176,7 +177,7 @@ bold-fails d =
 -- ---- a good state made by hand
 
 abbrev hand : Head
-hand = record { address = 17; limit = 1; age = 0; protection = 0; awaited = 0; group = 1; gap = 1 }
+hand = record { wish = wishOf 17 0 1; age = 0; awaited = 0; group = 1; gap = 1 }
 
 abbrev bytes : List ℕ
 bytes = 1 ∷ blank 735
@@ -188,7 +189,7 @@ abbrev made : List ℕ
 made = withSlot 0 slot empty-state
 
 hand-good : goodHead hand ≡ true
-unfolding goodHead
+unfolding goodWish goodHead
 hand-good = refl
 
 bytes-length : length bytes ≡ slotSize
@@ -200,8 +201,8 @@ slot-head = good-load hand hand-good bytes bytes-length
 slot-size : length slot ≡ slotSize
 slot-size = withHead-length hand bytes bytes-length ∙ bytes-length
 
-slot-address : headOf slot .address ≡ 17
-slot-address = ap (λ (h : Head). h .address) slot-head
+slot-address : headOf slot .wish .address ≡ 17
+slot-address = ap (λ (h : Head). h .wish .address) slot-head
 
 state-size : length empty-state ≡ stateSize
 state-size = blank-length stateSize
@@ -227,7 +228,7 @@ made-follows = record {
       (empty-address 0 (lit< tt)) (subst (λ (n : ℕ). 0 < n) (sym slot-address) (lit< tt))
       (subst (λ (n : ℕ). slots ≤ find empty-state n) (sym slot-address) (empty-absent 17 (lit< tt))));
   found = both-followed made 17 (lit< tt) (subst (λ (n : ℕ). n < slots) (sym made-find) (lit< tt));
-  protection = ap (λ (x : List ℕ). headOf x .protection) made-slot ∙ ap (λ (h : Head). h .protection) slot-head;
+  protection = ap (λ (x : List ℕ). headOf x .wish .protection) made-slot ∙ ap (λ (h : Head). h .wish .protection) slot-head;
 }
 
 slot-dirty : dirty slot ≡ true
@@ -238,13 +239,13 @@ made-dirty : dirty (slotAt (find made 17) made) ≡ true
 made-dirty = ap dirty made-slot ∙ slot-dirty
 
 pub trusting-fails : Demand3 trusting → ⊥
-unfolding byCall run AllStay eventsOf told called anyWhole isWhole sinceWhole ends before drops marks marked marksBy marksOf seenIn
+unfolding asking byCall run AllStay eventsOf told called anyWhole isWhole sinceWhole ends before numberDrops marks marked marksBy marksOf seenIn
 trusting-fails d =
     let said = d .holds made 17 0 made-follows .asks [] tt in
-    let six : called (headOf slot .limit) (marksOf (headOf slot)) ≡ 6 = ap (λ (h : Head). called (h .limit) (marksOf h)) slot-head in
+    let six : called (headOf slot .wish .limit) (marksOf (headOf slot)) ≡ 6 = ap (λ (h : Head). called (h .wish .limit) (marksOf h)) slot-head in
     let z : _≡_ {A = ℕ} 5 6 =
     sym (ap (λ (b : Bool). cond b 5 (asked made 17 .number)) made-dirty) ∙ said
-    ∙ ap (λ (x : List ℕ). called (headOf x .limit) (marksOf (headOf x))) made-slot ∙ six in
+    ∙ ap (λ (x : List ℕ). called (headOf x .wish .limit) (marksOf (headOf x))) made-slot ∙ six in
     omega arith
 
 pub hasty-fails : Demand3 hasty → ⊥
@@ -255,7 +256,7 @@ hasty-fails d =
     let x = slotAt (find made 17) made in
     let head : headOf x ≡ hand = ap headOf made-slot ∙ slot-head in
     let said : hasty .answer (packet (clean 1)) made ≡ 32 = d .holds made 17 0 made-follows .answers [] tt (clean 1) arrives
-    ∙ ap (λ (h : Head). one.answer (eventOf (eqb (h .protection) 1) (clean 1)) (record { per = perOf h; needs = needsOf h; head = h; unfinished = seenIn x .unfinished; last = seenIn x .last })) head
+    ∙ ap (λ (h : Head). one.answer (eventOf (eqb (h .wish .protection) 1) (clean 1)) (record { per = perOf h; needs = needsOf h; head = h; unfinished = seenIn x .unfinished; last = seenIn x .last })) head
     ∙ ap (λ (e : one.Event). one.answer e (record { per = perOf hand; needs = needsOf hand; head = hand; unfinished = seenIn x .unfinished; last = seenIn x .last })) (clean-read-event 1 (lit< tt)) in
     let three : cond (dirty (slotAt (find made (addressOf (clean 1))) made) && eqb (indexOf (clean 1)) 1) 3 (packetAnswer made (clean 1)) ≡ 3 =
     ap (λ (a : ℕ). cond (dirty (slotAt (find made a) made) && eqb (indexOf (clean 1)) 1) 3 (packetAnswer made (clean 1))) at

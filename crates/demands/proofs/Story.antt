@@ -18,8 +18,9 @@ use lib.ListN.{length}
 use Rattle.bits.specs.Bits.{blank}
 use Rattle.bits.proofs.Rows.{done-passed}
 use Rattle.bits.proofs.Storing.{blank-length}
-use Rattle.head.specs.Head.{shown, newHead}
+use Rattle.head.specs.Head.{shown, newHead, wishOf}
 use Rattle.head.specs.Move.{perOf, needsOf, rowOf, moveOf, movedHead}
+use Rattle.head.proofs.Wishes.{wish-0}
 use Rattle.slot.specs.Slot.{withHead}
 use Rattle.head.specs.declared.Head.{Head}
 use Rattle.head.proofs.Bounds.{good-new}
@@ -48,12 +49,12 @@ use Rattle.demands.proofs.Turns.{view-4, whole}
 
 -- a follow with limit 2, the four packets of a group, and then subframes end
 abbrev pub story : List Call
-story = follow 17 0 2 ∷ packet (clean 0) ∷ packet (clean 1) ∷ packet (clean 2) ∷ packet (clean 3) ∷ []
+story = follow (wishOf 17 0 2) ∷ packet (clean 0) ∷ packet (clean 1) ∷ packet (clean 2) ∷ packet (clean 3) ∷ []
 
 abbrev pub told-story : List Call → List ℕ
 told-story rest = run ours (story ++ rest) empty-state
 
-yes-2 : followAnswer empty-state 17 0 2 ≡ 0
+yes-2 : followAnswer empty-state (wishOf 17 0 2) ≡ 0
 yes-2 = accepted 2 refl
 
 abbrev as-arrived : one.Followed
@@ -193,32 +194,32 @@ channel-18 = (
     there c h = away 18 17 c (lit≤ tt) h (λ q. omega (arith, q))
 
 abbrev pub both-followed : List ℕ
-both-followed = followAfter (followAfter empty-state 17 0 2) 18 0 2
+both-followed = followAfter (followAfter empty-state (wishOf 17 0 2)) (wishOf 18 0 2)
 
 -- slots of the state in which 17 is followed: one has it, the others are free
 after-17 : (j : ℕ) → j < slots → let k = find empty-state 0 in
-    (j ≡ k → addressAt (followAfter empty-state 17 0 2) j ≡ 17) × ((j ≡ k → ⊥) → addressAt (followAfter empty-state 17 0 2) j ≡ 0)
+    (j ≡ k → addressAt (followAfter empty-state (wishOf 17 0 2)) j ≡ 17) × ((j ≡ k → ⊥) → addressAt (followAfter empty-state (wishOf 17 0 2)) j ≡ 0)
 unfolding followAfter
 after-17 j hj =
-    let f = follow-passed empty-state 17 0 2 yes-2 in
+    let f = follow-passed empty-state (wishOf 17 0 2) yes-2 in
     let k = find empty-state 0 in
     let l = f .state .size in
     let lk = slot-length empty-state l k (f .room) in
-    let gh = good-new 17 0 2 (f .address) refl (f .limit) in
-    let new = withHead (newHead 17 0 2) (slotAt k empty-state) in
-    let ln = withHead-length (newHead 17 0 2) (slotAt k empty-state) lk ∙ lk in
-    let same = done-passed (followAnswer empty-state 17 0 2) (withSlot k new empty-state) empty-state yes-2 in (
-      λ e. ap₂ addressAt same e ∙ address-same empty-state l k new (f .room) ln ∙ ap (λ (h : Head). h .address) (good-load (newHead 17 0 2) gh (slotAt k empty-state) lk),
+    let gh = good-new (wishOf 17 0 2) (f .wish) in
+    let new = withHead (newHead (wishOf 17 0 2)) (slotAt k empty-state) in
+    let ln = withHead-length (newHead (wishOf 17 0 2)) (slotAt k empty-state) lk ∙ lk in
+    let same = done-passed (followAnswer empty-state (wishOf 17 0 2)) (withSlot k new empty-state) empty-state yes-2 in (
+      λ e. ap₂ addressAt same e ∙ address-same empty-state l k new (f .room) ln ∙ ap (λ (h : Head). h .wish .address) (good-load (newHead (wishOf 17 0 2)) gh (slotAt k empty-state) lk),
       λ ne. ap (λ (s : List ℕ). addressAt s j) same ∙ address-other empty-state l k new (f .room) ln j ne ∙ empty-address j hj,
     )
 
-pub second-follow : followAnswer (followAfter empty-state 17 0 2) 18 0 2 ≡ 0
+pub second-follow : followAnswer (followAfter empty-state (wishOf 17 0 2)) (wishOf 18 0 2) ≡ 0
 second-follow =
-    let k = follow-serves empty-state 17 0 2 yes-2 in
-    follow-0 t 18 0 2 (passed t 17 (k .serves)) refl (lit≤ tt) refl (find t 18) refl (absent (decLt (find t 18) slots)) (find t 0) refl (room (decLt (find t 0) slots))
+    let k = follow-serves empty-state (wishOf 17 0 2) yes-2 in
+    follow-0 t (wishOf 18 0 2) (passed t 17 (k .serves)) (sym (wish-0 (wishOf 18 0 2) refl (lit≤ tt) refl)) (find t 18) refl (absent (decLt (find t 18) slots)) (find t 0) refl (room (decLt (find t 0) slots))
   where
     t : List ℕ
-    t = followAfter empty-state 17 0 2
+    t = followAfter empty-state (wishOf 17 0 2)
 
     none : (j : ℕ) → j < slots → addressAt t j ≡ 18 → Dec (j ≡ find empty-state 0) → ⊥
     none j h q (yes e) = omega (arith, sym q ∙ after-17 j h .0 e)
@@ -243,6 +244,6 @@ pub interleaved : (calls at-17 ≡ calls at-18)
 unfolding calls callOf ourAfter Channel Apart Arrived ReadableIn handedOut handsOut
 interleaved = (
   refl,
-  demand-3 .exactly empty-state 17 0 2 yes-2 zeros zeros-carried 0 (call (follow 18 0 2) ∷ at-17) (tt, channel-17),
-  demand-3 .exactly (followAfter empty-state 17 0 2) 18 0 2 second-follow zeros zeros-carried 0 at-18 channel-18,
+  demand-3 .exactly empty-state (wishOf 17 0 2) yes-2 zeros zeros-carried 0 (call (follow (wishOf 18 0 2)) ∷ at-17) (tt, channel-17),
+  demand-3 .exactly (followAfter empty-state (wishOf 17 0 2)) (wishOf 18 0 2) second-follow zeros zeros-carried 0 at-18 channel-18,
 )

@@ -11,7 +11,7 @@ use mathlib.Core.List.{List, []}
 use Prim.Native.Nat.{ℕ, _<_}
 use native.Mathlib.Omega.{arith}
 use native.Mathlib.Decide.{ℕ-discrete}
-use borrow.Author.Tests.{eq-eqb, ne-eqb, le-leb}
+use borrow.Author.Tests.{eq-eqb, ne-eqb}
 use lib.Dec.{eqb}
 use lib.ListN.{length}
 use Rattle.bits.specs.Bits.{blank}
@@ -21,6 +21,7 @@ use Rattle.bits.proofs.Storing.{blank-length}
 use Rattle.slot.specs.Slot.{slotSize, headOf, withHead}
 use Rattle.head.specs.Head.{newHead}
 use Rattle.head.specs.declared.Head.{Head}
+use Rattle.head.specs.declared.Wish.{Wish}
 use Rattle.head.proofs.Bounds.{good-new}
 use Rattle.slot.proofs.Goods.{good-load, head-blank}
 use Rattle.slot.proofs.Heads.{withHead-length}
@@ -31,7 +32,7 @@ use Rattle.table.proofs.States.{each-good, good-each, slot-length, with-length,
 use Rattle.table.proofs.Kept.{Followed, follow-passed, leave-passed, blank-good, follow-good, leave-good, aged-slot, ages-good}
 use Rattle.adapter.specs.Calls.{addressOf, packetAfter}
 use Rattle.adapter.proofs.Laws.{Placed, packet-refused}
-use Rattle.demands.specs.Machine.{Call, start, follow, leave, packet, subframeEnd, ask, ourAfter}
+use Rattle.demands.specs.Machine.{Call, start, follow, leave, packet, subframeEnd, asks, ourAfter}
 use Rattle.demands.specs.Rows.{rowsOf}
 use Rattle.demands.specs.Table.{Good, addressAfter}
 use Rattle.demands.proofs.Serving.{older, here-size, here-good, ages-at, ages-long}
@@ -59,30 +60,30 @@ either {A} n f g = go (ℕ-discrete n 0)
 -- ---- good
 
 -- an accepted follow makes one slot new
-module _ (s : List ℕ) (a p l : ℕ) (f : Followed s a p l) where
+module _ (s : List ℕ) (w : Wish) (f : Followed s w) where
   abbrev at : ℕ
   at = find s 0
 
   abbrev new : List ℕ
-  new = withHead (newHead a p l) (slotAt at s)
+  new = withHead (newHead w) (slotAt at s)
 
   at-length : length (slotAt at s) ≡ slotSize
   at-length = slot-length s (f .state .size) at (f .room)
 
   new-length : length new ≡ slotSize
-  new-length = withHead-length (newHead a p l) (slotAt at s) at-length ∙ at-length
+  new-length = withHead-length (newHead w) (slotAt at s) at-length ∙ at-length
 
-  new-address : headOf new .address ≡ a
+  new-address : headOf new .wish .address ≡ w .address
   new-address =
-      ap (λ (h : Head). h .address) (good-load (newHead a p l) (good-new a p l (f .address) (le-leb p 1 (f .protection)) (f .limit)) (slotAt at s) at-length)
+      ap (λ (h : Head). h .wish .address) (good-load (newHead w) (good-new w (f .wish)) (slotAt at s) at-length)
 
-follow-size : (s : List ℕ) (a p l : ℕ) → length s ≡ stateSize → length (followAfter s a p l) ≡ stateSize
+follow-size : (s : List ℕ) (w : Wish) → length s ≡ stateSize → length (followAfter s w) ≡ stateSize
 unfolding followAfter
-follow-size s a p l e =
-    either (followAnswer s a p l)
-    (λ z. let f = follow-passed s a p l z in
-    ap length (done-passed (followAnswer s a p l) _ s z) ∙ with-length s e (find s 0) (new s a p l f) (f .room) (new-length s a p l f))
-    (λ ne. ap length (done-refused (followAnswer s a p l) _ s ne) ∙ e)
+follow-size s w e =
+    either (followAnswer s w)
+    (λ z. let f = follow-passed s w z in
+    ap length (done-passed (followAnswer s w) _ s z) ∙ with-length s e (find s 0) (new s w f) (f .room) (new-length s w f))
+    (λ ne. ap length (done-refused (followAnswer s w) _ s ne) ∙ e)
 
 leave-size : (s : List ℕ) (a : ℕ) → length s ≡ stateSize → length (leaveAfter s a) ≡ stateSize
 unfolding leaveAfter
@@ -110,17 +111,17 @@ end-keeps s g =
 pub keeps-good : (x : Call) (s : List ℕ) → Good s → Good (ourAfter x s)
 unfolding ourAfter
 keeps-good start s g = subst Good (sym (begins s (g .size))) blank-state
-keeps-good (follow a p l) s g = record { size = follow-size s a p l (g .size); good = follow-good s a p l (g .good) }
+keeps-good (follow w) s g = record { size = follow-size s w (g .size); good = follow-good s w (g .good) }
 keeps-good (leave a) s g = record { size = leave-size s a (g .size); good = leave-good s a (g .good) }
 keeps-good (packet image) s g = packet-good s image g
 keeps-good subframeEnd s g = end-keeps s g
-keeps-good (ask a) s g = g
+keeps-good (asks q) s g = g
 
 -- ---- addresses
 
 module _ (s : List ℕ) (k : ℕ) (h : k < slots) where
   -- one slot is changed: its address there, and every other's
-  changed-address : (j : ℕ) (b : List ℕ) (a : ℕ) → length s ≡ stateSize → j < slots → length b ≡ slotSize → headOf b .address ≡ a
+  changed-address : (j : ℕ) (b : List ℕ) (a : ℕ) → length s ≡ stateSize → j < slots → length b ≡ slotSize → headOf b .wish .address ≡ a
       → addressAt (withSlot j b s) k ≡ cond (eqb k j) a (addressAt s k)
   changed-address j b a l hj lb e = go (ℕ-discrete k j)
     where
@@ -144,37 +145,37 @@ module _ (s : List ℕ) (k : ℕ) (h : k < slots) where
   packet-address image =
       by-place s image (λ ne. ap (λ (x : List ℕ). addressAt x k) (packet-refused s image ne .1)) (λ p. go p (ℕ-discrete k (find s (addressOf image))))
     where
-      at : (t : List ℕ) → headOf (slotAt k t) .address ≡ headOf (slotAt k s) .address → addressAt t k ≡ addressAt s k
+      at : (t : List ℕ) → headOf (slotAt k t) .wish .address ≡ headOf (slotAt k s) .wish .address → addressAt t k ≡ addressAt s k
       at t e = sym (address-is t k) ∙ e ∙ address-is s k
 
       go : Placed s image → Dec (k ≡ find s (addressOf image)) → addressAt (packetAfter s image) k ≡ addressAt s k
-      go p (no ne) = at _ (ap (λ (x : List ℕ). headOf x .address) (placed-others s image p k ne))
+      go p (no ne) = at _ (ap (λ (x : List ℕ). headOf x .wish .address) (placed-others s image p k ne))
       go p (yes e) =
           let v = placed-serves s image p in
           let a = addressOf image in
-          at _ (ap (λ (j : ℕ). headOf (slotAt j (packetAfter s image)) .address) e ∙ ap (λ (x : List ℕ). headOf x .address) (placed-here s image p)
+          at _ (ap (λ (j : ℕ). headOf (slotAt j (packetAfter s image)) .wish .address) e ∙ ap (λ (x : List ℕ). headOf x .wish .address) (placed-here s image p)
           ∙ taken-does (slotAt (find s a) s) image (here-size s a v) (here-good s a v) (p .size) .address
-          ∙ ap (λ (j : ℕ). headOf (slotAt j s) .address) (sym e))
+          ∙ ap (λ (j : ℕ). headOf (slotAt j s) .wish .address) (sym e))
 
   end-address : Good s → addressAt (endAfter s) k ≡ addressAt s k
   unfolding endAfter
   end-address g =
       let t = ages slots 0 s in
       ap (λ (x : List ℕ). addressAt x k) (done-passed (endAnswer s) t s (end-passed s g))
-      ∙ sym (address-is t k) ∙ ap (λ (x : List ℕ). headOf x .address) (ages-at slots 0 s (omega arith) (g .size) k (omega arith) h)
+      ∙ sym (address-is t k) ∙ ap (λ (x : List ℕ). headOf x .wish .address) (ages-at slots 0 s (omega arith) (g .size) k (omega arith) h)
       ∙ aged-slot (slotAt k s) (slot-length s (g .size) k h) (good-each s (g .good) .slot k h) .1 ∙ address-is s k
 
 pub keeps-addresses : (x : Call) (s : List ℕ) → Good s → (k : ℕ) → k < slots → addressAt (ourAfter x s) k ≡ addressAfter x s k
 unfolding ourAfter addressAfter rowsOf followAnswer followAfter leaveAnswer leaveAfter
 keeps-addresses start s g k h = ap (λ (x : List ℕ). addressAt x k) (begins s (g .size)) ∙ empty-address k h
-keeps-addresses (follow a p l) s g k h =
-    by-answer s k h (followAnswer s a p l) a (find s 0) _
-    (λ z. let f = follow-passed s a p l z in
-    changed-address s k h (find s 0) (new s a p l f) a (g .size) (f .room) (new-length s a p l f) (new-address s a p l f))
+keeps-addresses (follow w) s g k h =
+    by-answer s k h (followAnswer s w) (w .address) (find s 0) _
+    (λ z. let f = follow-passed s w z in
+    changed-address s k h (find s 0) (new s w f) (w .address) (g .size) (f .room) (new-length s w f) (new-address s w f))
 keeps-addresses (leave a) s g k h =
     by-answer s k h (leaveAnswer s a) 0 (find s a) _
     (λ z. changed-address s k h (find s a) (blank slotSize) 0 (g .size) (leave-passed s a z .2) (blank-length slotSize)
-    (ap (λ (y : Head). y .address) (head-blank slotSize)))
+    (ap (λ (y : Head). y .wish .address) (head-blank slotSize)))
 keeps-addresses (packet image) s g k h = packet-address s k h image
 keeps-addresses subframeEnd s g k h = end-address s k h g
-keeps-addresses (ask a) s g k h = refl
+keeps-addresses (asks q) s g k h = refl

@@ -24,34 +24,34 @@ use Rattle.head.specs.Move.{Move, started, held, whole, outOfStep, moveOf, move
 use Rattle.head.specs.declared.Head.{Head}
 use Rattle.asking.specs.Asking.{askPart}
 use Rattle.history.specs.Followed as one
-use Rattle.history.proofs.Laws.{run-app}
+use Rattle.history.proofs.Laws.{run-app, after-refused}
 use Rattle.history.specs.Sent.{In}
 use Rattle.adapter.specs.Calls.{addressOf, unplaced, packetAnswer}
 use Rattle.adapter.proofs.Laws.{size-refused, spare-refused, packet-refused}
-use Rattle.demands.specs.Machine.{Call, start, follow, leave, packet, subframeEnd, ask, ours, ourAnswer, ourAfter, run}
+use Rattle.demands.specs.Machine.{Call, start, follow, leave, packet, subframeEnd, asks, ours, ourAnswer, ourAfter, run}
 use Rattle.demands.specs.Demand3.{Stays, AllStay, handsOut, handedOut}
 use Rattle.demands.specs.Seen.{arrivesAt, eventBy, eventOf, eventsAt, eventsOf, by, seenIn}
 use Rattle.demands.proofs.Serving.{Serves, view, Kept}
-use Rattle.demands.proofs.Acting.{protectedAt, event-read, event-refused, refused-not-zero, reason-number}
+use Rattle.demands.proofs.Acting.{protectedAt, event-read, event-refused, refused-not-zero, fault-answered}
 use Rattle.demands.proofs.Calling.{Arrives, arrives-is, is-arrives, passed, answer-here, acts}
 use Rattle.demands.proofs.Parts.{shown-here}
 
 -- ---- the protection stays
 
-moved-protection : (mv : Move) (h : Head) → movedHead mv h .protection ≡ h .protection
+moved-protection : (mv : Move) (h : Head) → movedHead mv h .wish .protection ≡ h .wish .protection
 unfolding movedHead
 moved-protection started h = refl
 moved-protection held h = refl
 moved-protection whole h = refl
 moved-protection outOfStep h = refl
 
-pub after-protection : (e : one.Event) (f : one.Followed) → one.after e f .head .protection ≡ f .head .protection
+pub after-protection : (e : one.Event) (f : one.Followed) → one.after e f .head .wish .protection ≡ f .head .wish .protection
 unfolding one.after one.moved one.dropped one.aged
 after-protection (one.packet c b) f = moved-protection (moveOf (f .per) (f .needs) (f .head .awaited) c) (f .head)
-after-protection (one.refused r) f = refl
+after-protection (one.refused r) f = ap (λ (g : one.Followed). g .head .wish .protection) (sym (after-refused r f))
 after-protection one.ended f = refl
 
-pub run-protection : (es : List one.Event) (f : one.Followed) → one.run es f .head .protection ≡ f .head .protection
+pub run-protection : (es : List one.Event) (f : one.Followed) → one.run es f .head .wish .protection ≡ f .head .wish .protection
 unfolding one.run
 run-protection [] f = refl
 run-protection (e ∷ es) f = run-protection es (one.after e f) ∙ after-protection e f
@@ -66,7 +66,7 @@ last-kept (one.packet c b) f q = go (moveOf (f .per) (f .needs) (f .head .awaite
     go held z = refl
     go whole z = absurd (subst T z tt)
     go outOfStep z = refl
-last-kept (one.refused r) f q = refl
+last-kept (one.refused r) f q = ap (λ (g : one.Followed). g .last) (sym (after-refused r f))
 last-kept one.ended f q = refl
 
 view-protected : (s : List ℕ) (a : ℕ) → by (view s a) ≡ protectedAt s a
@@ -150,7 +150,7 @@ module _ (s : List ℕ) (a : ℕ) (v : Serves s a) (image : List ℕ) (r : Arriv
   unfolding one.answer
   unreadable-answered f =
       answer-by s a v image r
-      ∙ ap (λ (e : one.Event). one.answer e (view s a)) (event-refused (by (view s a)) image (refused-not-zero came-as f)) ∙ reason-number came-as f
+      ∙ ap (λ (e : one.Event). one.answer e (view s a)) (event-refused (by (view s a)) image (refused-not-zero came-as f)) ∙ fault-answered came-as f
 
 -- ---- what is handed out
 
@@ -194,13 +194,13 @@ module _ (s : List ℕ) (a : ℕ) (v : Serves s a) (es : List one.Event) (rest :
       → cond (handsOut a x (ourAnswer x s)) (askPart (ourAfter x s) a ∷ rest) rest ≡ one.handedOut (xs ++ es) (view s a)
   unfolding handsOut eventsAt ourAnswer Stays one.handedOut one.answer one.run
   step-hands start st er = absurd st
-  step-hands (follow b p l) st er = er
+  step-hands (follow w) st er = er
   step-hands (leave b) st er = er
   step-hands (packet image) st er =
       let n = next s a v (packet image) st in
       packet-hands image (arrivesAt a image) refl er (n .seen) (shown-here (ourAfter (packet image) s) a (n .serves))
   step-hands subframeEnd st er = er
-  step-hands (ask b) st er = er
+  step-hands (asks q) st er = er
 
 pub handed-same : (h : List Call) (s : List ℕ) (a : ℕ) → Serves s a → AllStay a h
     → handedOut ours a h s ≡ one.handedOut (eventsOf a (by (view s a)) h) (view s a)

@@ -3,6 +3,7 @@
 --   goes-as, goes-from     at every moment, from any state that follows the address
 --   begun-goes             so from an accepted follow on
 --   exact, missed          what is handed out, and what ask says, where the channel is as supposed
+--   question-alike         what a call that only reads answers, in two states in which the address is the same
 --   alike                  two states in which the address is the same answer all that concerns it alike
 --   demand-3               ours
 --
@@ -12,11 +13,12 @@ use mathlib.Core.Bool.{Bool, true, false, cond, not}
 use mathlib.Core.List.{List, [], _∷_}
 use Prim.Native.Nat.{ℕ, _≤_}
 use native.Mathlib.Omega.{arith}
-use borrow.Author.Tests.{eq-eqb, eqb-true, leb-true, lt-ltb}
-use lib.Dec.{T, leb, ltb, eqb}
-use Rattle.bits.specs.Rows.{row, refusal}
-use Rattle.bits.proofs.Search.{and-left, and-right}
-use Rattle.head.specs.Head.{within, shown}
+use borrow.Author.Tests.{eq-eqb, eqb-true, lt-ltb}
+use lib.Dec.{T, ltb, eqb}
+use Rattle.bits.specs.Rows.{Row, row, refusal}
+use Rattle.head.specs.Head.{wishRows, shown}
+use Rattle.head.specs.declared.Wish.{Wish}
+use Rattle.head.proofs.Bounds.{WishBounds, wish-bounds}
 use Rattle.slot.specs.Slot.{headOf}
 use Rattle.table.specs.State.{slots, slotAt, find}
 use Rattle.table.specs.Calls.{followAnswer}
@@ -32,10 +34,10 @@ use Rattle.history.proofs.Exactness.{exactly-four}
 use Rattle.history.proofs.Freshness.{Tells, tells-new, tells-run}
 use Rattle.history.proofs.Missing.{nothing-missed-four}
 use Rattle.adapter.specs.Calls.{addressOf, packetAnswer}
-use Rattle.demands.specs.Machine.{Call, start, follow, leave, packet, subframeEnd, ask, ours, ourAnswer, ourAfter, ourBoard, run}
+use Rattle.demands.specs.Machine.{Call, start, follow, leave, packet, subframeEnd, asks, ask, askedOf, Question, ours, questionAnswer, ourAnswer, ourAfter, ourBoard, run}
 use Rattle.demands.specs.Demand3.{Stays, AllStay, Carries, Happening, calls, Channel, Arrived, handedOut, arrivals, Goes, concerns, only, answersAt, Demand3, arrivals}
 use Rattle.demands.specs.Seen.{arrivesAt, eventOf, eventsAt, eventsOf, by, seenIn, marksOf, latest}
-use Rattle.demands.proofs.Serving.{Serves, view, Kept, here-bounds}
+use Rattle.demands.proofs.Serving.{Serves, view, Kept, here-bounds, here-wish}
 use Rattle.demands.proofs.Calling.{arrives-is, end-zero, follow-serves}
 use Rattle.demands.proofs.Parts.{ask-here, shown-here, followed-serves}
 use Rattle.demands.proofs.Marks.{tells-marks}
@@ -66,8 +68,8 @@ module _ (s : List ℕ) (a : ℕ) (v : Serves s a) (f : one.Followed) (seen : vi
       let r = run-acts h s a v st in
       record { serves = r .serves; seen = r .seen ∙ ap (λ (g : one.Followed). one.run (eventsOf a (by g) h) g) seen }
 
-  pub goes-as : (t : List Entry) → f .head .limit ≤ 1500 → Tells (f .head .limit) (f .head) t → Goes ours a f t s
-  unfolding ourAnswer
+  pub goes-as : (t : List Entry) → f .head .wish .limit ≤ 1500 → Tells (f .head .wish .limit) (f .head) t → Goes ours a f t s
+  unfolding questionAnswer ourAnswer
   goes-as t k tells = record {
     answers = λ h st image e.
         let r = ran h st in
@@ -77,7 +79,7 @@ module _ (s : List ℕ) (a : ℕ) (v : Serves s a) (f : one.Followed) (seen : vi
     asks = λ h st.
         let r = ran h st in
         ask-here (run ours h s) a (r .serves) ∙ ap (λ (g : one.Followed). shown (g .head)) (r .seen)
-        ∙ tells-run (f .head .limit) k (eventsOf a p h) f t tells;
+        ∙ tells-run (f .head .wish .limit) k (eventsOf a p h) f t tells;
     shows = λ h st.
         let r = ran h st in
         shown-here (run ours h s) a (r .serves) ∙ ap (λ (g : one.Followed). g .last) (r .seen) ∙ latest-last (eventsOf a p h) f;
@@ -88,83 +90,77 @@ goes-from : (s : List ℕ) (a : ℕ) → Serves s a → Goes ours a (view s a) (
 unfolding view seenIn
 goes-from s a v =
     let b = here-bounds s a v in
-    goes-as s a v (view s a) refl (marksOf (headOf (slotAt (find s a) s))) (b .limit-to) (tells-marks (headOf (slotAt (find s a) s)) b)
+    goes-as s a v (view s a) refl (marksOf (headOf (slotAt (find s a) s))) (here-wish s a v .limit-to) (tells-marks (headOf (slotAt (find s a) s)) b)
 
 -- ---- from an accepted follow on
 
-module _ (s : List ℕ) (a p l : ℕ) (e : followAnswer s a p l ≡ 0) where
+module _ (s : List ℕ) (w : Wish) (e : followAnswer s w ≡ 0) where
   abbrev t : List ℕ
-  t = ourAfter (follow a p l) s
+  t = ourAfter (follow w) s
 
-  begun : Kept t a (one.followed a p l)
+  abbrev a : ℕ
+  a = w .address
+
+  abbrev guarded : Bool
+  guarded = eqb (w .protection) 1
+
+  begun : Kept t a (one.followed w)
   unfolding ourAfter
-  begun = follow-serves s a p l e
+  begun = follow-serves s w e
 
-  begun-by : by (view t a) ≡ eqb p 1
+  begun-by : by (view t a) ≡ guarded
   unfolding one.followed
   begun-by = ap by (begun .seen)
 
-  limit-to : l ≤ 1500
-  limit-to =
-      let f = follow-passed s a p l e in
-      leb-true l 1500 (and-right (leb 1 l) (leb l 1500) (f .limit))
-
-  limit-from : 1 ≤ l
-  limit-from =
-      let f = follow-passed s a p l e in
-      leb-true 1 l (and-left (leb 1 l) (leb l 1500) (f .limit))
+  bounds : WishBounds w
+  bounds = wish-bounds w (follow-passed s w e .wish)
 
   low : a ≤ 1023
-  low =
-      let f = follow-passed s a p l e in
-      omega (arith, leb-true a 1022 (and-right (leb 1 a) (leb a 1022) (f .address)))
+  low = omega (arith, bounds .address-to)
 
-  begun-goes : Goes ours a (one.followed a p l) [] t
+  begun-goes : Goes ours a (one.followed w) [] t
   unfolding one.followed
-  begun-goes = goes-as t a (begun .serves) (one.followed a p l) (begun .seen) [] limit-to (tells-new a p l)
+  begun-goes = goes-as t a (begun .serves) (one.followed w) (begun .seen) [] (bounds .limit-to) (tells-new w)
 
-  exact : (sent : ℕ → ℕ → List ℕ) → Carries (eqb p 1) sent → (n : ℕ) (h : List Happening) → Channel (eqb p 1) a sent n h
-      → Exactly 4 sent (Arrived (eqb p 1) h) (handedOut ours a (calls h) t)
+  exact : (sent : ℕ → ℕ → List ℕ) → Carries guarded sent → (n : ℕ) (h : List Happening) → Channel guarded a sent n h
+      → Exactly 4 sent (Arrived guarded h) (handedOut ours a (calls h) t)
   unfolding Arrived Readable
   exact sent k n h ch =
-      let st = channel-stays (eqb p 1) a sent n h ch in
-      let x = exactly-four a p l sent n (arrivals (eqb p 1) h) (channel-order (eqb p 1) a sent n h ch) in
+      let st = channel-stays guarded a sent n h ch in
+      let x = exactly-four w sent n (arrivals guarded h) (channel-order guarded a sent n h ch) in
       let same : handedOut ours a (calls h) t ≡ _ =
       handed-same (calls h) t a (begun .serves) st
       ∙ ap₂ (λ (b : Bool) (f : one.Followed). one.handedOut (eventsOf a b (calls h)) f) begun-by (begun .seen)
-      ∙ ap (λ (es : List one.Event). one.handedOut es (one.followed a p l)) (sym (channel-events (eqb p 1) a sent low k n h ch)) in
+      ∙ ap (λ (es : List one.Event). one.handedOut es (one.followed w)) (sym (channel-events guarded a sent low k n h ch)) in
       record {
         which = x .which;
         bytes = same ∙ x .bytes;
         rising = x .rising;
-        those = λ i q. x .those i (λ c hc. readable-came (eqb p 1) i c h (q c hc));
-        others = λ i q c hc. came-readable (eqb p 1) i c h (x .others i q c hc);
+        those = λ i q. x .those i (λ c hc. readable-came guarded i c h (q c hc));
+        others = λ i q c hc. came-readable guarded i c h (x .others i q c hc);
       }
 
-  missed : (sent : ℕ → ℕ → List ℕ) → Carries (eqb p 1) sent → (n : ℕ) (h : List Happening) → Channel (eqb p 1) a sent n h
-      → Judged 4 l (arrivals (eqb p 1) h) (ourAnswer (ask a) (run ours (calls h) t))
-  unfolding ourAnswer
+  missed : (sent : ℕ → ℕ → List ℕ) → Carries guarded sent → (n : ℕ) (h : List Happening) → Channel guarded a sent n h
+      → Judged 4 (w .limit) (arrivals guarded h) (ourAnswer (asks (ask a)) (run ours (calls h) t))
+  unfolding questionAnswer ourAnswer
   missed sent k n h ch =
-      let r = run-acts (calls h) t a (begun .serves) (channel-stays (eqb p 1) a sent n h ch) in
-      let same : asked (run ours (calls h) t) a .number ≡ shown (one.run (events sent (arrivals (eqb p 1) h)) (one.followed a p l) .head) =
+      let r = run-acts (calls h) t a (begun .serves) (channel-stays guarded a sent n h ch) in
+      let same : asked (run ours (calls h) t) a .number ≡ shown (one.run (events sent (arrivals guarded h)) (one.followed w) .head) =
       ask-here (run ours (calls h) t) a (r .serves) ∙ ap (λ (f : one.Followed). shown (f .head)) (r .seen)
       ∙ ap₂ (λ (b : Bool) (f : one.Followed). shown (one.run (eventsOf a b (calls h)) f .head)) begun-by (begun .seen)
-      ∙ ap (λ (es : List one.Event). shown (one.run es (one.followed a p l) .head)) (sym (channel-events (eqb p 1) a sent low k n h ch)) in
-      subst (Judged 4 l (arrivals (eqb p 1) h)) (sym same)
-      (nothing-missed-four a p l limit-from limit-to sent n (arrivals (eqb p 1) h) (channel-order (eqb p 1) a sent n h ch))
+      ∙ ap (λ (es : List one.Event). shown (one.run es (one.followed w) .head)) (sym (channel-events guarded a sent low k n h ch)) in
+      subst (Judged 4 (w .limit) (arrivals guarded h)) (sym same)
+      (nothing-missed-four w (bounds .limit-from) (bounds .limit-to) sent n (arrivals guarded h) (channel-order guarded a sent n h ch))
 
 -- ---- what concerns the address, in two states in which it is the same
 
 -- a follow of an address that is followed is refused, by its own numbers alone
-follow-again : (s : List ℕ) (a p l : ℕ) → Serves s a
-    → followAnswer s a p l ≡ refusal (row (not (within 1 1022 a)) 22 ∷ row (ltb 1 p) 23 ∷ row (not (within 1 1500 l)) 24 ∷ row true 25 ∷ [])
+follow-again : (s : List ℕ) (w : Wish) → Serves s (w .address) → followAnswer s w ≡ refusal (wishRows w (row true 25 ∷ []))
 unfolding followAnswer refusal
-follow-again s a p l v =
-    let rest = row (not (within 1 1022 a)) 22 ∷ row (ltb 1 p) 23 ∷ row (not (within 1 1500 l)) 24 ∷ row (ltb (find s a) slots) 25
-    ∷ row (not (ltb (find s 0) slots)) 26 ∷ [] in
-    state-rest s rest (v .size) (each-good s (v .all))
-    ∙ ap (λ (b : Bool). refusal (row (not (within 1 1022 a)) 22 ∷ row (ltb 1 p) 23 ∷ row (not (within 1 1500 l)) 24 ∷ row b 25
-    ∷ row (not (ltb (find s 0) slots)) 26 ∷ [])) (lt-ltb (find s a) slots (v .found))
+follow-again s w v =
+    let rest : Bool → List Row = λ b. wishRows w (row b 25 ∷ row (not (ltb (find s 0) slots)) 26 ∷ []) in
+    state-rest s (rest (ltb (find s (w .address)) slots)) (v .size) (each-good s (v .all))
+    ∙ ap (λ (b : Bool). refusal (rest b)) (lt-ltb (find s (w .address)) slots (v .found))
 
 module _ (a : ℕ) (s u : List ℕ) (v : Serves s a) (w : Serves u a) (same : view s a ≡ view u a) where
   packet-alike : (image : List ℕ) → addressOf image ≡ a → (b : Bool) → arrivesAt a image ≡ b → packetAnswer s image ≡ packetAnswer u image
@@ -173,19 +169,22 @@ module _ (a : ℕ) (s u : List ℕ) (v : Serves s a) (w : Serves u a) (same : vi
       answer-by s a v image r ∙ ap (λ (f : one.Followed). one.answer (eventOf (by f) image) f) same ∙ sym (answer-by u a w image r)
   packet-alike image at false e = lost-answer s a v image e at ∙ sym (lost-answer u a w image e at)
 
+  question-alike : (q : Question) → askedOf q ≡ a → questionAnswer q s ≡ questionAnswer q u
+  unfolding questionAnswer askedOf
+  question-alike (ask b) e =
+      subst (λ (n : ℕ). asked s n .number ≡ asked u n .number) (sym e)
+      (ask-here s a v ∙ ap (λ (f : one.Followed). shown (f .head)) same ∙ sym (ask-here u a w))
+
   answer-alike : (x : Call) → Stays a x → concerns a x ≡ true → ourAnswer x s ≡ ourAnswer x u
   unfolding ourAnswer Stays concerns
   answer-alike start st c = absurd st
-  answer-alike (follow b p l) st c =
-      let e = eqb-true b a c in
-      subst (λ (n : ℕ). followAnswer s n p l ≡ followAnswer u n p l) (sym e) (follow-again s a p l v ∙ sym (follow-again u a p l w))
+  answer-alike (follow x) st c =
+      let e = sym (eqb-true (x .address) a c) in
+      follow-again s x (subst (Serves s) e v) ∙ sym (follow-again u x (subst (Serves u) e w))
   answer-alike (leave b) st c = absurd (st (eqb-true b a c))
   answer-alike (packet image) st c = packet-alike image (eqb-true (addressOf image) a c) (arrivesAt a image) refl
   answer-alike subframeEnd st c = end-zero s a v ∙ sym (end-zero u a w)
-  answer-alike (ask b) st c =
-      let e = eqb-true b a c in
-      subst (λ (n : ℕ). asked s n .number ≡ asked u n .number) (sym e)
-      (ask-here s a v ∙ ap (λ (f : one.Followed). shown (f .head)) same ∙ sym (ask-here u a w))
+  answer-alike (asks q) st c = question-alike q (eqb-true (askedOf q) a c)
 
   view-alike : (x : Call) → Stays a x → view (ourAfter x s) a ≡ view (ourAfter x u) a
   view-alike x st =
@@ -195,7 +194,7 @@ module _ (a : ℕ) (s u : List ℕ) (v : Serves s a) (w : Serves u a) (same : vi
 apart-none : (a : ℕ) (p : Bool) (x : Call) → concerns a x ≡ false → eventsAt a p x ≡ []
 unfolding concerns eventsAt
 apart-none a p start c = refl
-apart-none a p (follow b q l) c = refl
+apart-none a p (follow w) c = refl
 apart-none a p (leave b) c = refl
 apart-none a p (packet image) c = ap (λ (b : Bool). cond b (eventOf p image ∷ []) []) (away (arrivesAt a image) refl)
   where
@@ -203,7 +202,7 @@ apart-none a p (packet image) c = ap (λ (b : Bool). cond b (eventOf p image ∷
     away true e = absurd (subst T (sym (eq-eqb (addressOf image) a (arrives-is a image e .address)) ∙ c) tt)
     away false e = e
 apart-none a p subframeEnd c = absurd (subst T c tt)
-apart-none a p (ask b) c = refl
+apart-none a p (asks q) c = refl
 
 view-apart : (a : ℕ) (s : List ℕ) (v : Serves s a) (x : Call) → Stays a x → concerns a x ≡ false → view (ourAfter x s) a ≡ view s a
 unfolding one.run
@@ -252,17 +251,17 @@ alike a (x ∷ h) s u v w same st =
     either false f g = g refl
 
 pub demand-3 : Demand3 ours
-unfolding ourAnswer ourBoard boardText view
+unfolding questionAnswer ourAnswer ourBoard boardText view
 demand-3 = record {
-  accepted = λ s a p l e. e;
+  accepted = λ s w e. e;
   exactly = exact;
   follows = begun-goes;
   holds = λ s a p w. goes-from s a (followed-serves s a (w .size) (w .good) (w .found));
   missing = missed;
   boards = λ a notice s. refl;
   texts = λ a notice s. refl;
-  undisturbed = λ s a p l e h st.
-      let b = begun s a p l e in
-      let k = alike a h _ _ (b .serves) (b .serves) refl st in
+  undisturbed = λ s w e h st.
+      let b = begun s w e in
+      let k = alike (w .address) h _ _ (b .serves) (b .serves) refl st in
       (k .answers, k .part);
 }

@@ -5,7 +5,7 @@
 --   four, four-then  the four packets, and their events, whatever comes behind
 --   state-1 .., view-1 ..     the states on the way and the address in them, where g is what each packet leaves beside its change
 --   whole            the last of them
---   asks             what ask says then
+--   says             what ask says then
 --
 -- Assumes nothing.
 use mathlib.Core.Path.{_≡_, refl, ap, ap₂, _∙_}
@@ -14,7 +14,7 @@ use mathlib.Core.List.{List, [], _∷_, _++_}
 use Prim.Native.Nat.{ℕ, _<_}
 use lib.Dec.{lit<}
 use Rattle.bits.specs.Bits.{blank}
-use Rattle.head.specs.Head.{shown}
+use Rattle.head.specs.Head.{shown, wishOf}
 use Rattle.table.specs.Calls.{followAnswer, followAfter}
 use Rattle.asking.specs.Asking.{asked}
 use Rattle.history.specs.Followed as one
@@ -29,11 +29,11 @@ use Rattle.demands.proofs.Examples.{empty-state, clean, clean-event, St
 
 -- the followed address, and after its first packet
 abbrev pub begun-at : ℕ → List ℕ
-begun-at l = followAfter empty-state 17 0 l
+begun-at l = followAfter empty-state (wishOf 17 0 l)
 
-pub first-step : (l : ℕ) → followAnswer empty-state 17 0 l ≡ 0 → Steps (begun-at l) 0 (one.followed 17 0 l)
+pub first-step : (l : ℕ) → followAnswer empty-state (wishOf 17 0 l) ≡ 0 → Steps (begun-at l) 0 (one.followed (wishOf 17 0 l))
 unfolding one.followed
-first-step l e = clean-step (begun-at l) (one.followed 17 0 l) (follow-serves empty-state 17 0 l e) refl 0 (lit< tt)
+first-step l e = clean-step (begun-at l) (one.followed (wishOf 17 0 l)) (follow-serves empty-state (wishOf 17 0 l) e) refl 0 (lit< tt)
 
 -- the four packets, and their events
 abbrev pub four : List Call
@@ -52,8 +52,8 @@ four-then h =
     clean-then 0 _ _ (lit< tt) (clean-then 1 _ _ (lit< tt) (clean-then 2 _ _ (lit< tt) (clean-then 3 h _ (lit< tt) refl)))
 
 -- the states on the way, where g is what a packet leaves beside its own change
-module _ (l : ℕ) (e : followAnswer empty-state 17 0 l ≡ 0) (g : List ℕ → List ℕ) (view-g : one.Followed → one.Followed) (acts : (s : List ℕ) (f : one.Followed) → Kept s 17 f → Kept (g s) 17 (view-g f))
-    (plain : (f : one.Followed) → view-g f .head .protection ≡ f .head .protection) where
+module _ (l : ℕ) (e : followAnswer empty-state (wishOf 17 0 l) ≡ 0) (g : List ℕ → List ℕ) (view-g : one.Followed → one.Followed) (acts : (s : List ℕ) (f : one.Followed) → Kept s 17 f → Kept (g s) 17 (view-g f))
+    (plain : (f : one.Followed) → view-g f .head .wish .protection ≡ f .head .wish .protection) where
   abbrev pub state-1 : List ℕ
   state-1 = g (packetAfter (begun-at l) (clean 0))
 
@@ -67,7 +67,7 @@ module _ (l : ℕ) (e : followAnswer empty-state 17 0 l ≡ 0) (g : List ℕ →
   state-4 = g (packetAfter state-3 (clean 3))
 
   abbrev pub view-1 : one.Followed
-  view-1 = view-g (one.after (one.packet 0 (blank 90)) (one.followed 17 0 l))
+  view-1 = view-g (one.after (one.packet 0 (blank 90)) (one.followed (wishOf 17 0 l)))
 
   abbrev pub view-2 : one.Followed
   view-2 = view-g (one.after (one.packet 1 (blank 90)) view-1)
@@ -78,22 +78,22 @@ module _ (l : ℕ) (e : followAnswer empty-state 17 0 l ≡ 0) (g : List ℕ →
   abbrev pub view-4 : one.Followed
   view-4 = view-g (one.after (one.packet 3 (blank 90)) view-3)
 
-  step-0 : Steps (begun-at l) 0 (one.followed 17 0 l)
+  step-0 : Steps (begun-at l) 0 (one.followed (wishOf 17 0 l))
   step-0 = first-step l e
 
-  kept-on : (f : one.Followed) (b : ℕ) → f .head .protection ≡ 0 → view-g (one.after (one.packet b (blank 90)) f) .head .protection ≡ 0
+  kept-on : (f : one.Followed) (b : ℕ) → f .head .wish .protection ≡ 0 → view-g (one.after (one.packet b (blank 90)) f) .head .wish .protection ≡ 0
   kept-on f b p = plain (one.after (one.packet b (blank 90)) f) ∙ after-protection (one.packet b (blank 90)) f ∙ p
 
-  step-on : (s : List ℕ) (f : one.Followed) (b c : ℕ) → Steps s b f → f .head .protection ≡ 0 → c < 4
+  step-on : (s : List ℕ) (f : one.Followed) (b c : ℕ) → Steps s b f → f .head .wish .protection ≡ 0 → c < 4
       → Steps (g (packetAfter s (clean b))) c (view-g (one.after (one.packet b (blank 90)) f))
   step-on s f b c k p h = clean-step _ _ (acts _ _ (k .next)) (kept-on f b p) c h
 
-  begun-plain : one.followed 17 0 l .head .protection ≡ 0
+  begun-plain : one.followed (wishOf 17 0 l) .head .wish .protection ≡ 0
   unfolding one.followed
   begun-plain = refl
 
   step-1 : Steps state-1 1 view-1
-  step-1 = step-on (begun-at l) (one.followed 17 0 l) 0 1 step-0 begun-plain (lit< tt)
+  step-1 = step-on (begun-at l) (one.followed (wishOf 17 0 l)) 0 1 step-0 begun-plain (lit< tt)
 
   step-2 : Steps state-2 2 view-2
   step-2 = step-on state-1 view-1 1 2 step-1 (kept-on _ 0 begun-plain) (lit< tt)
@@ -104,5 +104,5 @@ module _ (l : ℕ) (e : followAnswer empty-state 17 0 l ≡ 0) (g : List ℕ →
   pub whole : Kept state-4 17 view-4
   whole = acts _ _ (step-3 .next)
 
-  pub asks : asked state-4 17 .number ≡ shown (view-4 .head)
-  asks = ask-here state-4 17 (whole .serves) ∙ ap (λ (f : one.Followed). shown (f .head)) (whole .seen)
+  pub says : asked state-4 17 .number ≡ shown (view-4 .head)
+  says = ask-here state-4 17 (whole .serves) ∙ ap (λ (f : one.Followed). shown (f .head)) (whole .seen)

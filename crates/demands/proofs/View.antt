@@ -19,6 +19,7 @@ use Rattle.slot.specs.Slot.{headOf, withHead, unfinished, stored}
 use Rattle.head.specs.Head.{newHead, droppedHead, agedHead, goodHead}
 use Rattle.head.specs.Move.{Move, started, held, whole, outOfStep, perOf, needsOf, movedHead}
 use Rattle.head.specs.declared.Head.{Head}
+use Rattle.head.specs.declared.Wish.{Wish}
 use Rattle.head.proofs.Moves.{moved-sizes, dropped-sizes, aged-sizes}
 use Rattle.slot.proofs.Goods.{good-load}
 use Rattle.head.proofs.Bounds.{good-aged}
@@ -46,20 +47,20 @@ held-none h room e = ap (λ (n : ℕ). part 0 n room) (ap (λ (a : ℕ). a * blo
 -- a group is four packets
 pub group-four : (h : Head) → groupLength h ≡ 4 * blockOf h
 unfolding groupLength blockOf
-group-four h = go (eqb (h .protection) 1)
+group-four h = go (eqb (h .wish .protection) 1)
   where
     go : (b : Bool) → cond b 180 360 ≡ 4 * cond b 45 90
     go true = refl
     go false = refl
 
 -- a head with the same marks shows the same
-last-same : (g h : Head) (r t : List ℕ) → g .group ≡ h .group → g .protection ≡ h .protection → r ≡ t → lastIn g r ≡ lastIn h t
+last-same : (g h : Head) (r t : List ℕ) → g .group ≡ h .group → g .wish .protection ≡ h .wish .protection → r ≡ t → lastIn g r ≡ lastIn h t
 unfolding lastIn groupLength
 last-same g h r t eg ep er =
     λ i. cond (eqb (eg i) 0) [] (part 0 (cond (eqb (ep i) 1) 180 360) (er i))
 
 -- a block is as long for a head with the same protection
-block-same : (g h : Head) → g .protection ≡ h .protection → blockOf g ≡ blockOf h
+block-same : (g h : Head) → g .wish .protection ≡ h .wish .protection → blockOf g ≡ blockOf h
 unfolding blockOf
 block-same g h e = ap (λ (p : ℕ). cond (eqb p 1) 45 90) e
 
@@ -134,7 +135,7 @@ view-aged x l g =
     ∙ sym (held-by (headOf x) (unfinished x) (headOf x .awaited * blockOf (headOf x)) refl))
     (last-same h (headOf x) _ _ refl refl (store-stored h x l))
 
-pub view-new : (a p l : ℕ) (x : List ℕ) → length x ≡ 736 → goodHead (newHead a p l) ≡ true → seenIn (withHead (newHead a p l) x) ≡ followed a p l
+pub view-new : (w : Wish) (x : List ℕ) → length x ≡ 736 → goodHead (newHead w) ≡ true → seenIn (withHead (newHead w) x) ≡ followed w
 unfolding followed lastIn
-view-new a p l x lx g =
-    view-is (withHead (newHead a p l) x) _ _ (newHead a p l) [] [] (good-load (newHead a p l) g x lx) (refl, refl) (held-none (newHead a p l) _ refl) refl
+view-new w x lx g =
+    view-is (withHead (newHead w) x) _ _ (newHead w) [] [] (good-load (newHead w) g x lx) (refl, refl) (held-none (newHead w) _ refl) refl

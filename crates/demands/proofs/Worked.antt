@@ -16,16 +16,19 @@ use native.Mathlib.Omega.{arith}
 use lib.Dec.{eqb, lit<, lit≤}
 use borrow.Author.Tests.{eq-eqb, eqb-true}
 use Rattle.head.specs.Move.{perOf, needsOf, rowOf, moveOf, moveNumber, movedHead}
+use Rattle.head.specs.Head.{wishOf}
+use Rattle.head.proofs.Wishes.{wish-0}
 use Rattle.table.specs.State.{find}
 use Rattle.table.specs.Calls.{followAnswer, followAfter}
 use Rattle.table.proofs.Looking.{follow-0}
 use Rattle.table.proofs.Kept.{follow-passed}
+use Rattle.faults.specs.Faults.{typeControl, wordUnreadable, faultOf}
 use Rattle.history.specs.Followed as one
 use Rattle.history.specs.Sent.{Arrival, came, damaged, subframeEnd, event, events, group, CameIn, Readable, In, Exactly}
 use Rattle.history.specs.Missing.{Reached, endings, Last, Judged}
-use Rattle.demands.specs.Machine.{Call, follow, leave, packet, ask, ours, ourAnswer, ourAfter, run}
+use Rattle.demands.specs.Machine.{Call, follow, leave, packet, asks, ask, ours, ourAnswer, ourAfter, run}
 use Rattle.demands.specs.Machine as machine
-use Rattle.demands.specs.Seen.{reasonOf, by, eventsOf}
+use Rattle.demands.specs.Seen.{by, eventsOf}
 use Rattle.demands.specs.Demand3.{Happening, arrives, call, calls, Arrived, arrivalBy, passing, arrivals, handedOut}
 use Rattle.demands.proofs.Calling.{follow-serves}
 use Rattle.demands.proofs.Telling.{handed-same}
@@ -41,10 +44,10 @@ unfoldable pub came-5 : List Arrival
 came-5 = came 5 0 ∷ came 5 1 ∷ came 5 2 ∷ came 5 3 ∷ []
 
 unfoldable pub came-4 : List Arrival
-came-4 = damaged 4 0 one.typeReserved ∷ came 4 1 ∷ came 4 2 ∷ came 4 3 ∷ subframeEnd ∷ came-5
+came-4 = damaged 4 0 typeControl ∷ came 4 1 ∷ came 4 2 ∷ came 4 3 ∷ subframeEnd ∷ came-5
 
 unfoldable pub came-3 : List Arrival
-came-3 = came 3 0 ∷ damaged 3 1 one.wordUnreadable ∷ came 3 2 ∷ came 3 3 ∷ came-4
+came-3 = came 3 0 ∷ damaged 3 1 wordUnreadable ∷ came 3 2 ∷ came 3 3 ∷ came-4
 
 unfoldable pub came-2 : List Arrival
 came-2 = came 2 0 ∷ came-3
@@ -82,13 +85,13 @@ unfolding from-5 came-5
 becomes-5 = clean 5 0 (lit< tt) (clean 5 1 (lit< tt) (clean 5 2 (lit< tt) (clean 5 3 (lit< tt) none)))
 
 becomes-4 : Becomes from-4 came-4
-unfolding from-4 came-4 arrivalBy reasonOf passing
+unfolding from-4 came-4 arrivalBy faultOf passing
 becomes-4 =
     read 4 0 29 (type-receives 4 0 (lit< tt)) (clean 4 1 (lit< tt) (clean 4 2 (lit< tt) (clean 4 3 (lit< tt)
-    (pass machine.subframeEnd (pass (ask 17) becomes-5)))))
+    (pass machine.subframeEnd (pass (asks (ask 17)) becomes-5)))))
 
 becomes-3 : Becomes from-3 came-3
-unfolding from-3 came-3 arrivalBy reasonOf
+unfolding from-3 came-3 arrivalBy faultOf
 becomes-3 =
     clean 3 0 (lit< tt) (read 3 1 31 (word-four-receives 3 1 (lit< tt)) (clean 3 2 (lit< tt) (clean 3 3 (lit< tt) becomes-4)))
 
@@ -100,7 +103,7 @@ becomes-1 : Becomes from-1 came-1
 unfolding from-1 came-1 arrivalBy passing
 becomes-1 =
     read 1 0 0 (header-receives 1 0 (lit< tt)) (read 1 1 0 (word-three-receives 1 1 (lit< tt))
-    (pass (follow 18 1 2) (pass (packet other) (pass (leave 18)
+    (pass (follow (wishOf 18 1 2)) (pass (packet other) (pass (leave 18)
     (clean 1 2 (lit< tt) (pass machine.subframeEnd (clean 1 3 (lit< tt) becomes-2)))))))
 
 pub worked-arrivals : arrivals true worked ≡ worked-came
@@ -190,22 +193,22 @@ worked-only i q = go (worked-has i q 0 (lit< tt)) (second (worked-has i q 1 (lit
 
 -- ---- what is handed out
 
-pub worked-out : one.handedOut (events worked-sent worked-came) (one.followed 17 1 2) ≡ group 4 worked-sent 1 ∷ group 4 worked-sent 5 ∷ []
-unfolding worked-came came-1 came-2 came-3 came-4 came-5 worked-sent events event group one.followed one.handedOut one.after one.answer one.number one.moved one.begun one.joined one.lastOf one.dropped one.aged perOf needsOf rowOf moveOf moveNumber movedHead
+pub worked-out : one.handedOut (events worked-sent worked-came) (one.followed (wishOf 17 1 2)) ≡ group 4 worked-sent 1 ∷ group 4 worked-sent 5 ∷ []
+unfolding worked-came came-1 came-2 came-3 came-4 came-5 worked-sent events event group one.followed one.handedOut one.after one.answer one.moved one.begun one.joined one.lastOf one.dropped one.aged perOf needsOf rowOf moveOf moveNumber movedHead
 worked-out = refl
 
-pub worked-accepted : followAnswer empty-state 17 1 2 ≡ 0
+pub worked-accepted : followAnswer empty-state (wishOf 17 1 2) ≡ 0
 worked-accepted =
-    follow-0 empty-state 17 1 2 empty-passed refl (lit≤ tt) refl (find empty-state 17) refl (empty-absent 17 (lit< tt)) (find empty-state 0) refl
-    (follow-passed empty-state 17 0 2 (accepted 2 refl) .room)
+    follow-0 empty-state (wishOf 17 1 2) empty-passed (sym (wish-0 (wishOf 17 1 2) refl (lit≤ tt) refl)) (find empty-state 17) refl (empty-absent 17 (lit< tt)) (find empty-state 0) refl
+    (follow-passed empty-state (wishOf 17 0 2) (accepted 2 refl) .room)
 
 -- the same of our calls, on bytes
-pub worked-handed : handedOut ours 17 (calls worked) (followAfter empty-state 17 1 2) ≡ group 4 worked-sent 1 ∷ group 4 worked-sent 5 ∷ []
+pub worked-handed : handedOut ours 17 (calls worked) (followAfter empty-state (wishOf 17 1 2)) ≡ group 4 worked-sent 1 ∷ group 4 worked-sent 5 ∷ []
 unfolding one.followed
 worked-handed =
-    let k = follow-serves empty-state 17 1 2 worked-accepted in
-    let f = one.followed 17 1 2 in
-    handed-same (calls worked) (followAfter empty-state 17 1 2) 17 (k .serves) (channel-stays true 17 worked-sent 2 worked worked-channel)
+    let k = follow-serves empty-state (wishOf 17 1 2) worked-accepted in
+    let f = one.followed (wishOf 17 1 2) in
+    handed-same (calls worked) (followAfter empty-state (wishOf 17 1 2)) 17 (k .serves) (channel-stays true 17 worked-sent 2 worked worked-channel)
     ∙ ap (λ (g : one.Followed). one.handedOut (eventsOf 17 (by g) (calls worked)) g) (k .seen)
     ∙ ap (λ (es : List one.Event). one.handedOut es f)
     (sym (channel-events true 17 worked-sent (lit≤ tt) worked-carried 2 worked worked-channel) ∙ ap (events worked-sent) worked-arrivals)
@@ -213,8 +216,8 @@ worked-handed =
 
 -- ---- by demand 3
 
-pub worked-exactly : Exactly 4 worked-sent (Arrived true worked) (handedOut ours 17 (calls worked) (ourAfter (follow 17 1 2) empty-state))
-worked-exactly = demand-3 .exactly empty-state 17 1 2 worked-accepted worked-sent worked-carried 2 worked worked-channel
+pub worked-exactly : Exactly 4 worked-sent (Arrived true worked) (handedOut ours 17 (calls worked) (ourAfter (follow (wishOf 17 1 2)) empty-state))
+worked-exactly = demand-3 .exactly empty-state (wishOf 17 1 2) worked-accepted worked-sent worked-carried 2 worked worked-channel
 
 came-readable-all : (i : ℕ) → Readable 4 worked-came i → Arrived true worked i
 unfolding Readable Arrived
@@ -228,8 +231,8 @@ readable-all i q c h = subst (CameIn i c) worked-arrivals (readable-came true i 
 worked-last : Last 4 worked-came 5 []
 unfolding worked-came came-1 came-2 came-3 came-4 came-5
 worked-last = record {
-  before = came 0 2 ∷ came 0 3 ∷ came 1 0 ∷ came 1 1 ∷ came 1 2 ∷ subframeEnd ∷ came 1 3 ∷ came 2 0 ∷ came 3 0 ∷ damaged 3 1 one.wordUnreadable
-      ∷ came 3 2 ∷ came 3 3 ∷ damaged 4 0 one.typeReserved ∷ came 4 1 ∷ came 4 2 ∷ came 4 3 ∷ subframeEnd ∷ came 5 0 ∷ came 5 1 ∷ came 5 2 ∷ [];
+  before = came 0 2 ∷ came 0 3 ∷ came 1 0 ∷ came 1 1 ∷ came 1 2 ∷ subframeEnd ∷ came 1 3 ∷ came 2 0 ∷ came 3 0 ∷ damaged 3 1 wordUnreadable
+      ∷ came 3 2 ∷ came 3 3 ∷ damaged 4 0 typeControl ∷ came 4 1 ∷ came 4 2 ∷ came 4 3 ∷ subframeEnd ∷ came 5 0 ∷ came 5 1 ∷ came 5 2 ∷ [];
   split = refl;
   whole = readable-all 5 (worked-whole .1);
   none = λ j h q. later j h (worked-only j (came-readable-all j q));
@@ -239,9 +242,9 @@ worked-last = record {
     later j h (inl e) = omega (arith, h, e)
     later j h (inr e) = omega (arith, h, e)
 
-pub worked-fresh : ourAnswer (ask 17) (run ours (calls worked) (ourAfter (follow 17 1 2) empty-state)) ≡ 5
+pub worked-fresh : ourAnswer (asks (ask 17)) (run ours (calls worked) (ourAfter (follow (wishOf 17 1 2)) empty-state)) ≡ 5
 unfolding endings Reached
 worked-fresh =
-    let j = subst (λ (h : List Arrival). Judged 4 2 h (ourAnswer (ask 17) (run ours (calls worked) (ourAfter (follow 17 1 2) empty-state)))) worked-arrivals
-    (demand-3 .missing empty-state 17 1 2 worked-accepted worked-sent worked-carried 2 worked worked-channel) in
+    let j = subst (λ (h : List Arrival). Judged 4 2 h (ourAnswer (asks (ask 17)) (run ours (calls worked) (ourAfter (follow (wishOf 17 1 2)) empty-state)))) worked-arrivals
+    (demand-3 .missing empty-state (wishOf 17 1 2) worked-accepted worked-sent worked-carried 2 worked worked-channel) in
     j .fresh 5 [] worked-last (lit< tt) (λ m. m .reached)

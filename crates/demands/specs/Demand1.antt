@@ -8,6 +8,7 @@
 --   dropping         those that drop an unfinished group: 28 to 32
 --   Dropped k s t    slot k's unfinished room is 0, its gap marked, its awaited index 0; all else of the state s is in t as it was
 --   AllZero ns       each is 0
+--   DroppedBy x s t  so by a packet at an address that is followed, and by no other call; all that only read are one case
 --   Demand1 m
 use mathlib.Core.Path.{_≡_}
 use mathlib.Core.Bool.{true}
@@ -20,7 +21,7 @@ use Rattle.head.specs.Head.{droppedHead}
 use Rattle.table.specs.State.{stateSize, slots, slotAt, find}
 use Rattle.history.specs.Sent.{In}
 use Rattle.adapter.specs.Calls.{addressOf, followed}
-use Rattle.demands.specs.Machine.{Call, start, follow, leave, packet, subframeEnd, ask, Bare, Machine}
+use Rattle.demands.specs.Machine.{Question, ask, Call, start, follow, leave, packet, subframeEnd, asks, Bare, Machine}
 use Rattle.demands.specs.Rows.{rowsOf, ownNumbers, writeRows, bareRows, Answers}
 
 abbrev pub unchanging : List ℕ
@@ -44,10 +45,10 @@ AllZero (n ∷ ns) = (n ≡ 0) × AllZero ns
 unfoldable pub DroppedBy : Call → List ℕ → List ℕ → Type 0
 DroppedBy (packet image) s t = (followed s (addressOf image) ≡ true) × Dropped (find s (addressOf image)) s t
 DroppedBy start s t = ⊥
-DroppedBy (follow a p l) s t = ⊥
+DroppedBy (follow w) s t = ⊥
 DroppedBy (leave a) s t = ⊥
 DroppedBy subframeEnd s t = ⊥
-DroppedBy (ask a) s t = ⊥
+DroppedBy (asks q) s t = ⊥
 
 pub record Demand1 (m : Machine) : Type 0 where
   -- "Bad input gets a numbered refusal": where a row of section 6 holds, the first of them; otherwise one of the call's own numbers
@@ -64,7 +65,7 @@ pub record Demand1 (m : Machine) : Type 0 where
   -- "Starting sets every byte to 0."
   pub started : (s : List ℕ) → length s ≡ stateSize → m .after start s ≡ blank stateSize
   -- "Answers 5 to 7 come with the part of the state that holds the group, [..] 4 and refusals come with an empty part."
-  pub empty : (a : ℕ) (s : List ℕ) → (In (m .answer (ask a) s) (5 ∷ 6 ∷ 7 ∷ []) → ⊥) → m .shown a s ≡ []
-  -- ask and board text change no byte that was lent
-  pub asks : (a : ℕ) (s : List ℕ) → m .after (ask a) s ≡ s
+  pub empty : (a : ℕ) (s : List ℕ) → (In (m .answer (asks (ask a)) s) (5 ∷ 6 ∷ 7 ∷ []) → ⊥) → m .shown a s ≡ []
+  -- a call that only reads, and board text, change no byte that was lent
+  pub reads : (q : Question) (s : List ℕ) → m .after (asks q) s ≡ s
   pub boards : (a : ℕ) (notice s : List ℕ) → (m .board a notice s .state ≡ s) × (m .board a notice s .notice ≡ notice)

@@ -19,13 +19,13 @@ use Rattle.runs.specs.Part.{part}
 use Rattle.slot.specs.Slot.{headOf}
 use Rattle.table.specs.State.{stateSize, slots, slotAt, find, good}
 use Rattle.adapter.specs.Calls.{groupSize, imagesSize, groupImages, followed}
-use Rattle.demands.specs.Machine.{Call, packet, ask, Machine, Bytes, run, Bare, bareNumber, bareValues}
+use Rattle.demands.specs.Machine.{ask, Call, packet, asks, Machine, Bytes, run, Bare, bareNumber, bareValues}
 
 pub record Follows (s : List ℕ) (a p : ℕ) : Type 0 where
   pub size : length s ≡ stateSize
   pub good : good s ≡ true
   pub found : followed s a ≡ true
-  pub protection : headOf (slotAt (find s a) s) .protection ≡ p
+  pub protection : headOf (slotAt (find s a) s) .wish .protection ≡ p
 
 pub record Writable (a p : ℕ) (m o : List ℕ) : Type 0 where
   pub address-from : 1 ≤ a
@@ -53,7 +53,7 @@ packets (t ∷ ts) = packet t ∷ packets ts
 pub record ReadBack (m : Machine) (s : List ℕ) (a : ℕ) (message : List ℕ) (ts : List (List ℕ)) : Type 0 where
   pub size : length (run m (packets ts) s) ≡ length s
   pub answers : answersTo m ts s ≡ 1 ∷ 2 ∷ 2 ∷ 3 ∷ []
-  pub fresh : m .answer (ask a) (run m (packets ts) s) ≡ 5
+  pub fresh : m .answer (asks (ask a)) (run m (packets ts) s) ≡ 5
   pub group : m .shown a (run m (packets ts) s) ≡ message
   pub others : (j : ℕ) → j < slots → (j ≡ find s a → ⊥) → slotAt j (run m (packets ts) s) ≡ slotAt j s
 

@@ -5,6 +5,8 @@
 -- order, the first one after damage among them. The last of them is called fresh exactly while fewer subframes than its limit
 -- have ended since it was handed out and no gap has been marked since. Packets for other addresses alter none of this."
 --
+-- The calls that only read change nothing: they are one case, `asks q`, in all that follows.
+--
 --   Stays a x              a call that neither leaves the address nor starts
 --   Carries p sent         what is sent are packets of 90 bytes, or of 45 protected ones
 --   Lost image             refused with 20 or 21: it counts as lost
@@ -15,6 +17,7 @@
 --   handedOut m a h s      what ask shows of the address after each answer 3 to a packet read as it
 --   Goes m a f t s         what the machine answers and shows at the address from state s on, where the address is there as f says, and
 --                          t is its transcript so far
+--   concerns a x           a call that concerns the address; one that only reads by the address of its question
 --   only a h               the calls that concern the address; answersAt: the answers to them
 --   Demand3 m
 use mathlib.Core.Path.{_≡_}
@@ -28,8 +31,10 @@ use Rattle.image.specs.Image.{spareOf}
 use Rattle.packet.specs.Received.{received}
 use Rattle.packet.specs.Damage.{dataSize, sentImage, Came}
 use Rattle.slot.specs.Slot.{headOf}
+use Rattle.head.specs.declared.Wish.{Wish}
 use Rattle.table.specs.State.{slotAt, find}
 use Rattle.table.specs.Calls.{followAnswer}
+use Rattle.faults.specs.Faults.{faultOf}
 use Rattle.history.specs.Followed.{Followed, answer, followed}
 use Rattle.history.specs.Followed as one
 use Rattle.history.specs.Sent.{Sent, Arrival, came, damaged, Next, Exactly}
@@ -37,19 +42,19 @@ use Rattle.history.specs.Sent as arriving
 use Rattle.history.specs.Transcript.{Entry, told, called}
 use Rattle.history.specs.Missing.{Judged}
 use Rattle.adapter.specs.Calls.{addressOf}
-use Rattle.demands.specs.Machine.{Call, start, follow, leave, packet, subframeEnd, ask, Machine, Bytes, run}
+use Rattle.demands.specs.Machine.{ask, askedOf, Call, start, follow, leave, packet, subframeEnd, asks, Machine, Bytes, run}
 use Rattle.demands.specs.Demand2.{Follows}
-use Rattle.demands.specs.Seen.{arrivesAt, reasonOf, eventOf, eventsOf, by, seenIn, marksOf, latest}
+use Rattle.demands.specs.Seen.{arrivesAt, eventOf, eventsOf, by, seenIn, marksOf, latest}
 
 -- ---- from follow to leave or start
 
 unfoldable pub Stays : ℕ → Call → Type 0
 Stays a start = ⊥
-Stays a (follow b p l) = Unit {0}
+Stays a (follow w) = Unit {0}
 Stays a (leave b) = b ≡ a → ⊥
 Stays a (packet image) = Unit {0}
 Stays a subframeEnd = Unit {0}
-Stays a (ask b) = Unit {0}
+Stays a (asks q) = Unit {0}
 
 unfoldable pub AllStay : ℕ → List Call → Type 0
 AllStay a [] = Unit {0}
@@ -80,11 +85,11 @@ calls (x ∷ h) = callOf x ∷ calls h
 -- a packet that comes of none sent to the address is lost, or it is read as another one
 unfoldable pub Apart : ℕ → Call → Type 0
 Apart a start = ⊥
-Apart a (follow b p l) = Unit {0}
+Apart a (follow w) = Unit {0}
 Apart a (leave b) = b ≡ a → ⊥
 Apart a (packet image) = Lost image ⊎ (addressOf image ≡ a → ⊥)
 Apart a subframeEnd = Unit {0}
-Apart a (ask b) = Unit {0}
+Apart a (asks q) = Unit {0}
 
 pub record Comes (p : Bool) (a : ℕ) (sent : Sent) (n i c : ℕ) (image : List ℕ) : Type 0 where
   pub next : Next 4 3 n i c
@@ -108,16 +113,16 @@ Arrived p h i = (c : ℕ) → c < 4 → ReadableIn p i c h
 -- the same as arrivals of which the crate history speaks: a readable packet came, any other that arrived is damaged
 unfoldable pub arrivalBy : ℕ → ℕ → ℕ → Arrival
 arrivalBy zero i c = came i c
-arrivalBy (suc n) i c = damaged i c (reasonOf (suc n))
+arrivalBy (suc n) i c = damaged i c (faultOf (suc n))
 
 -- of the other calls a subframe's end alone is one
 unfoldable pub passing : Call → List Arrival
 passing start = []
-passing (follow b p l) = []
+passing (follow w) = []
 passing (leave b) = []
 passing (packet image) = []
 passing subframeEnd = arriving.subframeEnd ∷ []
-passing (ask b) = []
+passing (asks q) = []
 
 unfoldable pub arrivals : Bool → List Happening → List Arrival
 arrivals p [] = []
@@ -128,11 +133,11 @@ arrivals p (call x ∷ h) = passing x ++ arrivals p h
 
 unfoldable pub handsOut : ℕ → Call → ℕ → Bool
 handsOut a start n = false
-handsOut a (follow b p l) n = false
+handsOut a (follow w) n = false
 handsOut a (leave b) n = false
 handsOut a (packet image) n = eqb (addressOf image) a && eqb n 3
 handsOut a subframeEnd n = false
-handsOut a (ask b) n = false
+handsOut a (asks q) n = false
 
 unfoldable pub handedOut : Machine → ℕ → List Call → List ℕ → List (List ℕ)
 handedOut m a [] s = []
@@ -149,7 +154,7 @@ pub record Goes (m : Machine) (a : ℕ) (f : Followed) (t : List Entry) (s : Lis
       → m .answer (packet image) (run m h s) ≡ answer (eventOf (by f) image) (one.run (eventsOf a (by f) h) f)
   -- "fresh exactly while fewer subframes than its limit have ended since it was handed out and no gap has been marked since"
   pub asks : (h : List Call) → AllStay a h
-      → m .answer (ask a) (run m h s) ≡ called (f .head .limit) (told (eventsOf a (by f) h) f t)
+      → m .answer (asks (ask a)) (run m h s) ≡ called (f .head .wish .limit) (told (eventsOf a (by f) h) f t)
   -- "A group is handed out by answer 3 and by nothing else; ask only shows it again."
   pub shows : (h : List Call) → AllStay a h → m .shown a (run m h s) ≡ latest (f .last) (one.handedOut (eventsOf a (by f) h) f)
 
@@ -157,11 +162,11 @@ pub record Goes (m : Machine) (a : ℕ) (f : Followed) (t : List Entry) (s : Lis
 
 unfoldable pub concerns : ℕ → Call → Bool
 concerns a start = true
-concerns a (follow b p l) = eqb b a
+concerns a (follow w) = eqb (w .address) a
 concerns a (leave b) = eqb b a
 concerns a (packet image) = eqb (addressOf image) a
 concerns a subframeEnd = true
-concerns a (ask b) = eqb b a
+concerns a (asks q) = eqb (askedOf q) a
 
 unfoldable pub only : ℕ → List Call → List Call
 only a [] = []
@@ -175,19 +180,23 @@ answersAt m a (x ∷ h) s =
 
 pub record Demand3 (m : Machine) : Type 0 where
   -- where the rows of section 6 accept a follow, it is accepted
-  pub accepted : (s : List ℕ) (a p l : ℕ) → followAnswer s a p l ≡ 0 → m .answer (follow a p l) s ≡ 0
-  pub exactly : (s : List ℕ) (a p l : ℕ) → followAnswer s a p l ≡ 0 → (sent : Sent) → Carries (eqb p 1) sent → (n : ℕ) (h : List Happening)
-      → Channel (eqb p 1) a sent n h → Exactly 4 sent (Arrived (eqb p 1) h) (handedOut m a (calls h) (m .after (follow a p l) s))
+  pub accepted : (s : List ℕ) (w : Wish) → followAnswer s w ≡ 0 → m .answer (follow w) s ≡ 0
+  pub exactly : (s : List ℕ) (w : Wish) → followAnswer s w ≡ 0 → (sent : Sent) → Carries (eqb (w .protection) 1) sent
+      → (n : ℕ) (h : List Happening) → Channel (eqb (w .protection) 1) (w .address) sent n h
+      → Exactly 4 sent (Arrived (eqb (w .protection) 1) h) (handedOut m (w .address) (calls h) (m .after (follow w) s))
   -- whatever the channel does: from a follow on, and from every good state, one made by hand too, at every address that its slots hold
-  pub follows : (s : List ℕ) (a p l : ℕ) → followAnswer s a p l ≡ 0 → Goes m a (followed a p l) [] (m .after (follow a p l) s)
+  pub follows : (s : List ℕ) (w : Wish) → followAnswer s w ≡ 0 → Goes m (w .address) (followed w) [] (m .after (follow w) s)
   pub holds : (s : List ℕ) (a p : ℕ) → Follows s a p → let x = slotAt (find s a) s in Goes m a (seenIn x) (marksOf (headOf x)) s
   -- fresh means that nothing was missed: by what was sent and what came
-  pub missing : (s : List ℕ) (a p l : ℕ) → followAnswer s a p l ≡ 0 → (sent : Sent) → Carries (eqb p 1) sent → (n : ℕ) (h : List Happening)
-      → Channel (eqb p 1) a sent n h → Judged 4 l (arrivals (eqb p 1) h) (m .answer (ask a) (run m (calls h) (m .after (follow a p l) s)))
+  pub missing : (s : List ℕ) (w : Wish) → followAnswer s w ≡ 0 → (sent : Sent) → Carries (eqb (w .protection) 1) sent
+      → (n : ℕ) (h : List Happening) → Channel (eqb (w .protection) 1) (w .address) sent n h
+      → Judged 4 (w .limit) (arrivals (eqb (w .protection) 1) h)
+      (m .answer (asks (ask (w .address))) (run m (calls h) (m .after (follow w) s)))
   -- board text: in each case ask's number; the group exactly where it is 5, otherwise the whole notice
-  pub boards : (a : ℕ) (notice s : List ℕ) → m .board a notice s .number ≡ m .answer (ask a) s
-  pub texts : (a : ℕ) (notice s : List ℕ) → m .board a notice s .text ≡ cond (eqb (m .answer (ask a) s) 5) (m .shown a s) notice
+  pub boards : (a : ℕ) (notice s : List ℕ) → m .board a notice s .number ≡ m .answer (asks (ask a)) s
+  pub texts : (a : ℕ) (notice s : List ℕ) → m .board a notice s .text ≡ cond (eqb (m .answer (asks (ask a)) s) 5) (m .shown a s) notice
   -- leaving out every call that does not concern the address changes no answer and no shown part of it
-  pub undisturbed : (s : List ℕ) (a p l : ℕ) → followAnswer s a p l ≡ 0 → (h : List Call) → AllStay a h
-      → let t = m .after (follow a p l) s in
+  pub undisturbed : (s : List ℕ) (w : Wish) → followAnswer s w ≡ 0 → (h : List Call) → AllStay (w .address) h
+      → let a = w .address in
+      let t = m .after (follow w) s in
       (answersAt m a h t ≡ answersAt m a (only a h) t) × (m .shown a (run m h t) ≡ m .shown a (run m (only a h) t))

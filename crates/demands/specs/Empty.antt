@@ -12,7 +12,7 @@ use Rattle.bare.specs.Bare.{headerRead}
 use Rattle.image.specs.Image.{headerOf}
 use Rattle.table.specs.Calls.{startAfter, followAfter, leaveAfter, endAfter}
 use Rattle.adapter.specs.Calls.{packetAnswer, packetAfter}
-use Rattle.demands.specs.Machine.{Call, start, follow, leave, packet, subframeEnd, ask, Machine, ours, ourAnswer}
+use Rattle.demands.specs.Machine.{Call, start, follow, leave, packet, subframeEnd, asks, Machine, ours, ourAnswer}
 
 -- ours, but for what is answered and left
 abbrev pub but : (Call → List ℕ → ℕ) → (Call → List ℕ → List ℕ) → Machine
@@ -44,19 +44,19 @@ fixed n m =
 -- another answer to a packet, and another state after it; the same of a subframe's end
 unfoldable pub answerTo : (List ℕ → List ℕ → ℕ) → Call → List ℕ → ℕ
 answerTo f start s = ourAnswer start s
-answerTo f (follow a p l) s = ourAnswer (follow a p l) s
+answerTo f (follow w) s = ourAnswer (follow w) s
 answerTo f (leave a) s = ourAnswer (leave a) s
 answerTo f (packet image) s = f s image
 answerTo f subframeEnd s = ourAnswer subframeEnd s
-answerTo f (ask a) s = ourAnswer (ask a) s
+answerTo f (asks q) s = ourAnswer (asks q) s
 
 unfoldable pub leaving : (List ℕ → List ℕ → List ℕ) → (List ℕ → List ℕ) → Call → List ℕ → List ℕ
 leaving f g start s = startAfter s
-leaving f g (follow a p l) s = followAfter s a p l
+leaving f g (follow w) s = followAfter s w
 leaving f g (leave a) s = leaveAfter s a
 leaving f g (packet image) s = f s image
 leaving f g subframeEnd s = g s
-leaving f g (ask a) s = s
+leaving f g (asks q) s = s
 
 abbrev pub deaf : ℕ → Machine
 deaf n = but (answerTo (λ s image. n)) (leaving (λ s image. s) endAfter)

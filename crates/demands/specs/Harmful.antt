@@ -1,4 +1,5 @@
--- Machines that would harm a board, each ours but for one thing. Each is to be refuted by the demands themselves.
+-- Machines that would harm a board, each ours but for one thing. Each is to be refuted by the demands themselves. Another answer to ask is
+-- one to that question alone (`asking`).
 --
 --   torn           while index 1 to 3 is awaited, ask shows 360 zeros and still answers 5
 --   silent         damage is answered 0, drops the open group and marks no gap
@@ -22,47 +23,50 @@ use lib.ListN.{length, getD, set}
 use Rattle.bits.specs.Bits.{blank}
 use Rattle.bits.specs.Rows.{done}
 use Rattle.slot.specs.Slot.{roomSize, headOf, withHead, withUnfinished, withStored, free}
+use Rattle.head.specs.Head.{wishOf}
 use Rattle.head.specs.declared.Head.{Head}
+use Rattle.head.specs.declared.Wish.{Wish}
 use Rattle.table.specs.State.{slots, slotAt, withSlot, find}
 use Rattle.table.specs.Calls.{startAnswer, startAfter, followAnswer, followAfter, leaveAnswer, leaveAfter, endAnswer, endAfter}
 use Rattle.asking.specs.Asking.{asked, askPart}
-use Rattle.history.specs.Transcript.{drops}
+use Rattle.faults.specs.Faults.{numberDrops}
 use Rattle.adapter.specs.Calls.{addressOf, packetAnswer, packetAfter, writeAfter}
-use Rattle.demands.specs.Machine.{Call, start, follow, leave, packet, subframeEnd, ask, Board, Machine, ours, ourAnswer, ourAfter, ourBoard, Bare, run}
+use Rattle.demands.specs.Machine.{Question, ask, Call, start, follow, leave, packet, subframeEnd, asks, Board, Machine, ours, questionAnswer, ourAnswer, ourAfter, ourBoard, Bare, run}
 use Rattle.demands.specs.Rows.{indexOf}
 use Rattle.demands.specs.Empty.{but}
 
 -- ---- one thing by each call, and ours but for one part
 
-unfoldable pub byCall : {A : Type 0} → (List ℕ → A) → (ℕ → ℕ → ℕ → List ℕ → A) → (ℕ → List ℕ → A) → (List ℕ → List ℕ → A) → (List ℕ → A)
-    → (ℕ → List ℕ → A) → Call → List ℕ → A
+unfoldable pub byCall : {A : Type 0} → (List ℕ → A) → (Wish → List ℕ → A) → (ℕ → List ℕ → A) → (List ℕ → List ℕ → A) → (List ℕ → A)
+    → (Question → List ℕ → A) → Call → List ℕ → A
 byCall st fo le pa en qu start s = st s
-byCall st fo le pa en qu (follow a p l) s = fo a p l s
+byCall st fo le pa en qu (follow w) s = fo w s
 byCall st fo le pa en qu (leave a) s = le a s
 byCall st fo le pa en qu (packet image) s = pa image s
 byCall st fo le pa en qu subframeEnd s = en s
-byCall st fo le pa en qu (ask a) s = qu a s
+byCall st fo le pa en qu (asks q) s = qu q s
 
--- another answer to follow, packet, subframe end and ask
-abbrev answering : (ℕ → ℕ → ℕ → List ℕ → ℕ) → (List ℕ → List ℕ → ℕ) → (List ℕ → ℕ) → (ℕ → List ℕ → ℕ) → Call → List ℕ → ℕ
+-- another answer to follow, packet, subframe end and what only reads
+abbrev answering : (Wish → List ℕ → ℕ) → (List ℕ → List ℕ → ℕ) → (List ℕ → ℕ) → (Question → List ℕ → ℕ) → Call → List ℕ → ℕ
 answering fo pa en qu = byCall startAnswer fo (λ a s. leaveAnswer s a) pa en qu
 
-abbrev follows : ℕ → ℕ → ℕ → List ℕ → ℕ
-follows a p l s = followAnswer s a p l
+abbrev follows : Wish → List ℕ → ℕ
+follows w s = followAnswer s w
 
 abbrev takes : List ℕ → List ℕ → ℕ
 takes image s = packetAnswer s image
 
-abbrev asks : ℕ → List ℕ → ℕ
-asks a s = asked s a .number
+-- another answer to ask
+unfoldable pub asking : (ℕ → List ℕ → ℕ) → Question → List ℕ → ℕ
+asking f (ask a) s = f a s
 
 -- another state after start, follow, leave, packet and subframe end
-abbrev leaving : (List ℕ → List ℕ) → (ℕ → ℕ → ℕ → List ℕ → List ℕ) → (ℕ → List ℕ → List ℕ) → (List ℕ → List ℕ → List ℕ) → (List ℕ → List ℕ)
+abbrev leaving : (List ℕ → List ℕ) → (Wish → List ℕ → List ℕ) → (ℕ → List ℕ → List ℕ) → (List ℕ → List ℕ → List ℕ) → (List ℕ → List ℕ)
     → Call → List ℕ → List ℕ
-leaving st fo le pa en = byCall st fo le pa en (λ a s. s)
+leaving st fo le pa en = byCall st fo le pa en (λ q s. s)
 
-abbrev followed : ℕ → ℕ → ℕ → List ℕ → List ℕ
-followed a p l s = followAfter s a p l
+abbrev followed : Wish → List ℕ → List ℕ
+followed w s = followAfter s w
 
 abbrev left : ℕ → List ℕ → List ℕ
 left a s = leaveAfter s a
@@ -112,10 +116,8 @@ boasting = showing (λ a s. askPart s a) (λ a notice s. record { number = 5; te
 -- a dropped group without a gap
 abbrev quietHead : Head → Head
 quietHead h = record {
-  address = h .address;
-  limit = h .limit;
+  wish = h .wish;
   age = h .age;
-  protection = h .protection;
   awaited = 0;
   group = h .group;
   gap = h .gap;
@@ -124,25 +126,25 @@ quietHead h = record {
 abbrev quietly : List ℕ → List ℕ → List ℕ
 quietly image s =
     let k = find s (addressOf image) in
-    cond (drops (packetAnswer s image))
+    cond (numberDrops (packetAnswer s image))
     (withSlot k (withHead (quietHead (headOf (slotAt k s))) (withUnfinished (blank roomSize) (slotAt k s))) s) (packetAfter s image)
 
 abbrev pub silent : Machine
 silent =
-    but (answering follows (λ image s. cond (drops (packetAnswer s image)) 0 (packetAnswer s image)) endAnswer asks)
+    but (answering follows (λ image s. cond (numberDrops (packetAnswer s image)) 0 (packetAnswer s image)) endAnswer questionAnswer)
     (leaving startAfter followed left quietly endAfter)
 
 abbrev pub lenient : Machine
-lenient = but (answering (λ a p l s. cond (eqb a 0) 0 (followAnswer s a p l)) takes endAnswer asks) ourAfter
+lenient = but (answering (λ w s. cond (eqb (w .address) 0) 0 (followAnswer s w)) takes endAnswer questionAnswer) ourAfter
 
 abbrev pub long : Machine
-long = but (answering follows (λ image s. cond (eqb (length image) 95) 0 (packetAnswer s image)) endAnswer asks) ourAfter
+long = but (answering follows (λ image s. cond (eqb (length image) 95) 0 (packetAnswer s image)) endAnswer questionAnswer) ourAfter
 
 abbrev pub misnumbered : Machine
-misnumbered = but (answering follows takes (λ s. 3) asks) ourAfter
+misnumbered = but (answering follows takes (λ s. 3) questionAnswer) ourAfter
 
 abbrev pub knowing : Machine
-knowing = but (answering follows takes endAnswer (λ a s. cond (eqb (asked s a .number) 27) 5 (asked s a .number))) ourAfter
+knowing = but (answering follows takes endAnswer (asking (λ a s. cond (eqb (asked s a .number) 27) 5 (asked s a .number)))) ourAfter
 
 -- ---- what is left
 
@@ -158,16 +160,18 @@ halfStarted = but ourAnswer (leaving (roomless slots 0) followed left taken endA
 
 abbrev pub crowd : ℕ → ℕ → List Call
 crowd p l =
-    follow 501 p l ∷ follow 502 p l ∷ follow 503 p l ∷ follow 504 p l ∷ follow 505 p l ∷ follow 506 p l ∷ follow 507 p l ∷ follow 508 p l
-    ∷ follow 509 p l ∷ follow 510 p l ∷ follow 511 p l ∷ follow 512 p l ∷ follow 513 p l ∷ follow 514 p l ∷ follow 515 p l ∷ follow 516 p l
+    follow (wishOf 501 p l) ∷ follow (wishOf 502 p l) ∷ follow (wishOf 503 p l) ∷ follow (wishOf 504 p l)
+    ∷ follow (wishOf 505 p l) ∷ follow (wishOf 506 p l) ∷ follow (wishOf 507 p l) ∷ follow (wishOf 508 p l)
+    ∷ follow (wishOf 509 p l) ∷ follow (wishOf 510 p l) ∷ follow (wishOf 511 p l) ∷ follow (wishOf 512 p l)
+    ∷ follow (wishOf 513 p l) ∷ follow (wishOf 514 p l) ∷ follow (wishOf 515 p l) ∷ follow (wishOf 516 p l)
     ∷ []
 
 abbrev pub greedy : Machine
 greedy =
-    but ourAnswer (leaving startAfter (λ a p l s. done (followAnswer s a p l) (run ours (crowd p l) (followAfter s a p l)) s) left taken endAfter)
+    but ourAnswer (leaving startAfter (λ w s. done (followAnswer s w) (run ours (crowd (w .protection) (w .limit)) (followAfter s w)) s) left taken endAfter)
 
 abbrev pub leaking : Machine
-leaking = but ourAnswer (leaving startAfter followed (λ a s. done (leaveAnswer s a) (followAfter (leaveAfter s a) 500 0 1) s) taken endAfter)
+leaking = but ourAnswer (leaving startAfter followed (λ a s. done (leaveAnswer s a) (followAfter (leaveAfter s a) (wishOf 500 0 1)) s) taken endAfter)
 
 abbrev pub brittle : Machine
 brittle = but ourAnswer (leaving startAfter followed left taken (λ s. cond (free s) (1 ∷ blank 11775) (endAfter s)))
@@ -179,12 +183,12 @@ abbrev pub dirty : List ℕ → Bool
 dirty x = not (eqb (getD x 0 0) 0) && eqb (headOf x .awaited) 0
 
 abbrev pub trusting : Machine
-trusting = but (answering follows takes endAnswer (λ a s. cond (dirty (slotOf s a)) 5 (asked s a .number))) ourAfter
+trusting = but (answering follows takes endAnswer (asking (λ a s. cond (dirty (slotOf s a)) 5 (asked s a .number)))) ourAfter
 
 abbrev pub hasty : Machine
 hasty =
     but
-    (answering follows (λ image s. cond (dirty (slotOf s (addressOf image)) && eqb (indexOf image) 1) 3 (packetAnswer s image)) endAnswer asks)
+    (answering follows (λ image s. cond (dirty (slotOf s (addressOf image)) && eqb (indexOf image) 1) 3 (packetAnswer s image)) endAnswer questionAnswer)
     ourAfter
 
 -- ---- the bare calls, and the writer

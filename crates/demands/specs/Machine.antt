@@ -1,12 +1,15 @@
 -- A machine as its user sees it: for each call an answer, and the bytes that it leaves of what was lent to it. Nothing here
 -- says how a machine keeps what it knows.
 --
---   Call            a call on a lent state
+--   Question        what a call that only reads asks of a lent state; askedOf: the address that it is about
+--   Call            a call on a lent state; those that only read are one case, `asks q`, in all that is said of changes, and what they
+--                   answer goes by the question
 --   Bare            a bare call, numbers in and numbers out
 --   bareNumber, bareValues     what a bare call gives by the definitions of the standard
 --   Board           what board text gives: number, text, and what was lent, afterwards
 --   Machine         answer and state after each call; the part that ask shows of an address; board text; the group writer; the bare
 --                   calls
+--   questionAnswer  what a call that only reads answers, by the same definitions as ours
 --   ours            the definitions that the contracts of the crates table, asking and adapter cite
 --   Bytes s         a list of bytes
 --   run m h s       the state after a list of calls, in order
@@ -14,19 +17,27 @@ use mathlib.Core.List.{List, [], _∷_}
 use Prim.Native.Nat.{ℕ, _<_}
 use lib.ListN.{length, getD}
 use Rattle.bare.specs.Bare.{headerRead, headerWritten, wordRead, wordWritten, typeRead, typeWritten}
+use Rattle.head.specs.declared.Wish.{Wish}
 use Rattle.table.specs.Calls.{startAnswer, startAfter, followAnswer, followAfter, leaveAnswer, leaveAfter, endAnswer, endAfter}
 use Rattle.asking.specs.Asking.{asked, askPart, boardText}
 use Rattle.adapter.specs.Calls.{packetAnswer, packetAfter, writeAnswer, writeAfter}
 
+-- by the address
+pub data Question : Type 0 where
+  ask : ℕ → Question
+
+unfoldable pub askedOf : Question → ℕ
+askedOf (ask a) = a
+
 pub data Call : Type 0 where
   start : Call
-  -- address, protection, limit
-  follow : ℕ → ℕ → ℕ → Call
+  follow : Wish → Call
   leave : ℕ → Call
   -- an image
   packet : List ℕ → Call
   subframeEnd : Call
-  ask : ℕ → Call
+  -- any call that only reads
+  asks : Question → Call
 
 -- the single readers and writers of sections 1 and 2
 pub data Bare : Type 0 where
@@ -58,21 +69,24 @@ pub record Machine : Type 0 where
   pub bare : Bare → ℕ
   pub values : Bare → List ℕ
 
+unfoldable pub questionAnswer : Question → List ℕ → ℕ
+questionAnswer (ask a) s = asked s a .number
+
 unfoldable pub ourAnswer : Call → List ℕ → ℕ
 ourAnswer start s = startAnswer s
-ourAnswer (follow a p l) s = followAnswer s a p l
+ourAnswer (follow w) s = followAnswer s w
 ourAnswer (leave a) s = leaveAnswer s a
 ourAnswer (packet image) s = packetAnswer s image
 ourAnswer subframeEnd s = endAnswer s
-ourAnswer (ask a) s = asked s a .number
+ourAnswer (asks q) s = questionAnswer q s
 
 unfoldable pub ourAfter : Call → List ℕ → List ℕ
 ourAfter start s = startAfter s
-ourAfter (follow a p l) s = followAfter s a p l
+ourAfter (follow w) s = followAfter s w
 ourAfter (leave a) s = leaveAfter s a
 ourAfter (packet image) s = packetAfter s image
 ourAfter subframeEnd s = endAfter s
-ourAfter (ask a) s = s
+ourAfter (asks q) s = s
 
 -- the bare calls by the standard's definitions: the number, and beside it
 unfoldable pub bareNumber : Bare → ℕ

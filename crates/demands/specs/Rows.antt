@@ -2,10 +2,13 @@
 -- row in its order holds, and with the first such; otherwise it is accepted": then its answer is one of the call's own numbers.
 --
 -- The numbers and the order stand here once more, beside those that the contracts cite, so that no row can change with the code unseen.
+-- So it is with follow's: its wish has rows of its own in the crate head, and they are not cited here. That both are the same is proved.
 --
 --   holds s a             a slot of the state has the address; of 0: a slot is free
+--   wishRows w taken full     follow's rows behind those of the state; addressRows: those of a call that names an address
 --   rowsOf x s            a call on a state
 --   ownNumbers x          what it answers where none of its rows holds
+--   questionRows, questionNumbers     the same of a call that only reads, by its question
 --   writeRows, bareRows   the group writer, and the single readers and writers
 --   Answers rows own n    the number n is the first row's that holds, or where none does one of the call's own
 use mathlib.Core.Path.{_≡_}
@@ -22,10 +25,11 @@ use Rattle.packet.specs.Received.{typeOf, usefulOf, unreadable}
 use Rattle.slot.specs.Slot.{headOf}
 use Rattle.head.specs.Head.{within}
 use Rattle.head.specs.declared.Head.{Head}
+use Rattle.head.specs.declared.Wish.{Wish}
 use Rattle.table.specs.State.{slotAt, find, good}
 use Rattle.history.specs.Sent.{In}
 use Rattle.adapter.specs.Calls.{addressOf, followed}
-use Rattle.demands.specs.Machine.{Call, start, follow, leave, packet, subframeEnd, ask, Bare, readHeader, writeHeader, readWord, writeWord, readType, writeType}
+use Rattle.demands.specs.Machine.{Question, ask, Call, start, follow, leave, packet, subframeEnd, asks, Bare, readHeader, writeHeader, readWord, writeWord, readType, writeType}
 
 -- ---- the calls on a state
 
@@ -38,9 +42,9 @@ stateRows s rest = row (not (eqb (length s) 11776)) 20 ∷ row (not (good s)) 34
 
 -- 22 "address not 1 to 1,022", 23 "protection not 0 or 1", 24 "limit not 1 to 1,500", 25 "address already followed", 26 "no free
 -- slot", the last two by what is followed and what is free
-abbrev pub wishRows : ℕ → ℕ → ℕ → Bool → Bool → List Row
-wishRows a p l taken full =
-    row (not (within 1 1022 a)) 22 ∷ row (ltb 1 p) 23 ∷ row (not (within 1 1500 l)) 24 ∷ row taken 25 ∷ row full 26 ∷ []
+abbrev pub wishRows : Wish → Bool → Bool → List Row
+wishRows w taken full =
+    row (not (within 1 1022 (w .address))) 22 ∷ row (ltb 1 (w .protection)) 23 ∷ row (not (within 1 1500 (w .limit))) 24 ∷ row taken 25 ∷ row full 26 ∷ []
 
 -- 22, 27 "address not followed"
 abbrev pub addressRows : ℕ → Bool → List Row
@@ -56,13 +60,16 @@ slotRows h image =
     row (leb 256 (typeOf image)) 28
     ∷ row (eqb (typeOf image) 0x3F || eqb (typeOf image) 0xC7) 29
     ∷ row (eqb (typeOf image) 0xF8) 30
-    ∷ row (unreadable (eqb (h .protection) 1) (usefulOf image)) 31
+    ∷ row (unreadable (eqb (h .wish .protection) 1) (usefulOf image)) 31
     ∷ row (not (eqb (indexOf image) 0) && not (eqb (indexOf image) (h .awaited))) 32
     ∷ []
 
+unfoldable pub questionRows : Question → List ℕ → List Row
+questionRows (ask a) s = stateRows s (addressRows a (not (holds s a)))
+
 unfoldable pub rowsOf : Call → List ℕ → List Row
 rowsOf start s = row (not (eqb (length s) 11776)) 20 ∷ []
-rowsOf (follow a p l) s = stateRows s (wishRows a p l (holds s a) (not (holds s 0)))
+rowsOf (follow w) s = stateRows s (wishRows w (holds s (w .address)) (not (holds s 0)))
 rowsOf (leave a) s = stateRows s (addressRows a (not (holds s a)))
 rowsOf (packet image) s =
     row (not (eqb (length image) 94)) 20
@@ -71,16 +78,20 @@ rowsOf (packet image) s =
     ∷ row (not (followed s (addressOf image))) 27
     ∷ slotRows (headOf (slotAt (find s (addressOf image)) s)) image)
 rowsOf subframeEnd s = stateRows s []
-rowsOf (ask a) s = stateRows s (addressRows a (not (holds s a)))
+rowsOf (asks q) s = questionRows q s
 
--- 0 done; 1 started, 2 held, 3 whole; 4 nothing yet, 5 fresh, 6 doubtful, 7 stale
+-- 4 nothing yet, 5 fresh, 6 doubtful, 7 stale
+unfoldable pub questionNumbers : Question → List ℕ
+questionNumbers (ask a) = 4 ∷ 5 ∷ 6 ∷ 7 ∷ []
+
+-- 0 done; 1 started, 2 held, 3 whole
 unfoldable pub ownNumbers : Call → List ℕ
 ownNumbers start = 0 ∷ []
-ownNumbers (follow a p l) = 0 ∷ []
+ownNumbers (follow w) = 0 ∷ []
 ownNumbers (leave a) = 0 ∷ []
 ownNumbers (packet image) = 1 ∷ 2 ∷ 3 ∷ []
 ownNumbers subframeEnd = 0 ∷ []
-ownNumbers (ask a) = 4 ∷ 5 ∷ 6 ∷ 7 ∷ []
+ownNumbers (asks q) = questionNumbers q
 
 -- ---- the group writer, by the lengths of message and output
 

@@ -1,5 +1,5 @@
 -- What calls are to one followed address: which images reach it and what they are received as, and what its slot's own marks say. Nothing
--- here looks at a machine's answers.
+-- here looks at a machine's answers. A call that only reads is no event.
 --
 --   arrivesAt a image     the image has 94 bytes, its spare bit is 0, and it is read as the address
 --   eventOf p image       what it is there: a readable data packet, or refused with 28 to 31
@@ -21,35 +21,33 @@ use Rattle.head.specs.Move.{perOf, needsOf}
 use Rattle.head.specs.declared.Head.{Head}
 use Rattle.asking.specs.Asking.{groupLength}
 use Rattle.group.specs.Group.{blockOf}
-use Rattle.history.specs.Followed.{Followed, Reason, typeUnreadable, typeReserved, typeScrambled, wordUnreadable, Event, ended}
+use Rattle.faults.specs.Faults.{faultOf}
+use Rattle.history.specs.Followed.{Followed, Event, ended}
 use Rattle.history.specs.Followed as one
 use Rattle.history.specs.Transcript.{Entry, answered, subframe}
 use Rattle.adapter.specs.Calls.{addressOf}
-use Rattle.demands.specs.Machine.{Call, start, follow, leave, packet, subframeEnd, ask}
+use Rattle.demands.specs.Machine.{Call, start, follow, leave, packet, subframeEnd, asks}
 
 -- ---- what a call is at an address
 
 unfoldable pub arrivesAt : ℕ → List ℕ → Bool
 arrivesAt a image = eqb (length image) 94 && (not (eqb (spareOf image) 1) && eqb (addressOf image) a)
 
-unfoldable pub reasonOf : ℕ → Reason
-reasonOf n = cond (eqb n 28) typeUnreadable (cond (eqb n 29) typeReserved (cond (eqb n 30) typeScrambled wordUnreadable))
-
 -- by the number, index and bytes of what was received
 unfoldable pub eventBy : ℕ → ℕ → List ℕ → Event
 eventBy zero c b = one.packet c b
-eventBy (suc n) c b = one.refused (reasonOf (suc n))
+eventBy (suc n) c b = one.refused (faultOf (suc n))
 
 unfoldable pub eventOf : Bool → List ℕ → Event
 eventOf p image = eventBy (received p image .number) (received p image .index) (take (dataSize p) (received p image .bytes))
 
 unfoldable pub eventsAt : ℕ → Bool → Call → List Event
 eventsAt a p start = []
-eventsAt a p (follow b q l) = []
+eventsAt a p (follow w) = []
 eventsAt a p (leave b) = []
 eventsAt a p (packet image) = cond (arrivesAt a image) (eventOf p image ∷ []) []
 eventsAt a p subframeEnd = ended ∷ []
-eventsAt a p (ask b) = []
+eventsAt a p (asks q) = []
 
 unfoldable pub eventsOf : ℕ → Bool → List Call → List Event
 eventsOf a p [] = []
@@ -57,7 +55,7 @@ eventsOf a p (x ∷ h) = eventsAt a p x ++ eventsOf a p h
 
 -- the protection that an address is followed with
 abbrev pub by : Followed → Bool
-by f = eqb (f .head .protection) 1
+by f = eqb (f .head .wish .protection) 1
 
 -- ---- what a slot's bytes say
 

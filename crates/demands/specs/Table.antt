@@ -1,8 +1,10 @@
 -- The table of followed addresses is the history's: what follow and leave made of it and nothing else (document 01, sections 3 and 6).
+-- The calls that only read are one case that changes nothing.
 --
 --   Good s                  a good state of the right length
 --   addressAfter x s k      the address of slot k after a call: "Follow takes the lowest free slot", "Leave sets the slot to 0"
 --   member a l              an address is one of a list
+--   taken w l               a follow of which no row holds, written out once more, where the addresses of l are followed
 --   followNow x l           the addresses that are followed after a call, where those of l were before it
 --   followedAfter h l       and after a list of calls; from a start on l is []
 --   ByHistory m l t         what the calls answer on a state t in which the addresses of l are followed
@@ -16,9 +18,10 @@ use lib.ListN.{length}
 use Rattle.bits.specs.Rows.{refusal}
 use Rattle.image.specs.Image.{spareOf}
 use Rattle.head.specs.Head.{within}
+use Rattle.head.specs.declared.Wish.{Wish}
 use Rattle.table.specs.State.{stateSize, slots, addressAt, find, good}
 use Rattle.adapter.specs.Calls.{addressOf}
-use Rattle.demands.specs.Machine.{Call, start, follow, leave, packet, subframeEnd, ask, Machine, run}
+use Rattle.demands.specs.Machine.{ask, Call, start, follow, leave, packet, subframeEnd, asks, Machine, run}
 use Rattle.demands.specs.Rows.{wishRows, addressRows, rowsOf, Answers}
 
 pub record Good (s : List ℕ) : Type 0 where
@@ -32,11 +35,11 @@ accepted x s = eqb (refusal (rowsOf x s)) 0
 
 unfoldable pub addressAfter : Call → List ℕ → ℕ → ℕ
 addressAfter start s k = 0
-addressAfter (follow a p l) s k = cond (accepted (follow a p l) s && eqb k (find s 0)) a (addressAt s k)
+addressAfter (follow w) s k = cond (accepted (follow w) s && eqb k (find s 0)) (w .address) (addressAt s k)
 addressAfter (leave a) s k = cond (accepted (leave a) s && eqb k (find s a)) 0 (addressAt s k)
 addressAfter (packet image) s k = addressAt s k
 addressAfter subframeEnd s k = addressAt s k
-addressAfter (ask a) s k = addressAt s k
+addressAfter (asks q) s k = addressAt s k
 
 -- ---- from a start on, by the calls alone
 
@@ -48,17 +51,18 @@ unfoldable pub without : ℕ → List ℕ → List ℕ
 without a [] = []
 without a (b ∷ l) = cond (eqb a b) l (b ∷ without a l)
 
--- a follow that is accepted
-unfoldable pub taken : ℕ → ℕ → ℕ → List ℕ → Bool
-taken a p limit l = within 1 1022 a && (leb p 1 && (within 1 1500 limit && (not (member a l) && ltb (length l) 16)))
+-- a follow that is accepted: address 1 to 1,022, protection 0 or 1, limit 1 to 1,500, not followed yet, and fewer than sixteen are
+unfoldable pub taken : Wish → List ℕ → Bool
+taken w l =
+    within 1 1022 (w .address) && (leb (w .protection) 1 && (within 1 1500 (w .limit) && (not (member (w .address) l) && ltb (length l) 16)))
 
 unfoldable pub followNow : Call → List ℕ → List ℕ
 followNow start l = []
-followNow (follow a p limit) l = cond (taken a p limit l) (a ∷ l) l
+followNow (follow w) l = cond (taken w l) (w .address ∷ l) l
 followNow (leave a) l = without a l
 followNow (packet image) l = l
 followNow subframeEnd l = l
-followNow (ask a) l = l
+followNow (asks q) l = l
 
 unfoldable pub followedAfter : List Call → List ℕ → List ℕ
 followedAfter [] l = l
@@ -66,10 +70,10 @@ followedAfter (x ∷ h) l = followedAfter h (followNow x l)
 
 pub record ByHistory (m : Machine) (l t : List ℕ) : Type 0 where
   -- with good wishes 25 exactly if it is followed, otherwise 26 exactly if sixteen are, otherwise 0
-  pub follows : (a p limit : ℕ) → m .answer (follow a p limit) t ≡ refusal (wishRows a p limit (member a l) (eqb (length l) 16))
+  pub follows : (w : Wish) → m .answer (follow w) t ≡ refusal (wishRows w (member (w .address) l) (eqb (length l) 16))
   -- from 1 to 1,022: 27 exactly if it is not followed
   pub leaves : (a : ℕ) → m .answer (leave a) t ≡ refusal (addressRows a (not (member a l)))
-  pub asks : (a : ℕ) → Answers (addressRows a (not (member a l))) (4 ∷ 5 ∷ 6 ∷ 7 ∷ []) (m .answer (ask a) t)
+  pub asks : (a : ℕ) → Answers (addressRows a (not (member a l))) (4 ∷ 5 ∷ 6 ∷ 7 ∷ []) (m .answer (asks (ask a)) t)
   pub packets : (image : List ℕ) → length image ≡ 94 → spareOf image ≡ 0 → member (addressOf image) l ≡ false → m .answer (packet image) t ≡ 27
   pub ends : m .answer subframeEnd t ≡ 0
   pub never : (x : Call) → m .answer x t ≡ 34 → ⊥

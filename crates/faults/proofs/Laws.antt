@@ -3,6 +3,7 @@
 --   numbers            their numbers in order
 --   all-drop           each of them drops: a line here changes where a later request makes one that does not
 --   number-drops       so the number of a fault is one that drops; numbered-drops, unreadable-drops: and any number of the list
+--   unreadable-not-zero   no number of the list is 0
 --   fault-number       the fault of a number has the number, and drops exactly if the number does
 --   no-whole, no-part  the number of a fault is not 3, nor 1 or 2
 --   others-stay        0, the answers to a packet that is taken, and the refusals before its address is found do not
@@ -14,8 +15,9 @@ use mathlib.Core.Bool.{Bool, true, false, _&&_, _||_}
 use mathlib.Core.List.{List, [], _∷_, map}
 use mathlib.Core.Logic.{_⊎_, inl, inr}
 use Prim.Native.Nat.{ℕ}
+use native.Mathlib.Omega.{arith}
 use lib.Dec.{eqb}
-use Rattle.faults.specs.Faults.{Fault, typeUnreadable, typeControl, typeReserved, typeScrambled, wordUnreadable, outOfStep, number, drops, unreadables, faults, Numbered, faultOf, dropping}
+use Rattle.faults.specs.Faults.{Fault, typeUnreadable, typeControl, typeReserved, typeScrambled, wordUnreadable, outOfStep, number, drops, unreadables, faults, Numbered, faultOf, numberDrops}
 
 pub numbers : map number faults ≡ (28 ∷ 29 ∷ 29 ∷ 30 ∷ 31 ∷ 32 ∷ [])
 numbers = refl
@@ -28,8 +30,8 @@ all-drop typeScrambled = refl
 all-drop wordUnreadable = refl
 all-drop outOfStep = refl
 
-pub number-drops : (f : Fault) → dropping (number f) ≡ true
-unfolding dropping
+pub number-drops : (f : Fault) → numberDrops (number f) ≡ true
+unfolding numberDrops
 number-drops typeUnreadable = refl
 number-drops typeControl = refl
 number-drops typeReserved = refl
@@ -37,31 +39,39 @@ number-drops typeScrambled = refl
 number-drops wordUnreadable = refl
 number-drops outOfStep = refl
 
-pub numbered-drops : (n : ℕ) → Numbered faults n → dropping n ≡ true
-unfolding dropping
-numbered-drops n (inl e) = ap dropping e
-numbered-drops n (inr (inl e)) = ap dropping e
-numbered-drops n (inr (inr (inl e))) = ap dropping e
-numbered-drops n (inr (inr (inr (inl e)))) = ap dropping e
-numbered-drops n (inr (inr (inr (inr (inl e))))) = ap dropping e
-numbered-drops n (inr (inr (inr (inr (inr (inl e)))))) = ap dropping e
+pub numbered-drops : (n : ℕ) → Numbered faults n → numberDrops n ≡ true
+unfolding numberDrops
+numbered-drops n (inl e) = ap numberDrops e
+numbered-drops n (inr (inl e)) = ap numberDrops e
+numbered-drops n (inr (inr (inl e))) = ap numberDrops e
+numbered-drops n (inr (inr (inr (inl e)))) = ap numberDrops e
+numbered-drops n (inr (inr (inr (inr (inl e))))) = ap numberDrops e
+numbered-drops n (inr (inr (inr (inr (inr (inl e)))))) = ap numberDrops e
 numbered-drops n (inr (inr (inr (inr (inr (inr x)))))) = absurd x
 
-pub unreadable-drops : (n : ℕ) → Numbered unreadables n → dropping n ≡ true
-unfolding dropping
-unreadable-drops n (inl e) = ap dropping e
-unreadable-drops n (inr (inl e)) = ap dropping e
-unreadable-drops n (inr (inr (inl e))) = ap dropping e
-unreadable-drops n (inr (inr (inr (inl e)))) = ap dropping e
-unreadable-drops n (inr (inr (inr (inr (inl e))))) = ap dropping e
+pub unreadable-drops : (n : ℕ) → Numbered unreadables n → numberDrops n ≡ true
+unfolding numberDrops
+unreadable-drops n (inl e) = ap numberDrops e
+unreadable-drops n (inr (inl e)) = ap numberDrops e
+unreadable-drops n (inr (inr (inl e))) = ap numberDrops e
+unreadable-drops n (inr (inr (inr (inl e)))) = ap numberDrops e
+unreadable-drops n (inr (inr (inr (inr (inl e))))) = ap numberDrops e
 unreadable-drops n (inr (inr (inr (inr (inr x))))) = absurd x
+
+pub unreadable-not-zero : (n : ℕ) → Numbered unreadables n → n ≡ 0 → ⊥
+unreadable-not-zero n (inl e) z = omega (arith, e, z)
+unreadable-not-zero n (inr (inl e)) z = omega (arith, e, z)
+unreadable-not-zero n (inr (inr (inl e))) z = omega (arith, e, z)
+unreadable-not-zero n (inr (inr (inr (inl e)))) z = omega (arith, e, z)
+unreadable-not-zero n (inr (inr (inr (inr (inl e))))) z = omega (arith, e, z)
+unreadable-not-zero n (inr (inr (inr (inr (inr x))))) z = x
 
 -- the fault of a number has the number, and drops exactly if the number does
 abbrev Same : ℕ → Type 0
-Same n = (number (faultOf n) ≡ n) × (dropping n ≡ drops (faultOf n))
+Same n = (number (faultOf n) ≡ n) × (numberDrops n ≡ drops (faultOf n))
 
-pub fault-number : (n : ℕ) → Numbered unreadables n → (number (faultOf n) ≡ n) × (dropping n ≡ drops (faultOf n))
-unfolding faultOf dropping
+pub fault-number : (n : ℕ) → Numbered unreadables n → (number (faultOf n) ≡ n) × (numberDrops n ≡ drops (faultOf n))
+unfolding faultOf numberDrops
 fault-number n (inl e) = subst (λ (k : ℕ). Same k) (sym e) (refl, refl)
 fault-number n (inr (inl e)) = subst (λ (k : ℕ). Same k) (sym e) (refl, refl)
 fault-number n (inr (inr (inl e))) = subst (λ (k : ℕ). Same k) (sym e) (refl, refl)
@@ -87,8 +97,8 @@ no-part wordUnreadable = refl
 no-part outOfStep = refl
 
 -- 0, the answers to a packet that is taken, and the refusals before its address is found
-pub others-stay : map dropping (0 ∷ 1 ∷ 2 ∷ 3 ∷ 20 ∷ 21 ∷ 27 ∷ 34 ∷ []) ≡ (false ∷ false ∷ false ∷ false ∷ false ∷ false ∷ false ∷ false ∷ [])
-unfolding dropping
+pub others-stay : map numberDrops (0 ∷ 1 ∷ 2 ∷ 3 ∷ 20 ∷ 21 ∷ 27 ∷ 34 ∷ []) ≡ (false ∷ false ∷ false ∷ false ∷ false ∷ false ∷ false ∷ false ∷ [])
+unfolding numberDrops
 others-stay = refl
 
 pub by-tests : (a b c d e f : Bool)

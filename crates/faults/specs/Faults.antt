@@ -9,7 +9,7 @@
 --   rowsBy p fs      the rows of some faults, where p says which are there
 --   Numbered fs n    n is the number of one of them
 --   faultOf n        the first of them with a number
---   dropping n       n is the number of a fault that drops
+--   numberDrops n    n is the number of a fault that drops
 use mathlib.Core.Path.{_≡_}
 use mathlib.Core.Bool.{Bool, true, false, cond, _&&_, _||_}
 use mathlib.Core.List.{List, [], _∷_, _++_}
@@ -68,5 +68,5 @@ abbrev dropsIn : List Fault → ℕ → Bool
 dropsIn [] n = false
 dropsIn (f ∷ fs) n = (eqb n (number f) && drops f) || dropsIn fs n
 
-unfoldable pub dropping : ℕ → Bool
-dropping n = dropsIn faults n
+unfoldable pub numberDrops : ℕ → Bool
+numberDrops n = dropsIn faults n

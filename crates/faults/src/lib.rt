@@ -1,7 +1,7 @@
 // What may be wrong with a packet whose address is found: the numbers of section 6's rows 28 to 32, written once, and which of
 // them drop the unfinished group.
 ghost use mathlib.Core.Path.{_≡_};
-ghost use Rattle.faults.specs.Faults.{dropping};
+ghost use Rattle.faults.specs.Faults.{numberDrops};
 
 pub struct Faults {}
 
@@ -22,7 +22,7 @@ impl Faults {
 
     // Whether a refusal with this number drops the unfinished group.
     pub fn drop(number: u8) -> bool
-        ensures { λ r. ⌜ r ≡ dropping number ⌝ }
+        ensures { λ r. ⌜ r ≡ numberDrops number ⌝ }
     {
         let kind = (number == Self::TYPE_UNREADABLE)
             | ((number == Self::TYPE_CONTROL)

@@ -34,6 +34,7 @@ use Rattle.head.specs.declared.Head.{Head}
 use Rattle.runs.proofs.Parts.{put-part, put-length}
 use Rattle.slot.proofs.Laws.{unfinished-room, unfinished-length}
 use Rattle.packet.specs.declared.Reading.{Reading}
+use Rattle.faults.specs.Faults.{numberDrops}
 use Rattle.group.specs.Group.{blockOf, placed, begunRoom, slotJoined, roomsKept, roomsMoved, slotMoved, slotDropped, refusedAfter, takenNumber, takenAfter}
 
 -- in front of anything
@@ -188,3 +189,9 @@ module _ (r : Reading) (h : Head) (s : List ℕ) (e : h ≡ headOf s) where
     et ∙ ap₂ (λ (x : Head) (y : List ℕ). slotMoved (rowAt x (r .index)) (placeAt x (r .index)) y s) e
         (eb ∙ ap (λ (x : Head). take (blockOf x) (r .bytes)) e) ∙ sym (done-passed (r .number) _ (refusedAfter (r .number) s) z),
   )
+
+-- a refusal that drops
+pub taken-dropped : (r : Reading) (s : List ℕ) → (r .number ≡ 0 → ⊥) → numberDrops (r .number) ≡ true → takenAfter r s ≡ slotDropped s
+unfolding takenAfter refusedAfter
+taken-dropped r s ne e =
+    done-refused (r .number) _ (refusedAfter (r .number) s) ne ∙ ap (λ (b : Bool). cond b (slotDropped s) s) e

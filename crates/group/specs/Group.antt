@@ -23,7 +23,7 @@ use Rattle.slot.specs.Slot.{roomSize, headOf, withHead, unfinished, withUnfinis
 use Rattle.head.specs.Head.{droppedHead}
 use Rattle.head.specs.Move.{Move, started, held, whole, outOfStep, moveNumber, movedHead, rowAt, placeAt}
 use Rattle.head.specs.declared.Head.{Head}
-use Rattle.faults.specs.Faults.{dropping}
+use Rattle.faults.specs.Faults.{numberDrops}
 use Rattle.packet.specs.declared.Reading.{Reading}
 
 unfoldable pub blockOf : Head → ℕ
@@ -63,7 +63,7 @@ takenNumber r h = further (r .number) (moveNumber (rowAt h (r .index)))
 
 -- a refusal drops by the list of faults
 unfoldable pub refusedAfter : ℕ → List ℕ → List ℕ
-refusedAfter n s = cond (dropping n) (slotDropped s) s
+refusedAfter n s = cond (numberDrops n) (slotDropped s) s
 
 unfoldable pub takenAfter : Reading → List ℕ → List ℕ
 takenAfter r s =

@@ -21,7 +21,7 @@ use Rattle.head.specs.Head.{newHead, droppedHead, agedHead, shown}
 use Rattle.head.specs.Move.{Move, started, held, whole, outOfStep, moveOf, moveNumber, movedHead}
 use Rattle.head.specs.declared.Head.{Head}
 use Rattle.head.specs.declared.Wish.{Wish}
-use Rattle.faults.specs.Faults.{Fault, number, dropping}
+use Rattle.faults.specs.Faults.{Fault, number, numberDrops}
 use Rattle.faults.proofs.Laws.{all-drop, number-drops, no-whole, no-part}
 use Rattle.history.specs.Followed.{Followed, Event, packet, refused, ended, moved, dropped, aged, after, answer, followed, run}
 use Rattle.history.specs.Transcript.{Entry, answered, subframe, entry, told, isWhole, anyWhole, sinceWhole, ends, before, marks, marked, called}
@@ -66,7 +66,7 @@ cond-or true b = refl
 cond-or false b = refl
 
 module _ (limit : ℕ) (h : Head) (t : List Entry) (s : Tells limit h t) where
-  tells-dropped : (n : ℕ) → eqb n 3 ≡ false → (eqb n 1 || eqb n 2) ≡ false → dropping n ≡ true → Tells limit (droppedHead h) (answered n ∷ t)
+  tells-dropped : (n : ℕ) → eqb n 3 ≡ false → (eqb n 1 || eqb n 2) ≡ false → numberDrops n ≡ true → Tells limit (droppedHead h) (answered n ∷ t)
   unfolding anyWhole isWhole sinceWhole marked marks before ends
   tells-dropped n e u d = record {
     limited = s .limited;
@@ -77,7 +77,7 @@ module _ (limit : ℕ) (h : Head) (t : List Entry) (s : Tells limit h t) where
   }
 
   tells-moved : (mv : Move) → Tells limit (movedHead mv h) (answered (moveNumber mv) ∷ t)
-  unfolding movedHead moveNumber anyWhole isWhole sinceWhole marked marks dropping before ends
+  unfolding movedHead moveNumber anyWhole isWhole sinceWhole marked marks numberDrops before ends
   tells-moved started = record {
     limited = s .limited;
     grouped = s .grouped;

@@ -11,7 +11,7 @@ use mathlib.Core.Bool.{Bool, false, cond, not, _&&_, _||_}
 use mathlib.Core.List.{List, [], _∷_}
 use Prim.Native.Nat.{ℕ, suc}
 use lib.Dec.{leb, eqb}
-use Rattle.faults.specs.Faults.{dropping}
+use Rattle.faults.specs.Faults.{numberDrops}
 use Rattle.history.specs.Followed.{Followed, Event, packet, refused, ended, after, answer}
 
 pub data Entry : Type 0 where
@@ -52,7 +52,7 @@ before (subframe ∷ t) = before t
 
 -- "a gap is marked by this table and by refusals 28 to 32, and by nothing else"
 unfoldable pub marks : Entry → ℕ → Bool
-marks (answered n) m = dropping n || (eqb n 1 && (eqb m 1 || eqb m 2))
+marks (answered n) m = numberDrops n || (eqb n 1 && (eqb m 1 || eqb m 2))
 marks subframe m = false
 
 unfoldable pub marked : List Entry → Bool

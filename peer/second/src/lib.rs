@@ -5,13 +5,14 @@
 //! taken out of its bytes, changed as a row of values and put back, in every call; so is the multiplex's map. It is slow
 //! and short, so that it can be checked by eye against the standard and the paper.
 //!
-//! Three modules are not part of that reading: `fast` is a rival for measuring, `samples` and `xorshift` make inputs
-//! for tests.
+//! Four modules are not part of that reading: `fast` is a rival for measuring, `samples` and `xorshift` make inputs
+//! for tests, and `fnv` makes one number of many bytes.
 
 #![forbid(unsafe_code)]
 
 pub mod bits;
 pub mod fast;
+pub mod fnv;
 pub mod golay;
 pub mod group;
 pub mod image;
