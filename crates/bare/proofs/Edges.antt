@@ -13,10 +13,11 @@ use Rattle.bits.specs.Bits.{flips}
 use Rattle.bits.specs.Rows.{given, refusal}
 use Rattle.bits.proofs.Every.{both, both-left, both-right}
 use Rattle.bits.proofs.Flips.{ones-in}
+use Rattle.bits.specs.All.{All}
 use Rattle.bare.specs.Bare.{typeRead, typeNear}
 use Rattle.golay.specs.Code.{less, line, divide, remainder, word23, nearest}
 use Rattle.bare.specs.declared.Header.{Header}
-use Rattle.bare.specs.Edges.{Edge, reads, readsNot, typed, untyped, Reads, Holds, All, edges}
+use Rattle.bare.specs.Edges.{Edge, reads, readsNot, typed, untyped, Reads, Holds, edges}
 use Rattle.golay.proofs.Nearest.{nearest-is}
 use Rattle.bare.proofs.Theorems.{header-reads, header-exactly}
 use Rattle.golay.proofs.Words.{word23-apart, word23-lt}

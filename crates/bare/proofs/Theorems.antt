@@ -76,7 +76,7 @@ header-back a i ha hi =
 
 -- ---- 24 bits
 
-eight-seven : (i j : ℕ) → i < 4096 → j < 4096 → (i ≡ j → ⊥) → 7 ≤ flips (word24 i) (word24 j)
+pub eight-seven : (i j : ℕ) → i < 4096 → j < 4096 → (i ≡ j → ⊥) → 7 ≤ flips (word24 i) (word24 j)
 eight-seven i j hi hj ne = omega (arith, word24-apart i j hi hj ne)
 
 -- a word lies within three flips of n

@@ -25,6 +25,7 @@ use Rattle.bits.proofs.Flips.{ones-in, flips-of, ones-zero}
 use Rattle.bits.specs.Bits.{flips}
 use Rattle.bits.specs.Rows.{row, refusal, given}
 use Rattle.bits.proofs.Rows.{refusal-hit, refusal-miss}
+use Rattle.bits.proofs.Search.{truth}
 use Rattle.bare.specs.Bare.{types, typeNear, typeRead, typeAs, among, typeWritten}
 use Rattle.bare.specs.declared.TypeByte.{TypeByte}
 use Rattle.bare.specs.declared.Written.{Written}
@@ -187,11 +188,7 @@ unfolding among
 all-written = tt
 
 pub type-written : (k : ℕ) → k < 4 → typeWritten (typeAt k) ≡ record { number = 0; value = typeAt k }
-type-written k h = type-known (typeAt k) (holds (among types (typeAt k)) (every-at (λ (j : ℕ). among types (typeAt j)) 2 all-written k h))
-  where
-    holds : (b : Bool) → T b → b ≡ true
-    holds true t = refl
-    holds false t = absurd t
+type-written k h = type-known (typeAt k) (truth (among types (typeAt k)) (every-at (λ (j : ℕ). among types (typeAt j)) 2 all-written k h))
 
 pub type-back : (k : ℕ) → k < 4 → typeRead (typeWritten (typeAt k) .value) ≡ typeAs (typeAt k) 0
 type-back k h =

@@ -24,11 +24,6 @@ Holds (readsNot n a i) = Reads n a i → ⊥
 Holds (typed b t) = (typeRead b .number ≡ 0) × (typeRead b .value ≡ t)
 Holds (untyped b) = typeRead b .number ≡ 28
 
--- each of a list
-abbrev pub All : (Edge → Type 0) → List Edge → Type 0
-All P [] = Unit {0}
-All P (e ∷ es) = P e × All P es
-
 abbrev pub edges : List Edge
 edges =
     -- P1: a header of 23 zeros. P2: the same with bits 0, 5 and 22 set

@@ -1,11 +1,14 @@
 -- Laws of the orders of refusal: which row is hit, and that a call is refused exactly when a row holds.
 --
---   refusal-hit, refusal-miss     the first row, by its test; refusal-passed: where nothing is refused
---   refused-holds, holds-refused  refused exactly when a row holds, where no row gives 0
+--   refusal-hit, refusal-miss, refusal-none     the first row, by its test, and where there is no row
+--   refusal-passed                where nothing is refused, the first row does not hold
+--   Holds, holds-refused, refused-exactly       the first row that holds; refused exactly when there is one
 --   further-refused, further-passed, done-refused, done-passed    the answer and the bytes left, by the number
+--   done-either                   what holds of the bytes left, by cases of the number
+--   refused, accepted             a call that answers first and changes the bytes after: its answer with the bytes after
 --
 -- Assumes nothing.
-use mathlib.Core.Path.{_≡_, refl, ap}
+use mathlib.Core.Path.{_≡_, refl, sym, ap, _∙_}
 use mathlib.Core.Bool.{Bool, true, false, cond}
 use mathlib.Core.List.{List, [], _∷_}
 use mathlib.Core.Logic.{_⊎_, inl, inr}
@@ -71,3 +74,18 @@ done-refused (suc n) after before ne = refl
 pub done-passed : (n : ℕ) (after before : List ℕ) → n ≡ 0 → done n after before ≡ after
 unfolding done
 done-passed n after before e = ap (λ (x : ℕ). done x after before) e
+
+-- the bytes after, by cases of the answer
+pub done-either : (P : List ℕ → Type 0) (n : ℕ) (after before : List ℕ) → (n ≡ 0 → P after) → P before → P (done n after before)
+unfolding done
+done-either P zero after before a b = a refl
+done-either P (suc n) after before a b = b
+
+-- ---- a call that answers first and changes the bytes after
+
+module _ (r n : ℕ) (after before : List ℕ) (e : r ≡ n) where
+  pub refused : (r ≡ 0 → ⊥) → (r ≡ n) × (before ≡ done n after before)
+  refused ne = (e, sym (done-refused n after before (λ z. ne (e ∙ z))))
+
+  pub accepted : (now : List ℕ) → r ≡ 0 → now ≡ after → (0 ≡ n) × (now ≡ done n after before)
+  accepted now z q = (sym z ∙ e, q ∙ sym (done-passed n after before (sym e ∙ z)))

@@ -1,7 +1,7 @@
 -- Laws of runs of bits, each over any width w. `Below m ns` says that each of a list's numbers is below m; beyond the
 -- list's end stands 0.
 --
---   below-*       so is each of a part, and of two lists in a row
+--   below-*       so is each of a part, of one more, and of two lists in a row
 --   bitsOf-*      a number's bits: how many, each a bit, which bit is where, the low and the high ones in a row
 --   number-bits   the number of the bits of n is n up to 2 ^ w
 --   bits-number   the bits of a run's number are the run; bits-front: of a run's first w bits
@@ -42,6 +42,10 @@ below-take zero ns h k = let z = h 0 in omega arith
 below-take (suc i) [] h k = h k
 below-take (suc i) (n ∷ ns) h zero = h 0
 below-take (suc i) (n ∷ ns) h (suc k) = below-take i ns (λ j. h (suc j)) k
+
+pub below-cons : {m : ℕ} (n : ℕ) (ns : List ℕ) → n < m → Below m ns → Below m (n ∷ ns)
+below-cons n ns h hs zero = h
+below-cons n ns h hs (suc k) = hs k
 
 pub below-cat : {m : ℕ} (xs ys : List ℕ) → Below m xs → Below m ys → Below m (xs ++ ys)
 below-cat [] ys hx hy k = hy k

@@ -5,7 +5,10 @@
 --   first-only     it is the one that passes, where only one does
 --   first-agree    two tests that agree have the same first
 --   first-least    no number that passes is less
---   and-left, and-right, or-right    parts of a joined test
+--   and-left, and-right, or-right    parts of a joined test; and-no: it fails where a part does
+--   neither, neither-left, neither-right    parts of a joined test that none passes
+--   truth          a test that holds is true
+--   clash          true is not false
 --   all-at, all-each    all pass exactly if each does
 --
 -- Assumes nothing.
@@ -68,7 +71,14 @@ first-least p (suc k) i j l h t = go (p i) refl (first-least p k (suc i) j) (ℕ
     go false e rest (yes q) = absurd (subst T (sym (ap p q) ∙ e) t)
     go false e rest (no q) = rest (omega arith) (omega arith) t
 
--- ---- all
+-- ---- tests
+
+pub clash : {A : Type 0} → true ≡ false → A
+clash e = absurd (subst T e tt)
+
+pub truth : (b : Bool) → T b → b ≡ true
+truth true t = refl
+truth false t = absurd t
 
 pub and-left : (a b : Bool) → (a && b) ≡ true → a ≡ true
 and-left true b e = refl
@@ -81,6 +91,23 @@ and-right false b e = absurd (subst T (sym e) tt)
 pub or-right : (a b : Bool) → (a || b) ≡ true → a ≡ false → b ≡ true
 or-right true b e f = absurd (subst T f tt)
 or-right false b e f = e
+
+pub and-no : {y : Bool} (x : Bool) → y ≡ false → (x && y) ≡ false
+and-no true e = e
+and-no false e = refl
+
+pub neither-left : (a b : Bool) → (a || b) ≡ false → a ≡ false
+neither-left true b e = e
+neither-left false b e = refl
+
+pub neither-right : (a b : Bool) → (a || b) ≡ false → b ≡ false
+neither-right true b e = clash e
+neither-right false b e = e
+
+pub neither : (a b : Bool) → (a || b) ≡ false → (a ≡ false) × (b ≡ false)
+neither a b e = (neither-left a b e, neither-right a b e)
+
+-- ---- all
 
 pub all-at : (p : ℕ → Bool) (k i : ℕ) → all p k i ≡ true → (j : ℕ) → i ≤ j → j < i + k → p j ≡ true
 unfolding all

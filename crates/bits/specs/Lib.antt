@@ -1,3 +1,4 @@
+pub mod All
 pub mod Bits
 pub mod Rows
 pub mod Search

@@ -1,34 +1,29 @@
 -- Our calls, each as the events that it means at a followed address: the laws that make our calls the system of which the crate
 -- history speaks.
 --
---   eventOf p image        what an image is to the address that it is read as
---   arrivesAt a image      it is 94 bytes, its spare bit 0, and it is read as the address
---   eventsAt a p x         the events that a call means at an address: one or none
---   taken-does             the slot's answer and the slot after it are the event's
---   acts                   each call that neither leaves the address nor starts acts by its events, and the state stays good
---   answer-here            a packet that arrives at the address is answered as the event is
---   ask-here, shown-here   ask says what the view's head says, and shows its group
+--   fault-answered, refused-not-zero    a refused reading's number: its fault's, and not 0
+--   event-read, event-refused           what an image is to the address that it is read as
+--   Does e x y n, taken-does            the slot's answer and the slot after it are the event's
+--   protectedAt s a                     the protection of the slot that follows the address
 --
 -- Assumes nothing.
 use mathlib.Core.Path.{_≡_, refl, sym, ap, _∙_, subst}
-use mathlib.Core.Bool.{Bool, true, false, cond, not, _&&_}
-use mathlib.Core.List.{List, [], _∷_}
+use mathlib.Core.Bool.{Bool, true, false, cond}
+use mathlib.Core.List.{List}
 use mathlib.Core.Logic.{_⊎_, inl, inr}
 use Prim.Native.Nat.{ℕ, zero, suc}
 use native.Mathlib.Omega.{arith}
 use lib.Dec.{eqb}
 use lib.ListN.{length, take}
 use lib.Seq.{length-take-le}
-use Rattle.bits.specs.Rows.{further, done}
-use Rattle.bits.proofs.Rows.{further-refused, further-passed, done-refused, done-passed}
-use Rattle.image.specs.Image.{spareOf}
+use Rattle.bits.proofs.Rows.{further-refused, further-passed, done-passed}
 use Rattle.packet.specs.Received.{received}
 use Rattle.packet.specs.Damage.{dataSize, Refused}
 use Rattle.packet.specs.declared.Reading.{Reading}
 use Rattle.packet.proofs.Answers.{received-length, received-either}
 use Rattle.slot.specs.Slot.{headOf, goodSlot}
 use Rattle.head.specs.Head.{droppedHead, goodHead}
-use Rattle.head.specs.Move.{Move, started, held, whole, outOfStep, movedHead, rowAt, placeAt}
+use Rattle.head.specs.Move.{Move, movedHead, rowAt, placeAt}
 use Rattle.head.specs.declared.Head.{Head}
 use Rattle.slot.proofs.Goods.{good-slot}
 use Rattle.head.proofs.Bounds.{good-dropped}
@@ -38,13 +33,15 @@ use Rattle.group.proofs.Laws.{Fits, row-fits, moved-size, moved-good, moved-hea
 use Rattle.faults.specs.Faults.{number, faultOf}
 use Rattle.faults.proofs.Laws.{unreadable-drops, fault-number, unreadable-not-zero}
 use Rattle.history.proofs.Laws.{after-refused}
-use Rattle.history.specs.Followed.{Event, ended, after, answer}
+use Rattle.history.specs.Followed.{Event, after, answer}
 use Rattle.history.specs.Followed as one
-use Rattle.adapter.specs.Calls.{addressOf, readingAt}
+use Rattle.adapter.specs.Calls.{readingAt}
 use Rattle.table.specs.State.{slotAt, find}
-use Rattle.demands.specs.Machine.{Call, start, follow, leave, packet, subframeEnd, asks}
+use Rattle.demands.specs.Machine.{packet}
 use Rattle.demands.specs.Seen.{eventBy, eventOf, seenIn}
 use Rattle.demands.proofs.View.{view-moved, view-dropped}
+use Rattle.head.specs.declared.Wish.{Wish}
+use Rattle.head.proofs.Moves.{moved-wish}
 
 -- ---- what an image is to the address that it is read as
 
@@ -84,14 +81,6 @@ pub record Does (e : Event) (x y : List ℕ) (n : ℕ) : Type 0 where
   pub seen : seenIn y ≡ after e (seenIn x)
   pub number : n ≡ answer e (seenIn x)
 
--- the address is none of what a row changes
-moved-address : (mv : Move) (h : Head) → movedHead mv h .wish .address ≡ h .wish .address
-unfolding movedHead
-moved-address started h = refl
-moved-address held h = refl
-moved-address whole h = refl
-moved-address outOfStep h = refl
-
 module _ (x image : List ℕ) (l : length x ≡ 736) (g : goodHead (headOf x) ≡ true) where
   abbrev p : Bool
   p = eqb (headOf x .wish .protection) 1
@@ -123,7 +112,7 @@ module _ (x image : List ℕ) (l : length x ≡ 736) (g : goodHead (headOf x) �
       record {
         size = ap length e ∙ moved-size mv place b x fits;
         good = good-slot (takenAfter r x) (ap goodHead h ∙ moved-good mv place b x fits);
-        address = ap (λ (y : Head). y .wish .address) h ∙ moved-address mv (headOf x);
+        address = ap (λ (y : Head). y .wish .address) h ∙ ap (λ (w : Wish). w .address) (moved-wish mv (headOf x));
         seen = ap seenIn e ∙ view-moved mv place b x fits;
         number = further-passed (r .number) _ z;
       }

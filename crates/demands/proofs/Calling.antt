@@ -12,16 +12,14 @@ use mathlib.Core.List.{List, [], _∷_}
 use Prim.Native.Nat.{ℕ, _≤_, _<_}
 use native.Mathlib.Omega.{arith}
 use native.Mathlib.Decide.{ℕ-discrete}
-use borrow.Author.Tests.{eq-eqb, ne-eqb, eqb-true}
+use borrow.Author.Tests.{eq-eqb, ne-eqb, eqb-true, not-true}
 use lib.Dec.{T, eqb}
 use lib.ListN.{length}
 use Rattle.bits.specs.Bits.{blank}
-use Rattle.bits.specs.Rows.{done}
-use Rattle.bits.proofs.Rows.{refusal-none, done-passed}
+use Rattle.bits.proofs.Rows.{refusal-none, done-passed, done-either}
 use Rattle.bits.proofs.Storing.{blank-length}
 use Rattle.bits.proofs.Search.{and-left, and-right}
 use Rattle.image.specs.Image.{spareOf}
-use Rattle.runs.specs.Part.{part}
 use Rattle.slot.specs.Slot.{headOf, withHead}
 use Rattle.head.specs.Head.{newHead}
 use Rattle.head.specs.declared.Head.{Head}
@@ -33,7 +31,7 @@ use Rattle.table.specs.State.{stateSize, slots, slotAt, withSlot, addressAt, fi
 use Rattle.table.specs.Calls.{followAnswer, followAfter, leaveAnswer, leaveAfter, endAnswer, endAfter, ages}
 use Rattle.table.proofs.Looking.{Passed, state-rest}
 use Rattle.table.proofs.States.{each-good, good-each, find-has, find-only, find-none, slot-length, with-length, slot-same, address-is, address-same, address-other}
-use Rattle.table.proofs.Kept.{Followed, follow-passed, leave-passed, done-either, follow-good, leave-good, aged-slot, ages-good}
+use Rattle.table.proofs.Kept.{Followed, follow-passed, leave-passed, follow-good, leave-good, aged-slot, ages-good}
 use Rattle.group.specs.Group.{takenNumber, takenAfter}
 use Rattle.history.specs.Followed as one
 use Rattle.adapter.specs.Calls.{addressOf, followed, unplaced, readingAt, slotAnswer, slotAfter, packetAnswer, packetAfter}
@@ -58,13 +56,9 @@ arrives-is a image e =
     let rest = and-right (eqb (length image) 94) _ e in
     record {
       size = eqb-true (length image) 94 (and-left (eqb (length image) 94) _ e);
-      spare = flipped (eqb (spareOf image) 1) (and-left (not (eqb (spareOf image) 1)) _ rest);
+      spare = not-true (eqb (spareOf image) 1) (and-left (not (eqb (spareOf image) 1)) _ rest);
       address = eqb-true (addressOf image) a (and-right (not (eqb (spareOf image) 1)) _ rest);
     }
-  where
-    flipped : (b : Bool) → not b ≡ true → b ≡ false
-    flipped true q = sym q
-    flipped false q = refl
 
 pub is-arrives : (a : ℕ) (image : List ℕ) → Arrives a image → arrivesAt a image ≡ true
 unfolding arrivesAt

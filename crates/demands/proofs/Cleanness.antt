@@ -19,7 +19,7 @@ use lib.Dec.{eqb}
 use lib.ListN.{length, take, drop}
 use lib.Seq.{drop-at, drop-drop, length-take-le}
 use Rattle.bits.specs.Bits.{blank}
-use Rattle.bits.proofs.Rows.{done-passed, done-refused}
+use Rattle.bits.proofs.Rows.{done-passed, done-refused, done-either}
 use Rattle.bits.proofs.Storing.{blank-length, drop-blank}
 use Rattle.packet.specs.declared.Reading.{Reading}
 use Rattle.packet.proofs.Answers.{received-length}
@@ -29,7 +29,7 @@ use Rattle.head.specs.Head.{newHead, agedHead, goodHead}
 use Rattle.head.specs.Move.{Move, started, held, whole, outOfStep, movedHead, rowAt, placeAt}
 use Rattle.head.specs.declared.Head.{Head}
 use Rattle.head.specs.declared.Wish.{Wish}
-use Rattle.runs.proofs.Parts.{part-length}
+use Rattle.runs.proofs.Parts.{part-length, part-blank}
 use Rattle.slot.proofs.Laws.{unfinished-room, unfinished-put, unfinished-length}
 use Rattle.slot.proofs.Heads.{store-unfinished, store-stored, withHead-length}
 use Rattle.slot.proofs.Goods.{good-load, good-cases, free-blank}
@@ -38,7 +38,7 @@ use Rattle.table.specs.State.{stateSize, slots, slotAt, withSlot, find}
 use Rattle.table.specs.Calls.{startAnswer, startAfter, followAnswer, followAfter, leaveAnswer, leaveAfter, endAnswer, ages, endAfter}
 use Rattle.table.proofs.States.{good-each, slot-length, slot-same, slot-other, address-is, find-has, zero-free}
 use Rattle.table.proofs.Looking.{Passed, state-passed}
-use Rattle.table.proofs.Kept.{part-blank, Followed, follow-passed, leave-passed, done-either}
+use Rattle.table.proofs.Kept.{Followed, follow-passed, leave-passed}
 use Rattle.table.proofs.Doing.{start-passed}
 use Rattle.asking.specs.Asking.{groupLength}
 use Rattle.faults.specs.Faults.{numberDrops}

@@ -13,9 +13,10 @@ use mathlib.Core.List.{List, [], _∷_}
 use Prim.Native.Nat.{ℕ, zero, suc, _+_, _≤_, _<_}
 use native.Mathlib.Omega.{arith}
 use native.Mathlib.Decide.{ℕ-discrete}
-use borrow.Author.Tests.{eqb-true, eqb-false, eq-eqb, ne-eqb}
+use borrow.Author.Tests.{eqb-true, eqb-false, ne-eqb}
 use lib.Dec.{T, eqb}
 use lib.ListN.{length}
+use Rattle.bits.proofs.Search.{neither-left, neither-right}
 use Rattle.demands.specs.Table.{member, without}
 
 -- ---- counting
@@ -96,20 +97,12 @@ unfoldable pub Distinct : List ℕ → Type 0
 Distinct [] = Unit {0}
 Distinct (b ∷ l) = (member b l ≡ false) × Distinct l
 
-or-left : (a b : Bool) → (a || b) ≡ false → a ≡ false
-or-left true b e = e
-or-left false b e = refl
-
-or-rest : (a b : Bool) → (a || b) ≡ false → b ≡ false
-or-rest true b e = absurd (subst T e tt)
-or-rest false b e = e
-
 pub without-none : (a : ℕ) (l : List ℕ) → member a l ≡ false → without a l ≡ l
 unfolding member without
 without-none a [] e = refl
 without-none a (b ∷ l) e =
-    ap (λ (x : Bool). cond x l (b ∷ without a l)) (or-left (eqb a b) _ e)
-    ∙ ap (λ (m : List ℕ). b ∷ m) (without-none a l (or-rest (eqb a b) _ e))
+    ap (λ (x : Bool). cond x l (b ∷ without a l)) (neither-left (eqb a b) _ e)
+    ∙ ap (λ (m : List ℕ). b ∷ m) (without-none a l (neither-right (eqb a b) _ e))
 
 -- another address is as much in it as before
 pub without-other : (a c : ℕ) (l : List ℕ) → (c ≡ a → ⊥) → member c (without a l) ≡ member c l

@@ -8,7 +8,7 @@
 --
 -- Assumes nothing.
 use mathlib.Core.Path.{_≡_, refl, sym, ap, ap₂, _∙_, subst}
-use mathlib.Core.Bool.{Bool, true, false, cond, not, _&&_}
+use mathlib.Core.Bool.{Bool, true, false, cond, _&&_}
 use mathlib.Core.List.{List, [], _∷_, _++_}
 use Prim.Native.Nat.{ℕ, zero, suc, _<_}
 use native.Mathlib.Omega.{arith}
@@ -41,7 +41,7 @@ use Rattle.demands.proofs.Serving.{view}
 use Rattle.demands.proofs.Calling.{follow-serves}
 use Rattle.demands.proofs.Second.{sent-sound}
 use Rattle.demands.proofs.Parts.{shown-here}
-use Rattle.demands.proofs.Examples.{bytes-zero, empty-state, empty-passed, empty-absent, accepted, zeros, zeros-carried, clean, whole-group, whole-channel, whole-arrived, clean-arrives, clean-index, end-step}
+use Rattle.demands.proofs.Examples.{bytes-zero, empty-state, empty-passed, empty-absent, accepted, zeros, zeros-carried, clean, whole-group, whole-channel, whole-arrived, clean-arrives, clean-index, end-step, yes-2}
 use Rattle.demands.proofs.Turns.{begun-at, first-step, four, four-events, four-then, says}
 
 -- ---- what any machine that meets the demand hands out of the group of zeros
@@ -80,9 +80,6 @@ module _ (out : List (List ℕ)) (x : Exactly 4 zeros (Arrived false whole-group
 
 yes-1 : followAnswer empty-state (wishOf 17 0 1) ≡ 0
 yes-1 = accepted 1 refl
-
-yes-2 : followAnswer empty-state (wishOf 17 0 2) ≡ 0
-yes-2 = accepted 2 refl
 
 module _ (m : Machine) (d : Demand3 m) where
   abbrev begun : List ℕ

@@ -18,7 +18,6 @@ use Prim.Native.Nat.{ℕ, zero, suc, _≤_, _<_}
 use native.Mathlib.Omega.{arith}
 use native.Mathlib.Decide.{decLt}
 use lib.Dec.{ltb, eqb, lit≤, lit<}
-use lib.ListN.{length}
 use Rattle.bits.specs.Bits.{blank}
 use Rattle.bits.proofs.Storing.{blank-length}
 use Rattle.bare.specs.Bare.{headerRead}
@@ -76,6 +75,9 @@ empty-free = go (decLt (find empty-state 0) slots)
 
 pub accepted : (l : ℕ) → (ltb l 1 || ltb 1500 l) ≡ false → followAnswer empty-state (wishOf 17 0 l) ≡ 0
 accepted l t = follow-0 empty-state (wishOf 17 0 l) empty-passed (sym (wish-0 (wishOf 17 0 l) refl (lit≤ tt) t)) (find empty-state 17) refl (empty-absent 17 (lit< tt)) (find empty-state 0) refl empty-free
+
+pub yes-2 : followAnswer empty-state (wishOf 17 0 2) ≡ 0
+yes-2 = accepted 2 refl
 
 -- ---- a group of zeros
 

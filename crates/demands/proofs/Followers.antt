@@ -13,19 +13,17 @@ use mathlib.Core.List.{List, [], _∷_}
 use Prim.Native.Nat.{ℕ, zero, suc, _≤_, _<_}
 use native.Mathlib.Omega.{arith}
 use native.Mathlib.Decide.{ℕ-discrete, decLt}
-use borrow.Author.Tests.{eq-eqb, ne-eqb, eqb-true, eqb-false, lt-ltb, le-ltb, ltb-true, ltb-false, le-leb, leb-true, lt-leb}
+use borrow.Author.Tests.{eq-eqb, ne-eqb, eqb-false, lt-ltb, le-ltb, ltb-true, le-leb, leb-true, not-true}
 use lib.Dec.{T, leb, ltb, eqb}
 use lib.ListN.{length}
 use Rattle.bits.specs.Bits.{blank}
 use Rattle.bits.specs.Rows.{Row, row, refusal}
-use Rattle.bits.proofs.Rows.{refusal-hit, refusal-miss}
 use Rattle.bits.proofs.Search.{and-left, and-right}
 use Rattle.image.specs.Image.{spareOf}
 use Rattle.head.specs.Head.{within, wishOf, goodWish}
 use Rattle.head.proofs.Bounds.{wish-bounds}
 use Rattle.head.specs.declared.Wish.{Wish}
-use Rattle.slot.specs.Slot.{headOf}
-use Rattle.table.specs.State.{stateSize, slots, slotAt, addressAt, find, good}
+use Rattle.table.specs.State.{stateSize, slots, addressAt, find, good}
 use Rattle.table.specs.Calls.{startAnswer, followAnswer, leaveAnswer}
 use Rattle.table.proofs.Looking.{state-rest}
 use Rattle.table.proofs.States.{good-each, find-has, find-only, find-agree, find-none, used-one}
@@ -309,15 +307,11 @@ wish-taken w l e =
     let r2 = and-right (leb p 1) _ r1 in
     let r3 = and-right (within 1 1500 limit) _ r2 in
     λ i. refusal (row (not (and-left (within 1 1022 a) _ e i)) 22 ∷ row (low (and-left (leb p 1) _ r1) i) 23
-    ∷ row (not (and-left (within 1 1500 limit) _ r2 i)) 24 ∷ row (flipped (member a l) (and-left (not (member a l)) _ r3) i) 25
+    ∷ row (not (and-left (within 1 1500 limit) _ r2 i)) 24 ∷ row (not-true (member a l) (and-left (not (member a l)) _ r3) i) 25
     ∷ row (ne-eqb (length l) 16 (λ q. omega (arith, q, ltb-true (length l) 16 (and-right (not (member a l)) _ r3))) i) 26 ∷ [])
   where
     low : leb (w .protection) 1 ≡ true → ltb 1 (w .protection) ≡ false
     low q = le-ltb 1 (w .protection) (leb-true (w .protection) 1 q)
-
-    flipped : (b : Bool) → not b ≡ true → b ≡ false
-    flipped true q = sym q
-    flipped false q = refl
 
 module _ (l s : List ℕ) (k : Lists l s) where
   keeps : (x : Call) → ((j : ℕ) → j < slots → addressAfter x s j ≡ addressAt s j) → Lists l (ourAfter x s)

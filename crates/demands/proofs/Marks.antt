@@ -13,6 +13,7 @@ use native.Mathlib.Omega.{arith}
 use borrow.Author.Tests.{eqb-true, eqb-false}
 use lib.Dec.{ltb, eqb}
 use lib.ListN.{replicate}
+use Rattle.bits.proofs.Search.{clash}
 use Rattle.head.specs.declared.Head.{Head}
 use Rattle.head.proofs.Bounds.{Bounds}
 use Rattle.faults.specs.Faults.{numberDrops}
@@ -60,10 +61,7 @@ record Plain (t : List Entry) (n : ℕ) (z : Bool) : Type 0 where
 
 plain : (z : Bool) (n : ℕ) → Plain (cond z [] (aged n)) n z
 unfolding anyWhole sinceWhole marked before
-plain true n = record { whole = refl; none = refl; first = refl; age = λ e. absurd (clash e) }
-  where
-    clash : _≡_ {A = Bool} false true → ⊥
-    clash e = let z : _≡_ {A = ℕ} 0 1 = ap (λ (b : Bool). cond b 1 0) e in omega arith
+plain true n = record { whole = refl; none = refl; first = refl; age = λ e. clash (sym e) }
 plain false n = record {
   whole = aged-whole n;
   none = ap marked (aged-since n) ∙ since-marked n;

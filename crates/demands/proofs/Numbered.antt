@@ -7,14 +7,14 @@
 --   write-answers, bare-answers               the group writer, and the bare calls
 --
 -- Assumes nothing.
-use mathlib.Core.Path.{_≡_, refl, sym, ap, ap₂, _∙_, subst}
-use mathlib.Core.Bool.{Bool, true, false, cond, not, _&&_, _||_}
+use mathlib.Core.Path.{_≡_, refl, sym, ap, _∙_, subst}
+use mathlib.Core.Bool.{Bool, true, false, cond, not, _&&_, _||_, or-false}
 use mathlib.Core.List.{List, [], _∷_}
 use mathlib.Core.Logic.{inl, inr}
 use Prim.Native.Nat.{ℕ, zero, suc, _+_, _^_, _<_}
 use native.Mathlib.Nat.{mod-eq-of-lt}
 use native.Mathlib.Omega.{arith}
-use native.Mathlib.Decide.{ℕ-discrete, decLt}
+use native.Mathlib.Decide.{decLt}
 use borrow.Author.Tests.{eqb-true, eqb-false, ltb-false, eq-eqb}
 use lib.Dec.{leb, ltb, eqb}
 use lib.ListN.{length}
@@ -37,7 +37,7 @@ use Rattle.asking.specs.Asking.{askedAt, askedBy, asked}
 use Rattle.asking.specs.declared.Asked.{Asked}
 use Rattle.group.specs.Group.{takenNumber}
 use Rattle.history.specs.Sent.{In}
-use Rattle.adapter.specs.Calls.{addressOf, unplaced, readingAt, slotAnswer, packetAnswer, groupSize, writeAnswer}
+use Rattle.adapter.specs.Calls.{addressOf, unplaced, readingAt, packetAnswer, groupSize, writeAnswer}
 use Rattle.adapter.proofs.Laws.{Placed, placed-zero, packet-refused}
 use Rattle.demands.specs.Machine.{Call, start, follow, leave, packet, subframeEnd, asks, ask, Question, questionAnswer, ourAnswer, Bare, readHeader, writeHeader, readWord, writeWord, readType, writeType, bareNumber}
 use Rattle.demands.specs.Rows.{indexOf, slotRows, questionRows, rowsOf, questionNumbers, ownNumbers, writeRows, bareRows, Answers}
@@ -216,17 +216,13 @@ length-row : (p m : ℕ) (rest : List Row)
 unfolding refusal
 length-row p m rest = go (ltb 1 p) (eqb p 0) (eqb p 1) refl refl refl
   where
-    or-false : (b : Bool) → b ≡ (b || false)
-    or-false true = refl
-    or-false false = refl
-
     go : (l z o : Bool) → ltb 1 p ≡ l → eqb p 0 ≡ z → eqb p 1 ≡ o
         → cond l 23 (cond (not (eqb m (groupSize o))) 20 (refusal rest))
         ≡ cond l 23 (cond ((z && not (eqb m 360)) || (o && not (eqb m 180))) 20 (refusal rest))
     go true z o el ez eo = refl
     go false true true el ez eo = absurd (omega (arith, eqb-true p 0 ez, eqb-true p 1 eo))
     go false false true el ez eo = refl
-    go false true false el ez eo = ap (λ (b : Bool). cond b 20 (refusal rest)) (or-false (not (eqb m 360)))
+    go false true false el ez eo = ap (λ (b : Bool). cond b 20 (refusal rest)) (sym (or-false (not (eqb m 360))))
     go false false false el ez eo = absurd (omega (arith, ltb-false 1 p el, eqb-false p 0 ez, eqb-false p 1 eo))
 
 pub write-answers : (a p m o : ℕ) → Answers (writeRows a p m o) (0 ∷ []) (writeAnswer a p m o)

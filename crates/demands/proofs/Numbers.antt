@@ -11,7 +11,7 @@ use mathlib.Core.List.{List, [], _∷_}
 use mathlib.Core.Logic.{_⊎_, inl, inr}
 use Prim.Native.Nat.{ℕ}
 use borrow.Author.Tests.{eqb-true, eq-eqb}
-use lib.Dec.{T, eqb}
+use lib.Dec.{T, eqb, T-not}
 use Rattle.bits.specs.Rows.{Row, row, refusal}
 use Rattle.history.specs.Sent.{In}
 
@@ -62,11 +62,7 @@ in-every n (m ∷ ms) ns t (inr h) = in-every n ms ns (both (among m ns) _ t .1)
 pub in-none : (n : ℕ) (ms ns : List ℕ) → T (none ms ns) → In n ms → In n ns → ⊥
 unfolding In
 in-none n [] ns t h q = h
-in-none n (m ∷ ms) ns t (inl e) q = clash (among m ns) (both (not (among m ns)) _ t .0) (in-among m ns (subst (λ (x : ℕ). In x ns) e q))
-  where
-    clash : (b : Bool) → T (not b) → T b → ⊥
-    clash true x y = x
-    clash false x y = y
+in-none n (m ∷ ms) ns t (inl e) q = T-not (among m ns) (both (not (among m ns)) _ t .0) (in-among m ns (subst (λ (x : ℕ). In x ns) e q))
 in-none n (m ∷ ms) ns t (inr h) q = in-none n ms ns (both (not (among m ns)) _ t .1) h q
 
 -- ---- what an order of refusal gives

@@ -22,7 +22,7 @@ use lib.Seq.{take-at, drop-at, take-all, drop-drop}
 use Rattle.bits.proofs.Rows.{done-passed}
 use Rattle.bits.proofs.Runs.{below-take, below-drop}
 use Rattle.image.specs.Image.{spareOf}
-use Rattle.packet.specs.Received.{received, filled, partAs, written}
+use Rattle.packet.specs.Received.{received, filled, partAs}
 use Rattle.packet.specs.Damage.{dataSize, sentImage, Corrected}
 use Rattle.packet.specs.Damage as damage
 use Rattle.packet.specs.declared.Reading.{Reading}
@@ -30,8 +30,7 @@ use Rattle.packet.proofs.Damages.{header-came, received-corrected, sent-correct
 use Rattle.runs.specs.Part.{part}
 use Rattle.slot.specs.Slot.{headOf}
 use Rattle.head.specs.Head.{shown}
-use Rattle.head.specs.Move.{Move, started, held, whole, outOfStep, perOf, needsOf, rowOf, moveOf, moveNumber, movedHead}
-use Rattle.head.specs.declared.Head.{Head}
+use Rattle.head.specs.Move.{perOf, needsOf, rowOf, moveOf, moveNumber, movedHead}
 use Rattle.runs.proofs.Parts.{part-cat, part-length}
 use Rattle.table.specs.State.{slotAt, addressAt, find}
 use Rattle.table.proofs.States.{find-has, address-is, used-one}
@@ -47,6 +46,8 @@ use Rattle.demands.proofs.Serving.{Serves, view, Kept, here-address, he
 use Rattle.demands.proofs.Acting.{event-read, protectedAt}
 use Rattle.demands.proofs.Calling.{Arrives, arrives-placed, answer-here, packet-here}
 use Rattle.demands.proofs.Parts.{ask-here, shown-here, followed-serves, placed-others}
+use Rattle.head.specs.declared.Wish.{Wish}
+use Rattle.head.proofs.Moves.{moved-wish}
 
 -- ---- what is written
 
@@ -162,17 +163,9 @@ record Brings (q : Bool) (a i : ℕ) (d t : List ℕ) : Type 0 where
   corrected : Corrected q (sentImage q a i d) t
   spare : spareOf t ≡ 0
 
--- no row changes the protection
-moved-protection : (mv : Move) (h : Head) → movedHead mv h .wish .protection ≡ h .wish .protection
-unfolding movedHead
-moved-protection started h = refl
-moved-protection held h = refl
-moved-protection whole h = refl
-moved-protection outOfStep h = refl
-
 after-protection : (i : ℕ) (d : List ℕ) (f : Followed) → after (one.packet i d) f .head .wish .protection ≡ f .head .wish .protection
 unfolding after moved
-after-protection i d f = moved-protection (moveOf (f .per) (f .needs) (f .head .awaited) i) (f .head)
+after-protection i d f = ap (λ (w : Wish). w .protection) (moved-wish (moveOf (f .per) (f .needs) (f .head .awaited) i) (f .head))
 
 seen-protection : (s : List ℕ) (a : ℕ) (f : Followed) → view s a ≡ f → protectedAt s a ≡ eqb (f .head .wish .protection) 1
 unfolding view seenIn

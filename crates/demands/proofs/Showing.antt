@@ -8,19 +8,15 @@
 --
 -- Assumes nothing.
 use mathlib.Core.Path.{_≡_, refl, sym, ap, ap₂, _∙_, subst}
-use mathlib.Core.Bool.{Bool, true, false, cond, not, _&&_, _||_}
+use mathlib.Core.Bool.{Bool, true, false, cond, _&&_, _||_}
 use mathlib.Core.List.{List, [], _∷_, _++_}
 use Prim.Native.Nat.{ℕ, zero, suc, _≤_, _<_}
 use native.Mathlib.Omega.{arith}
 use native.Mathlib.Decide.{ℕ-discrete}
-use borrow.Author.Tests.{eq-eqb}
-use lib.Dec.{T, ltb, eqb, lit≤, lit<}
+use lib.Dec.{ltb, eqb, lit≤, lit<}
 use lib.ListN.{length, getD, replicate}
 use Rattle.bits.specs.Bits.{blank}
 use Rattle.bits.proofs.Storing.{blank-length}
-use Rattle.bare.specs.Bare.{headerRead}
-use Rattle.image.specs.Image.{headerOf}
-use Rattle.packet.specs.Received.{received}
 use Rattle.packet.specs.Damage.{sentImage}
 use Rattle.packet.specs.declared.Reading.{Reading}
 use Rattle.packet.proofs.Damages.{sent-corrected, corrected-came, sent-spare, received-sent}
@@ -32,7 +28,7 @@ use Rattle.head.specs.declared.Head.{Head}
 use Rattle.slot.proofs.Goods.{good-load, good-store}
 use Rattle.slot.proofs.Heads.{withHead-length}
 use Rattle.table.specs.State.{stateSize, slots, slotAt, withSlot, addressAt, find, good}
-use Rattle.table.specs.Calls.{followAnswer, followAfter}
+use Rattle.table.specs.Calls.{followAfter}
 use Rattle.table.proofs.States.{each-good, slot-same, with-length, address-same, address-other, find-only, good-followed}
 use Rattle.table.proofs.Kept.{blank-good}
 use Rattle.asking.specs.Asking.{asked, askPart}
@@ -41,18 +37,18 @@ use Rattle.faults.specs.Faults.{numberDrops}
 use Rattle.history.specs.Transcript.{told, isWhole, anyWhole, sinceWhole, ends, before, marks, marked, called}
 use Rattle.adapter.specs.Calls.{addressOf, followed, packetAnswer}
 use Rattle.adapter.proofs.Laws.{both-followed}
-use Rattle.demands.specs.Machine.{Call, follow, packet, asks, ours, ourAnswer, ourAfter, Bytes, run, questionAnswer}
+use Rattle.demands.specs.Machine.{Call, packet, asks, ours, ourAnswer, ourAfter, Bytes, run, questionAnswer}
 use Rattle.demands.specs.Rows.{indexOf}
-use Rattle.demands.specs.Seen.{arrivesAt, eventOf, eventsAt, eventsOf, by, seenIn, marksBy, marksOf, latest}
+use Rattle.demands.specs.Seen.{eventOf, eventsAt, eventsOf, by, seenIn, marksBy, marksOf, latest}
 use Rattle.demands.specs.Demand2.{Follows}
-use Rattle.demands.specs.Demand3.{AllStay, Stays, Goes, Demand3}
+use Rattle.demands.specs.Demand3.{AllStay, Stays, Demand3}
 use Rattle.demands.specs.Harmful.{byCall, torn, silent, bold, dirty, trusting, hasty, asking}
 use Rattle.demands.proofs.Serving.{view, Kept}
 use Rattle.demands.proofs.Calling.{Arrives, is-arrives, follow-serves}
 use Rattle.demands.proofs.Parts.{ask-here, shown-here}
 use Rattle.demands.proofs.Telling.{run-acts, answer-by}
 use Rattle.demands.proofs.Channels.{came-arrives, came-event}
-use Rattle.demands.proofs.Examples.{empty-state, empty-address, empty-absent, accepted, clean, clean-arrives, clean-index, clean-read-event}
+use Rattle.demands.proofs.Examples.{empty-state, empty-address, empty-absent, clean, clean-arrives, clean-index, clean-read-event, yes-2}
 
 -- ---- a group of ones
 
@@ -110,9 +106,6 @@ then-stays c = (tt, (tt, (tt, (tt, (tt, tt)))))
 
 abbrev begun : List ℕ
 begun = followAfter empty-state (wishOf 17 0 2)
-
-yes-2 : followAnswer empty-state (wishOf 17 0 2) ≡ 0
-yes-2 = accepted 2 refl
 
 then-kept : (c : ℕ) → c < 4 → Kept (run ours (then c) begun) 17 (one.run (then-events c) (one.followed (wishOf 17 0 2)))
 unfolding one.followed

@@ -9,12 +9,11 @@
 use mathlib.Core.Path.{_≡_, refl, sym, ap, ap₂, _∙_}
 use mathlib.Core.Bool.{Bool, false, cond}
 use mathlib.Core.List.{List, [], _∷_, _++_}
-use Prim.Native.Nat.{ℕ, zero, _≤_, _<_}
+use Prim.Native.Nat.{ℕ, _≤_, _<_}
 use native.Mathlib.Omega.{arith}
 use native.Mathlib.Decide.{decLt, ℕ-discrete}
 use borrow.Author.Tests.{eq-eqb, ne-eqb}
-use lib.Dec.{eqb, lit≤, lit<}
-use lib.ListN.{length}
+use lib.Dec.{lit≤, lit<}
 use Rattle.bits.specs.Bits.{blank}
 use Rattle.bits.proofs.Rows.{done-passed}
 use Rattle.bits.proofs.Storing.{blank-length}
@@ -40,7 +39,7 @@ use Rattle.demands.specs.Demand3.{Happening, arrives, call, callOf, call
 use Rattle.demands.proofs.Serving.{Kept}
 use Rattle.demands.proofs.Calling.{passed, follow-serves}
 use Rattle.demands.proofs.Parts.{ask-here, shown-here}
-use Rattle.demands.proofs.Examples.{empty-state, empty-address, accepted, zeros, zeros-carried, bytes-zero, clean, comes-at, end-step}
+use Rattle.demands.proofs.Examples.{empty-state, empty-address, zeros, zeros-carried, bytes-zero, clean, comes-at, end-step, yes-2}
 use Rattle.demands.proofs.Channels.{sent-apart}
 use Rattle.demands.proofs.Third.{demand-3}
 use Rattle.demands.proofs.Turns.{view-4, whole}
@@ -53,9 +52,6 @@ story = follow (wishOf 17 0 2) ∷ packet (clean 0) ∷ packet (clean 1) ∷ pac
 
 abbrev pub told-story : List Call → List ℕ
 told-story rest = run ours (story ++ rest) empty-state
-
-yes-2 : followAnswer empty-state (wishOf 17 0 2) ≡ 0
-yes-2 = accepted 2 refl
 
 abbrev as-arrived : one.Followed
 as-arrived = view-4 2 yes-2 (λ s. s) (λ f. f) (λ s f k. k) (λ f. refl)

@@ -7,21 +7,20 @@
 --
 -- Assumes nothing.
 use mathlib.Core.Path.{_≡_, refl, sym, ap, ap₂, _∙_, subst}
-use mathlib.Core.Bool.{Bool, true, false, cond, not, _&&_, _||_}
+use mathlib.Core.Bool.{Bool, true, false, cond, _&&_}
 use mathlib.Core.List.{List, [], _∷_, _++_}
 use mathlib.Core.Logic.{inl, inr}
-use Prim.Native.Nat.{ℕ, zero, suc, _%_, _<_}
+use Prim.Native.Nat.{ℕ, _%_, _<_}
 use native.Mathlib.Omega.{arith}
 use native.Mathlib.Decide.{ℕ-discrete}
 use borrow.Author.Tests.{eq-eqb, ne-eqb}
 use lib.Dec.{T, eqb}
-use lib.ListN.{length, take}
+use lib.ListN.{length}
 use Rattle.image.specs.Image.{spareOf}
 use Rattle.packet.specs.Received.{received}
-use Rattle.packet.specs.Damage.{dataSize, Refused}
+use Rattle.packet.specs.Damage.{Refused}
 use Rattle.packet.specs.declared.Reading.{Reading}
-use Rattle.head.specs.Move.{Move, started, held, whole, outOfStep, moveOf, moveNumber, movedHead}
-use Rattle.head.specs.declared.Head.{Head}
+use Rattle.head.specs.Move.{Move, started, held, whole, outOfStep, moveOf, moveNumber}
 use Rattle.asking.specs.Asking.{askPart}
 use Rattle.history.specs.Followed as one
 use Rattle.history.proofs.Laws.{run-app, after-refused}
@@ -30,24 +29,19 @@ use Rattle.adapter.specs.Calls.{addressOf, unplaced, packetAnswer}
 use Rattle.adapter.proofs.Laws.{size-refused, spare-refused, packet-refused}
 use Rattle.demands.specs.Machine.{Call, start, follow, leave, packet, subframeEnd, asks, ours, ourAnswer, ourAfter, run}
 use Rattle.demands.specs.Demand3.{Stays, AllStay, handsOut, handedOut}
-use Rattle.demands.specs.Seen.{arrivesAt, eventBy, eventOf, eventsAt, eventsOf, by, seenIn}
+use Rattle.demands.specs.Seen.{arrivesAt, eventOf, eventsAt, eventsOf, by, seenIn}
 use Rattle.demands.proofs.Serving.{Serves, view, Kept}
 use Rattle.demands.proofs.Acting.{protectedAt, event-read, event-refused, refused-not-zero, fault-answered}
 use Rattle.demands.proofs.Calling.{Arrives, arrives-is, is-arrives, passed, answer-here, acts}
 use Rattle.demands.proofs.Parts.{shown-here}
+use Rattle.head.specs.declared.Wish.{Wish}
+use Rattle.head.proofs.Moves.{moved-wish}
 
 -- ---- the protection stays
 
-moved-protection : (mv : Move) (h : Head) → movedHead mv h .wish .protection ≡ h .wish .protection
-unfolding movedHead
-moved-protection started h = refl
-moved-protection held h = refl
-moved-protection whole h = refl
-moved-protection outOfStep h = refl
-
 pub after-protection : (e : one.Event) (f : one.Followed) → one.after e f .head .wish .protection ≡ f .head .wish .protection
 unfolding one.after one.moved one.dropped one.aged
-after-protection (one.packet c b) f = moved-protection (moveOf (f .per) (f .needs) (f .head .awaited) c) (f .head)
+after-protection (one.packet c b) f = ap (λ (w : Wish). w .protection) (moved-wish (moveOf (f .per) (f .needs) (f .head .awaited) c) (f .head))
 after-protection (one.refused r) f = ap (λ (g : one.Followed). g .head .wish .protection) (sym (after-refused r f))
 after-protection one.ended f = refl
 

@@ -8,7 +8,7 @@
 --
 -- Assumes nothing.
 use mathlib.Core.Path.{_≡_, refl, sym, ap, _∙_}
-use mathlib.Core.Bool.{Bool, true, false, true≢false, not, _||_}
+use mathlib.Core.Bool.{Bool, true, false, not, _||_}
 use mathlib.Core.List.{List, [], _∷_, _++_, append-nil}
 use Prim.Native.Nat.{ℕ, suc, _+_, _*_, _/_, _%_, _^_, _<_}
 use native.Mathlib.Omega.{arith}
@@ -19,6 +19,7 @@ use mir.Val.{Fits}
 use borrow.Author.Tests.{ltb-false, leb-false, eq-eqb, ne-eqb}
 use Rattle.bits.specs.Rows.{given, done}
 use Rattle.bits.proofs.Rows.{refusal-hit, refusal-miss, refusal-none}
+use Rattle.bits.proofs.Search.{neither}
 use Rattle.runs.specs.Part.{put}
 use Rattle.runs.specs.Numbers.{four, eight}
 use Rattle.runs.proofs.Parts.{put-length}
@@ -26,10 +27,6 @@ use Rattle.field.specs.Field.{fieldOf, readNumber, readField, badField, 
 use Rattle.field.specs.declared.Field.{Field}
 use Rattle.field.specs.declared.Tdms.{Tdms}
 use Rattle.field.proofs.Bytes.{Within, bytes}
-
-neither : (a b : Bool) → (a || b) ≡ false → (a ≡ false) × (b ≡ false)
-neither true b e = absurd (true≢false e)
-neither false b e = (refl, e)
 
 -- ---- read
 

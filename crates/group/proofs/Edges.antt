@@ -5,12 +5,13 @@ use mathlib.Core.Bool.{cond}
 use Prim.Native.Nat.{ℕ}
 use lib.Dec.{ltb}
 use Rattle.bits.proofs.Rows.{further-passed}
+use Rattle.bits.specs.All.{All}
 use Rattle.bare.specs.Edges as below
 use Rattle.bare.proofs.Edges as proved
 use Rattle.head.specs.Move.{perOf, needsOf, rowOf, moveOf, moveNumber, movedHead}
 use Rattle.head.specs.declared.Head.{Head}
 use Rattle.group.specs.Group.{takenNumber}
-use Rattle.group.specs.Edges.{Edge, bare, Answers, Holds, All, steps, edges}
+use Rattle.group.specs.Edges.{Edge, bare, Answers, Holds, steps, edges}
 
 -- the answer is section 4's table's
 answers-by : (a c n : ℕ) → moveNumber (moveOf 4 4 a c) ≡ n → Answers a c n
@@ -19,7 +20,7 @@ answers-by a c n e r h z i w =
     further-passed (r .number) _ z ∙ ap₂ (λ (x y : ℕ). moveNumber (moveOf 4 4 x y)) w i ∙ e
 
 -- the rows of the bare calls, and then others
-bare-then : (es : List below.Edge) (rest : List Edge) → below.All below.Holds es → All Holds rest → All Holds (map bare es ++ rest)
+bare-then : (es : List below.Edge) (rest : List Edge) → All below.Holds es → All Holds rest → All Holds (map bare es ++ rest)
 bare-then [] rest h k = k
 bare-then (e ∷ es) rest h k = (h .0, bare-then es rest (h .1) k)
 

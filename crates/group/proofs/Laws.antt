@@ -3,9 +3,10 @@
 --   Fits mv c b x          a good slot, a packet's bytes, and the place that the row says
 --   row-fits               the row of section 4's table fits what is awaited and what came
 --   moved-size, moved-good, moved-head          the slot stays a good slot; its head
---   started-room, held-room, whole-room, whole-stored, whole-group    the rooms after each row: what they begin with
---   started-stored, held-stored                 and what stays as it was
---   dropped-*              the same of a drop
+--   started-room, held-room, whole-group        what the room begins with after each row: the group's bytes so far, or all of them
+--   whole-room, whole-stored                    after a whole group one room is 0 again, and the other keeps what was in it
+--   started-stored, held-stored                 before it, the stored group stays as it was
+--   dropped-size, dropped-head, dropped-room, dropped-stored    the same of a drop
 --
 -- Assumes nothing.
 use mathlib.Core.Path.{_≡_, refl, ap, ap₂, _∙_}

@@ -25,11 +25,6 @@ Holds (bare e) = below.Holds e
 Holds (answers a c n) = Answers a c n
 Holds (marks a c n) = Answers a c n × ((h : Head) → h .awaited ≡ a → movedHead (rowAt h c) h .gap ≡ 1)
 
--- each of a list
-abbrev pub All : (Edge → Type 0) → List Edge → Type 0
-All P [] = Unit {0}
-All P (e ∷ es) = P e × All P es
-
 -- P10: awaiting 2, index 2 is held. P11: awaiting 2, index 0 starts and marks a gap. P12: awaiting 0, index 1 is 32
 abbrev pub steps : List Edge
 steps = answers 2 2 2 ∷ marks 2 0 1 ∷ answers 0 1 32 ∷ []

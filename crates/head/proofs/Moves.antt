@@ -6,7 +6,7 @@
 --   one-whole                   for groups of one it is always whole
 --   move-modulo                 an index counts modulo the packets of a group; move-row, move-whole: one that is below that
 --   per-bounds, needs-bounds    the two numbers of a slot; place-below: a place is below the first of them; row-at
---   moved-sizes, dropped-sizes, aged-sizes    what a head changes to has the same
+--   moved-sizes, dropped-sizes, aged-sizes    what a head changes to has the same; moved-wish: and what was wished
 --
 -- Assumes nothing.
 use mathlib.Core.Path.{_≡_, refl, ap}
@@ -139,3 +139,11 @@ dropped-sizes h = (refl, refl)
 pub aged-sizes : (h : Head) → SameSizes (agedHead h) h
 unfolding perOf needsOf
 aged-sizes h = (refl, refl)
+
+-- no row changes what was wished
+pub moved-wish : (mv : Move) (h : Head) → movedHead mv h .wish ≡ h .wish
+unfolding movedHead
+moved-wish started h = refl
+moved-wish held h = refl
+moved-wish whole h = refl
+moved-wish outOfStep h = refl

@@ -23,9 +23,9 @@ use native.Mathlib.Decide.{decLe}
 use lib.Dec.{leb, eqb, lit<}
 use borrow.Author.Tests.{le-leb, lt-leb}
 use Rattle.head.specs.Head.{wishOf, newHead, shown}
-use Rattle.head.specs.Move.{Move, started, held, whole, outOfStep, perOf, needsOf, moveOf, movedHead}
+use Rattle.head.specs.Move.{Move, whole, perOf, needsOf, moveOf, movedHead}
 use Rattle.head.specs.declared.Head.{Head}
-use Rattle.head.proofs.Moves.{move-whole}
+use Rattle.head.proofs.Moves.{move-whole, moved-wish}
 use Rattle.head.specs.declared.Wish.{Wish}
 use Rattle.history.specs.Followed.{Followed, Event, packet, refused, ended, joined, moved, dropped, aged, after, followed, run}
 use Rattle.history.specs.Sent.{Sent, Arrival, came, event, events, InOrder, CameIn, Readable, In, Rising}
@@ -121,19 +121,12 @@ last-stands sent n h f all wide o i l x =
 
 -- ---- what ask shows
 
-limit-moved : (mv : Move) (h : Head) → movedHead mv h .wish .limit ≡ h .wish .limit
-unfolding movedHead
-limit-moved started h = refl
-limit-moved held h = refl
-limit-moved whole h = refl
-limit-moved outOfStep h = refl
-
 limit-run : (es : List Event) (f : Followed) → run es f .head .wish .limit ≡ f .head .wish .limit
 unfolding run after moved dropped aged
 limit-run [] f = refl
 limit-run (packet c bytes ∷ es) f =
     let mv = moveOf (f .per) (f .needs) (f .head .awaited) c in
-    limit-run es (moved mv (c % f .per) bytes f) ∙ limit-moved mv (f .head)
+    limit-run es (moved mv (c % f .per) bytes f) ∙ ap (λ (w : Wish). w .limit) (moved-wish mv (f .head))
 limit-run (refused r ∷ es) f =
     subst (λ (g : Followed). run es g .head .wish .limit ≡ f .head .wish .limit) (after-refused r f) (limit-run es (dropped f))
 limit-run (ended ∷ es) f = limit-run es (aged f)

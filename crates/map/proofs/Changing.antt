@@ -11,7 +11,7 @@
 --
 -- Assumes nothing.
 use mathlib.Core.Path.{_≡_, refl, sym, ap, ap₂, _∙_, subst}
-use mathlib.Core.Bool.{Bool, true, false, cond, _&&_, _||_}
+use mathlib.Core.Bool.{Bool, true, false, cond, _&&_, _||_, or-true}
 use mathlib.Core.List.{List, _∷_, _++_}
 use mathlib.Core.Logic.{_⊎_, inl, inr}
 use Prim.Native.Nat.{ℕ, zero, suc, _+_, _-_, _*_, _≤_, _<_}
@@ -22,16 +22,16 @@ use lib.Dec.{leb, ltb, eqb, lit<, lit≤}
 use lib.ListN.{length, take, length-append}
 use lib.Seq.{take-all, take-at, drop-at}
 use Rattle.bits.specs.Bits.{blank}
-use Rattle.bits.proofs.Storing.{blank-length, drop-blank}
+use Rattle.bits.proofs.Storing.{blank-length}
 use Rattle.runs.specs.Part.{part, put}
-use Rattle.runs.proofs.Parts.{part-length, put-length, blank-at}
+use Rattle.runs.proofs.Parts.{part-length, blank-at}
 use Rattle.runs.specs.Numbers.{four, fourAt, eight, eightAt}
 use Rattle.field.specs.Field.{deletes}
 use Rattle.structure.specs.Structure.{most, structureSize, allOnes, headOf, withHead, nth, withNth, markedHead, beginning, turnOf, spoiled, said, complete, settledHead}
 use Rattle.map.specs.Map.{ids, mapSize, blockSize, framesOf, blockAt, withBlock, structureAt, stayed, settled, forced, changed, eachFrom, changedFrom, spoiledBoth}
 use Rattle.structure.specs.declared.Structure.{Structure}
 use Rattle.structure.specs.declared.Turn.the-variants.{Begins}
-use Rattle.map.proofs.Places.{structure-length, block-length, block-structure, block-same, block-other, block-frames, with-block-length}
+use Rattle.map.proofs.Places.{block-length, block-structure, block-same, block-other, block-frames, with-block-length}
 use Rattle.structure.proofs.Gathering.{Holds, Empty, Alike, alike-also, alike-holds, marked-alike, head-stored, nth-head, with-head-length}
 use Rattle.structure.proofs.Kept.{spoiled-length, spoiled-none, spoiled-some, spoiled-certain, spoiled-last, spoiled-begins}
 use Rattle.structure.proofs.Runs.{Stuck, spoils, spoiled-empty}
@@ -54,10 +54,6 @@ unfolding blank
 take-blank zero m h = refl
 take-blank (suc n) zero h = absurd (omega arith)
 take-blank (suc n) (suc m) h = ap (λ (x : List ℕ). 0 ∷ x) (take-blank n m (omega arith))
-
-pub part-blank : (at n k : ℕ) → at + n ≤ k → part at n (blank k) ≡ blank n
-unfolding part
-part-blank at n k h = ap (take n) (drop-blank at k) ∙ take-blank n (k - at) (omega arith)
 
 -- ---- one structure at a change
 
@@ -396,7 +392,3 @@ module _ (sure : Bool) (m : List ℕ) (l : length m ≡ mapSize) (k : ℕ) (hk :
   pub goes-out : headOf (structureAt k 1 m) .deleted ≡ 1 → structureAt k 0 (changedFrom ids 0 sure m) ≡ settled sure (structureAt k 1 m)
   unfolding said
   goes-out d = by-said true ((λ i. ltb 0 (headOf (structureAt k 1 m) .fields) || eqb (d i) 1) ∙ or-true (ltb 0 (headOf (structureAt k 1 m) .fields)))
-    where
-      or-true : (b : Bool) → (b || true) ≡ true
-      or-true true = refl
-      or-true false = refl

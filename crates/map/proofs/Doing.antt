@@ -1,6 +1,5 @@
 -- What the calls' code does, against their definitions.
 --
---   refused, accepted            a call that answers first and changes the bytes after: its answer with the bytes after
 --   start-refused, start-passed  start's one row, by the test of the length
 --   show-*, heard-*, known-*     what is read, by the answer of the rows
 --   list-20, list-rest           the rows of a list; out-size: the length where the first does not hold
@@ -21,11 +20,12 @@ use native.Mathlib.Numerals.{add-one}
 use borrow.Author.Tests.{eq-eqb, ne-eqb, eqb-true, not-false}
 use lib.Dec.{eqb}
 use lib.ListN.{length, take, getD, set}
-use Rattle.bits.specs.Rows.{Row, row, refusal, done}
+use Rattle.bits.specs.Rows.{Row, row, refusal}
 use Rattle.bits.specs.Bits.{sent}
 use Rattle.bits.proofs.Runs.{digit-lt, sent-below}
 use Rattle.bits.proofs.Storing.{stored, agreed}
-use Rattle.bits.proofs.Rows.{refusal-hit, refusal-miss, done-refused, done-passed}
+use Rattle.bits.proofs.Rows.{refusal-hit, refusal-miss}
+use Rattle.bits.proofs.Search.{neither}
 use Rattle.field.specs.Field.{fieldSize, bitsAt, fieldOf, panning}
 use Rattle.field.specs.declared.Field.{Field}
 use Rattle.frames.specs.Counts.{changing, again, skips, framesAfter, allHeard}
@@ -36,16 +36,7 @@ use Rattle.map.specs.declared.Shown.{Shown}
 use Rattle.map.specs.declared.Gathered.{Gathered}
 use Rattle.map.specs.declared.Reach.{Reach}
 use Rattle.map.proofs.Changing.{from-length, gap-length}
-use Rattle.map.proofs.Looking.{neither, take-fit, map-size, field-size}
-
--- ---- the answer first, then the change
-
-module _ (r n : ℕ) (after before : List ℕ) (e : r ≡ n) where
-  pub refused : (r ≡ 0 → ⊥) → (r ≡ n) × (before ≡ done n after before)
-  refused ne = (e, sym (done-refused n after before (λ z. ne (e ∙ z))))
-
-  pub accepted : (now : List ℕ) → r ≡ 0 → now ≡ after → (0 ≡ n) × (now ≡ done n after before)
-  accepted now z q = (sym z ∙ e, q ∙ sym (done-passed n after before (sym e ∙ z)))
+use Rattle.map.proofs.Looking.{take-fit, map-size, field-size}
 
 pub start-refused : (m : List ℕ) → (length m ≡ mapSize → ⊥) → 20 ≡ startAnswer m
 unfolding startAnswer

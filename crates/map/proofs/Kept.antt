@@ -15,10 +15,9 @@ use borrow.Author.Tests.{eq-eqb, eqb-true, eqb-false}
 use lib.Dec.{leb, eqb, lit<, lit≤}
 use lib.ListN.{length}
 use Rattle.bits.specs.Bits.{blank}
-use Rattle.bits.specs.Rows.{done}
-use Rattle.bits.proofs.Rows.{done-refused, done-passed}
+use Rattle.bits.proofs.Rows.{done-refused, done-passed, done-either}
 use Rattle.bits.proofs.Search.{and-left, and-right, all-at, all-each}
-use Rattle.runs.proofs.Parts.{blank-at}
+use Rattle.runs.proofs.Parts.{blank-at, part-blank}
 use Rattle.field.specs.Field.{fieldOf, deletes, panning}
 use Rattle.field.specs.declared.Field.{Field}
 use Rattle.field.proofs.Bytes.{Within}
@@ -32,14 +31,8 @@ use Rattle.map.specs.Map.{ids, mapSize, blockSize, framesOf, withFrames,
 use Rattle.map.specs.Calls.{startAfter, startAnswer, takeAnswer, changedTo, upTo, putIn, takenIn, frameTaken, takeAfter}
 use Rattle.frames.proofs.Distances.{after-good}
 use Rattle.map.proofs.Places.{structure-length, with-structure-length, structure-same, structure-other, frames-kept, with-frames-length, structures-kept, frames-stored}
-use Rattle.map.proofs.Changing.{blank-empty, part-blank, from-frames, gap-frames, gap-structure, force-behind, cleared}
+use Rattle.map.proofs.Changing.{blank-empty, from-frames, gap-frames, gap-structure, force-behind, cleared}
 use Rattle.map.proofs.Doing.{start-passed, fits, changed-to-length, up-to-length}
-
--- the bytes after, by cases of the answer
-done-either : (P : List ℕ → Type 0) (n : ℕ) (after before : List ℕ) → (n ≡ 0 → P after) → P before → P (done n after before)
-unfolding done
-done-either P zero after before a b = a refl
-done-either P (suc n) after before a b = b
 
 pub refused-same : (m f : List ℕ) → (takeAnswer m f ≡ 0 → ⊥) → takeAfter m f ≡ m
 unfolding takeAfter

@@ -6,7 +6,7 @@
 --   comes-then, settled-then, stands-then    a component of a set, by the tests on the way
 --   count-on, count-end                   a turn and the end of the loop that counts them
 --   many-*                   one component too many, by the tests on the way
---   neither, take-20 ..      the rows of a field taken in; idle: panning vectors, or a frame that was heard, which row 45 passes over
+--   take-20 ..               the rows of a field taken in; idle: panning vectors, or a frame that was heard, which row 45 passes over
 --   mark-*, found-*                       what is shown of a component, by the tests on the way
 --   which-then, behind-then, force-then, shown-then   and of which structure
 --   heard-*, known-then                   what was heard of it, and how far it reaches
@@ -24,6 +24,7 @@ use lib.ListN.{length, take, drop}
 use Rattle.bits.specs.Rows.{Row, row, refusal}
 use Rattle.bits.specs.Search.{all}
 use Rattle.bits.proofs.Rows.{refusal-hit, refusal-miss, refusal-passed, refusal-none}
+use Rattle.bits.proofs.Search.{neither}
 use Rattle.runs.specs.Part.{part}
 use Rattle.field.specs.Field.{fieldSize, fieldOf, badField, deletes, panning}
 use Rattle.field.specs.declared.Field.{Field}
@@ -158,10 +159,6 @@ module _ (m : List ℕ) (r : Field) (change : Bool) (e : change ≡ changing (fr
     many-counted p n en = ap (leb 128) en ∙ by-tests false false d p
 
 -- ---- a field taken in, row by row
-
-pub neither : (a b : Bool) → (a || b) ≡ false → (a ≡ false) × (b ≡ false)
-neither true b e = absurd (true≢false e)
-neither false b e = (refl, e)
 
 idle-over : (p a t : Bool) → (p || a) ≡ true → (not p && (not a && t)) ≡ false
 idle-over true a t e = refl

@@ -3,7 +3,9 @@
 --   move-none, move-turn, move-end         the loop that moves a structure down
 --   settled-stored, stayed-sure, stayed-unsure    what is announced of a component comes into force, or its structure stays, by the tests
 --   change-said, change-unsaid             one component at a change
---   block-span, change-turn, change-end    the loop over all components
+--   span, block-span                       the part of the map that is lent of one component
+--   each-turn, each-end                    a turn and the end of the loop over all components
+--   both-spoiled                           one component where frames were missed
 --   put-gathers, put-absent, put-deletes   a structure with a field taken in, by the tests
 --   structure-given                        the part of the map that is lent for it
 --

@@ -17,12 +17,11 @@ use Rattle.bits.specs.Bits.{blank}
 use Rattle.bits.proofs.Rows.{refusal-miss, refusal-none, done-passed}
 use Rattle.bits.proofs.Storing.{blank-length}
 use Rattle.runs.proofs.Parts.{blank-at}
-use Rattle.bits.proofs.Search.{and-left, and-right}
-use Rattle.field.specs.Field.{fieldSize, fieldOf, fieldBytes, badField, badTdms, deletes, panning}
+use Rattle.bits.proofs.Search.{and-right, and-no}
+use Rattle.field.specs.Field.{fieldSize, fieldOf, fieldBytes, badField, deletes, panning}
 use Rattle.field.specs.declared.Field.{Field}
 use Rattle.field.proofs.RoundTrip.{written-length}
 use Rattle.structure.specs.Structure.{headOf, certainly}
-use Rattle.structure.proofs.Gathering.{Empty}
 use Rattle.frames.specs.Counts.{changes, changing, again, allHeard}
 use Rattle.map.specs.Map.{ids, mapSize, framesAt, structureAt, framesOf, good, inForce, announced, stands, comes, present, components, counted}
 use Rattle.map.specs.Calls.{startAnswer, startAfter, tooMany, takeRows, takeAnswer, takeAfter}
@@ -32,7 +31,7 @@ use Rattle.multiplex.specs.Broadcast.{countAt, epoch, some}
 use Rattle.multiplex.specs.Heard.{ours}
 use Rattle.multiplex.specs.Air.{Carries, new, old, gone, vectors, Air, timed, carriedAs, fieldOn, coming, InTurn, Orderly}
 use Rattle.multiplex.specs.Air as air
-use Rattle.multiplex.specs.Sound.{kept, anyBefore, missedBefore, Listener}
+use Rattle.multiplex.specs.Sound.{kept, Listener}
 use Rattle.multiplex.specs.Finding.{Near}
 use Rattle.multiplex.proofs.Counting.{counted-less}
 use Rattle.multiplex.proofs.Listening.{Known}
@@ -174,20 +173,8 @@ module _ (a : Air) (w : Orderly a) (hears : ℕ → Bool) (near-by : Near hears)
   fit-as : (x : Carries) → InTurn a t x → badField (carriedAs a t x) ≡ false
   unfolding InTurn carriedAs badField
   fit-as (new k i l) law = and-no (not (eqb k panning)) (w .linked (suc (epoch (timed a) t)) k (law .0) .fit i (law .1 .0) .pairs)
-    where
-      and-no : {y : Bool} (x : Bool) → y ≡ false → (x && y) ≡ false
-      and-no true e = e
-      and-no false e = refl
   fit-as (old k i l) law = and-no (not (eqb k panning)) (w .linked (epoch (timed a) t) k (law .0) .fit i (law .1 .0) .pairs)
-    where
-      and-no : {y : Bool} (x : Bool) → y ≡ false → (x && y) ≡ false
-      and-no true e = e
-      and-no false e = refl
   fit-as (gone f k tdms l) law = and-no (not (eqb k panning)) (law .1 .1 .1 .1 .1 .0)
-    where
-      and-no : {y : Bool} (x : Bool) → y ≡ false → (x && y) ≡ false
-      and-no true e = e
-      and-no false e = refl
   fit-as (vectors f tdms l) law = refl
 
   pub accepted : length m ≡ mapSize → good m ≡ true → takeAnswer m (fieldBytes (fieldOn a t)) ≡ 0

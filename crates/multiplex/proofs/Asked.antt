@@ -12,8 +12,8 @@ use mathlib.Core.Logic.{_⊎_, inl, inr}
 use Prim.Native.Nat.{ℕ, zero, suc, _+_, _-_, _*_, _/_, _≤_, _<_}
 use native.Mathlib.Omega.{arith}
 use native.Mathlib.Decide.{ℕ-discrete}
-use borrow.Author.Tests.{eq-eqb, ne-eqb, le-ltb, lt-ltb, ltb-true, ltb-false}
-use lib.Dec.{leb, ltb, eqb}
+use borrow.Author.Tests.{eq-eqb, ne-eqb, le-ltb, lt-ltb, ltb-true, ltb-false, not-false}
+use lib.Dec.{ltb, eqb}
 use lib.ListN.{length}
 use Rattle.bits.proofs.Rows.{refusal-passed}
 use Rattle.structure.specs.Structure.{headOf, said, complete, settledHead}
@@ -48,11 +48,7 @@ module _ (m : List ℕ) (id c : ℕ) (zero-number : shown m id c .number ≡ 0) 
   unfolding showAnswer
   shown-good =
       let first = refusal-passed (not (eqb (length m) mapSize)) 20 _ (omega arith) answered .1 in
-      flipped (good m) (refusal-passed (not (good m)) 34 [] (omega arith) first .0)
-    where
-      flipped : (b : Bool) → not b ≡ false → b ≡ true
-      flipped true e = refl
-      flipped false e = sym e
+      not-false (good m) (refusal-passed (not (good m)) 34 [] (omega arith) first .0)
 
   pub shown-whole : (shownFields m id c ≡ [] → ⊥) → thenHead m id c .whole ≡ 1
   unfolding shownFields shown shownBy shownAt foundOf fieldsFrom

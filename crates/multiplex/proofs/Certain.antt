@@ -5,7 +5,7 @@
 --
 -- Assumes nothing.
 use mathlib.Core.Path.{_≡_, refl, sym, ap, _∙_, subst}
-use mathlib.Core.Bool.{Bool, true, false, cond, _&&_, _||_}
+use mathlib.Core.Bool.{Bool, true, false, cond, _&&_}
 use mathlib.Core.List.{List, []}
 use mathlib.Core.Logic.{_⊎_, inl, inr}
 use Prim.Native.Nat.{ℕ, suc, _+_, _-_, _≤_, _<_}
@@ -13,7 +13,7 @@ use native.Mathlib.Omega.{arith}
 use borrow.Author.Tests.{eq-eqb, lt-ltb, le-ltb}
 use lib.Dec.{T, leb, ltb, eqb}
 use lib.ListN.{length}
-use Rattle.bits.proofs.Search.{and-left, and-right}
+use Rattle.bits.proofs.Search.{and-left, and-right, neither-left, neither-right}
 use Rattle.structure.specs.Structure.{most, headOf, said, complete, settledHead}
 use Rattle.structure.specs.declared.Structure.{Structure}
 use Rattle.structure.proofs.Gathering.{Holds}
@@ -34,26 +34,18 @@ use Rattle.multiplex.proofs.Soundness.{State, silent, since-one, state-
 
 -- ---- by what is held
 
-or-left : (x y : Bool) → (x || y) ≡ false → x ≡ false
-or-left true y z = z
-or-left false y z = refl
-
-or-right : (x y : Bool) → (x || y) ≡ false → y ≡ false
-or-right true y z = absurd (subst T z tt)
-or-right false y z = z
-
 -- nothing was announced
 unsaid-silent : (a : Air) (hears : ℕ → Bool) (n e id due count links : ℕ) (g u : Bool) (s : List ℕ) → Next a hears n e id due count links g u s
     → said (headOf s) ≡ false → Silent a hears n e id
 unfolding said
 unsaid-silent a hears n e id due count links g u s (none em x y) z = y
 unsaid-silent a hears n e id due count links g u s (delete d c) z =
-    absurd (subst T (sym (eq-eqb (headOf s .deleted) 1 (d .deleted)) ∙ or-right (ltb 0 (headOf s .fields)) (eqb (headOf s .deleted) 1) z) tt)
-unsaid-silent a hears n e id due count links g u s (piece b p q) z = absurd (subst T (sym (lt-ltb 0 (headOf s .fields) p) ∙ or-left _ _ z) tt)
+    absurd (subst T (sym (eq-eqb (headOf s .deleted) 1 (d .deleted)) ∙ neither-right (ltb 0 (headOf s .fields)) (eqb (headOf s .deleted) 1) z) tt)
+unsaid-silent a hears n e id due count links g u s (piece b p q) z = absurd (subst T (sym (lt-ltb 0 (headOf s .fields) p) ∙ neither-left _ _ z) tt)
 unsaid-silent a hears n e id due count links g u s (sure k pos le c d hl la h) z =
-    absurd (subst T (sym (lt-ltb 0 (headOf s .fields) (omega (arith, h .fields, pos))) ∙ or-left (ltb 0 (headOf s .fields)) _ z) tt)
+    absurd (subst T (sym (lt-ltb 0 (headOf s .fields) (omega (arith, h .fields, pos))) ∙ neither-left (ltb 0 (headOf s .fields)) _ z) tt)
 unsaid-silent a hears n e id due count links g u s (full l hl pos la h) z =
-    absurd (subst T (sym (lt-ltb 0 (headOf s .fields) (omega (arith, h .fields, pos))) ∙ or-left (ltb 0 (headOf s .fields)) _ z) tt)
+    absurd (subst T (sym (lt-ltb 0 (headOf s .fields) (omega (arith, h .fields, pos))) ∙ neither-left (ltb 0 (headOf s .fields)) _ z) tt)
 
 -- an announced structure that is shown is all there: it was known to be whole, or nothing more can come of it
 record Complete (s zs : List ℕ) (su : Bool) : Type 0 where

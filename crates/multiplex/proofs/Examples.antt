@@ -1,5 +1,6 @@
 -- The example broadcast meets every hypothesis of the request's own case, and what any machine that shows what is in force shows of it.
 --
+--   near-every           who hears every frame misses none
 --   in-place             one field behind another, where it is known which
 --   example-turns        every frame carries what is in turn
 --   example-followed
@@ -20,10 +21,16 @@ use Rattle.multiplex.specs.Broadcast.{countAt, change, epoch, begun, Lin
 use Rattle.multiplex.specs.Example.{one, two, other, none as ones, structures, pick, script, told, example}
 use Rattle.multiplex.specs.Heard.{Machine}
 use Rattle.multiplex.specs.Air.{Carries, gone, vectors, timed, inForce, newIn, oldIn, goneIn, turn, later, same, lastOld, lastNew, linkOf, linksOld, linksNew, newBefore, newTo, goneBefore, InTurn, Said, described, deleted, Orderly}
-use Rattle.multiplex.specs.Sound.{kept, Word, unheard, there, comingIn, comingBefore, comingTo, over as later-word}
-use Rattle.multiplex.specs.Finding.{first, roundsOf, overChange, every, Followed, ShowsInForce}
+use Rattle.multiplex.specs.Sound.{kept, Word, unheard, there, comingIn, comingBefore, comingTo, over as later-word, missedBefore}
+use Rattle.multiplex.specs.Finding.{first, roundsOf, overChange, every, Followed, ShowsInForce, Near}
 use Rattle.multiplex.proofs.Keeping.{none-linked, two-linked, fitting, few-seven}
 use Rattle.multiplex.proofs.Denied.{unsaid}
+
+-- none is missed
+pub near-every : Near every
+unfolding missedBefore
+near-every zero h b = lit≤ tt
+near-every (suc t) h b = lit≤ tt
 
 -- ---- structures
 

@@ -32,16 +32,12 @@ use Rattle.multiplex.specs.Finding.{Near, every}
 use Rattle.multiplex.specs.Announcing.{heardNews, Announces}
 use Rattle.multiplex.proofs.Distances.{epoch-mono}
 use Rattle.multiplex.proofs.Keeping.{none-linked, one-linked, three-linked, fitting, few-seven}
-use Rattle.multiplex.proofs.Steady.{lists as both, same-all, steady, steady-orderly}
+use Rattle.multiplex.proofs.Steady.{lists as both, steady, steady-orderly}
 use Rattle.multiplex.proofs.Denied.{not-first, unsaid}
-use Rattle.multiplex.proofs.Examples.{in-place, example-orderly}
+use Rattle.multiplex.proofs.Examples.{in-place, example-orderly, near-every}
+use Rattle.multiplex.proofs.Rounding.{same-all}
 
 -- ---- what is heard
-
-near-every : Near every
-unfolding missedBefore
-near-every zero h b = lit≤ tt
-near-every (suc t) h b = lit≤ tt
 
 -- all but frame 1
 unfoldable pub but-one : ℕ → Bool

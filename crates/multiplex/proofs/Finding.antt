@@ -6,24 +6,23 @@
 --
 -- Assumes nothing.
 use mathlib.Core.Path.{_≡_, refl, sym, ap, ap₂, _∙_, subst}
-use mathlib.Core.Bool.{Bool, true, false, cond, not, _&&_, _||_}
+use mathlib.Core.Bool.{Bool, true, false, cond, not, _&&_, _||_, and-true, or-true}
 use mathlib.Core.List.{List, []}
 use mathlib.Core.Logic.{_⊎_, inl, inr}
-use Prim.Native.Nat.{ℕ, zero, suc, _+_, _-_, _≤_, _<_}
+use Prim.Native.Nat.{ℕ, zero, suc, _-_, _≤_, _<_}
 use native.Mathlib.Omega.{arith}
 use borrow.Author.Tests.{le-ltb, lt-ltb}
-use lib.Dec.{T, leb, ltb, eqb}
+use lib.Dec.{ltb, eqb}
 use lib.ListN.{length}
-use Rattle.bits.proofs.Search.{and-left, and-right}
+use Rattle.bits.proofs.Search.{and-left, and-right, clash}
 use Rattle.structure.specs.Structure.{most, headOf, said}
-use Rattle.structure.proofs.Gathering.{Holds, Empty}
+use Rattle.structure.proofs.Gathering.{Holds}
 use Rattle.frames.specs.Counts.{changing, allHeard}
-use Rattle.frames.specs.declared.Frames.{Frames}
 use Rattle.map.specs.Map.{ids, structureAt, framesOf, announced}
-use Rattle.multiplex.specs.Broadcast.{countAt, change, epoch, begun, Linked}
+use Rattle.multiplex.specs.Broadcast.{countAt, change, epoch, begun}
 use Rattle.multiplex.specs.Broadcast as broadcast
 use Rattle.multiplex.specs.Heard.{ours}
-use Rattle.multiplex.specs.Air.{Air, timed, newIn, oldIn, later, lastOld, lastNew, linkOf, linksNew, newTo, goneTo, inForce, coming, same, Said, nothing, described, deleted, Orderly}
+use Rattle.multiplex.specs.Air.{Air, timed, newIn, oldIn, later, lastOld, lastNew, linkOf, linksNew, newTo, goneTo, inForce, coming, Said, nothing, described, deleted, Orderly}
 use Rattle.multiplex.specs.Sound.{kept, missedBefore, anyBefore, Word, unheard, absent, there, comingTo}
 use Rattle.multiplex.specs.Finding.{Near, aloneBefore, found, roundsTo, newRoundsTo, whollyBefore, news, overChange, readyBefore, readyTo, Rightly, Finds, every, Followed, ShowsInForce}
 use Rattle.multiplex.proofs.Counting.{heard-all}
@@ -38,9 +37,6 @@ use Rattle.multiplex.proofs.Seeing as seeing
 use Rattle.multiplex.proofs.Asked.{changing-now}
 use Rattle.multiplex.proofs.Accepting.{taken}
 use Rattle.multiplex.proofs.Telling.{Kept, kept-at}
-
-clash : {A : Type 0} → true ≡ false → A
-clash e = absurd (subst T e tt)
 
 force-of : (xs : List ℕ) (due : ℕ) (F : List ℕ) → Right xs due F → Force F xs
 force-of xs due F (rounding.absent z e) = seeing.absent z e
@@ -97,11 +93,7 @@ module _ (a : Air) (w : Orderly a) (hears : ℕ → Bool) (t : ℕ) (m : List �
 
     all-heard : allHeard (framesOf m) ≡ k .unbroken
     all-heard =
-        ap allHeard (h .frames) ∙ heard-all (timed a) t (k .unbroken) _ ∙ ap (λ (b : Bool). k .unbroken && b) q ∙ and-yes (k .unbroken)
-      where
-        and-yes : (b : Bool) → (b && true) ≡ b
-        and-yes true = refl
-        and-yes false = refl
+        ap allHeard (h .frames) ∙ heard-all (timed a) t (k .unbroken) _ ∙ ap (λ (b : Bool). k .unbroken && b) q ∙ and-true (k .unbroken)
 
     -- nothing is announced
     unsaid-seen : headOf A .fields ≡ 0 → headOf A .deleted ≡ 0 → (due : ℕ) → zs ≡ a .config e id → Right (a .config e id) due (structureAt id 0 m) → Seen m id c zs
@@ -122,12 +114,8 @@ module _ (a : Air) (w : Orderly a) (hears : ℕ → Bool) (t : ℕ) (m : List �
     deleted-seen d z =
         subst (Seen m id c) (sym z)
         (seen-deleted m id c (h .size) (k .all-good)
-        (ap₂ (λ (b : Bool) (n : ℕ). b && (ltb 0 (headOf A .fields) || eqb n 1)) now (d .deleted) ∙ or-yes (ltb 0 (headOf A .fields)))
+        (ap₂ (λ (b : Bool) (n : ℕ). b && (ltb 0 (headOf A .fields) || eqb n 1)) now (d .deleted) ∙ or-true (ltb 0 (headOf A .fields)))
         (k .unbroken) all-heard (d .fields) (d .whole))
-      where
-        or-yes : (b : Bool) → (b || true) ≡ true
-        or-yes true = refl
-        or-yes false = refl
 
     settled-by : Said a t id → Settled (inForce a t id) zs (newTo a id t) (goneTo a id t)
     settled-by (nothing z g s) = stays-so z g s

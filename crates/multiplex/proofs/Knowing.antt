@@ -13,15 +13,16 @@
 --
 -- Assumes nothing.
 use mathlib.Core.Path.{_≡_, refl, sym, ap, _∙_, subst}
-use mathlib.Core.Bool.{Bool, true, false, cond, not, _&&_, _||_}
+use mathlib.Core.Bool.{Bool, true, false, cond, not, _&&_, _||_, or-true, and-false}
 use mathlib.Core.List.{List, [], _∷_}
 use mathlib.Core.Logic.{_⊎_, inl, inr}
 use Prim.Native.Nat.{ℕ, zero, suc, _+_, _-_, _^_, _≤_, _<_}
 use native.Mathlib.Omega.{arith}
 use native.Mathlib.Decide.{ℕ-discrete, decLt}
 use borrow.Author.Tests.{eq-eqb, ne-eqb, lt-ltb, le-ltb}
-use lib.Dec.{T, ltb, eqb, lit<}
+use lib.Dec.{ltb, eqb, lit<}
 use lib.ListN.{length, getD, drop}
+use Rattle.bits.proofs.Search.{clash}
 use Rattle.structure.specs.Structure.{most, structureSize, headOf, stored, gathered, spoiled, noneHead, deletion}
 use Rattle.structure.specs.declared.Structure.{Structure}
 use Rattle.structure.proofs.Gathering.{Holds, Empty, alike-holds, alike-empty, begun, begun-head}
@@ -72,9 +73,6 @@ pub data Next (a : Air) (hears : ℕ → Bool) (n e id due count links : ℕ) (g
       → Next a hears n e id due count links gone u s
   full : (l : ℕ) → l ≤ 1 → 0 < length (a .config (suc e) id) → Lasts s due → Holds s (length (a .config (suc e) id)) (a .config (suc e) id) 1 l
       → Next a hears n e id due count links gone u s
-
-clash : {A : Type 0} → true ≡ false → A
-clash e = absurd (subst T e tt)
 
 -- ---- heads
 
@@ -299,19 +297,11 @@ listed : (xs : List ℕ) (i t : ℕ) → i < length xs → getD xs i 0 ≡ t →
 unfolding lists
 listed [] i t h e = absurd (omega arith)
 listed (x ∷ xs) zero t h e = ap (λ (b : Bool). b || lists xs t) (eq-eqb x t e)
-listed (x ∷ xs) (suc i) t h e = ap (λ (b : Bool). eqb x t || b) (listed xs i t (omega arith) e) ∙ or-yes (eqb x t)
-  where
-    or-yes : (b : Bool) → (b || true) ≡ true
-    or-yes true = refl
-    or-yes false = refl
+listed (x ∷ xs) (suc i) t h e = ap (λ (b : Bool). eqb x t || b) (listed xs i t (omega arith) e) ∙ or-true (eqb x t)
 
 listed-undenied : (a : Air) (n id i l : ℕ) (xs : List ℕ) → lists xs (getD (inForce a n id) i 0) ≡ true → denies a n id xs (old id i l) ≡ false
 unfolding denies
-listed-undenied a n id i l xs e = ap (λ (b : Bool). eqb id id && not b) e ∙ and-no (eqb id id)
-  where
-    and-no : (b : Bool) → (b && false) ≡ false
-    and-no true = refl
-    and-no false = refl
+listed-undenied a n id i l xs e = ap (λ (b : Bool). eqb id id && not b) e ∙ and-false (eqb id id)
 
 module _ (a : Air) (hears : ℕ → Bool) (n e id : ℕ) (now : epoch (timed a) n ≡ e) where
   past-now : Past a (suc n) e

@@ -8,14 +8,15 @@
 --
 -- Assumes nothing.
 use mathlib.Core.Path.{_≡_, refl, sym, ap, ap₂, _∙_, subst}
-use mathlib.Core.Bool.{Bool, true, false, cond, not, _&&_, _||_}
+use mathlib.Core.Bool.{Bool, true, false, cond, not, _&&_, _||_, or-false, or-true, and-false}
 use mathlib.Core.List.{List, []}
 use Prim.Native.Nat.{ℕ, zero, suc, _+_, _-_, _<_}
 use native.Mathlib.Omega.{arith}
 use native.Mathlib.Decide.{ℕ-discrete}
 use borrow.Author.Tests.{eq-eqb, ne-eqb}
-use lib.Dec.{T, ltb, eqb, lit<}
+use lib.Dec.{ltb, eqb, lit<}
 use lib.ListN.{length, getD}
+use Rattle.bits.proofs.Search.{clash}
 use Rattle.field.specs.Field.{panning}
 use Rattle.structure.specs.Structure.{structureSize, headOf, gathered, absence, deletion, certainly}
 use Rattle.structure.proofs.Kept.{gathered-length, absence-length, absence-empty, deletion-length}
@@ -25,13 +26,13 @@ use Rattle.map.specs.Map.{ids, mapSize, structureAt, withStructure, framesOf, w
 use Rattle.map.specs.Calls.{putIn, takenIn}
 use Rattle.map.proofs.Places.{structure-length, structure-same, structure-other, with-structure-length, with-frames-length, structures-kept, frames-stored}
 use Rattle.multiplex.specs.Broadcast.{countAt, change, epoch, begun}
-use Rattle.multiplex.specs.Air.{Carries, new, old, gone, vectors, Air, timed, carriedAs, fieldOn, newIn, oldIn, goneIn, later, lastOld, lastNew, linkOf, linksOld, linksNew, one, newBefore, newTo, goneBefore, goneTo, inForce, coming, InTurn, nothing, Orderly}
+use Rattle.multiplex.specs.Air.{Carries, new, old, gone, vectors, Air, timed, carriedAs, fieldOn, newIn, oldIn, goneIn, later, lastOld, lastNew, linkOf, linksOld, linksNew, one, newBefore, newTo, goneBefore, goneTo, inForce, coming, InTurn, Orderly}
 use Rattle.multiplex.specs.Sound.{inRow, announces, lists, denies, Word, unheard, absent, there, over, presentIn, comingIn, comingBefore, comingTo, presentBefore, presentTo}
 use Rattle.multiplex.specs.Finding.{first, found, aloneBefore, roundsOf, roundsBefore, roundsTo, newRoundsBefore, newRoundsTo, whollyBefore, readyBefore, readyTo}
 use Rattle.multiplex.specs.Admitting.{absentBy, absentBefore, absentTo}
 use Rattle.multiplex.proofs.Rounding.{Turns, turns-plain, turns-gone, turns-old, Came, unbegun, came-plain, came-new}
 use Rattle.multiplex.proofs.Words.{Words, Sure, sure-as, words-as, words-force, words-dropped, words-told, words-ends, some-old, some-new}
-use Rattle.multiplex.proofs.Knowing.{Front, some, all, Next, delete, deletion-deleting, front-on, front-old, next-on, next-new}
+use Rattle.multiplex.proofs.Knowing.{Front, some, Next, delete, deletion-deleting, front-on, front-old, next-on, next-new}
 
 -- ---- what is held
 
@@ -131,22 +132,11 @@ unfolding first later
 came-none c zs due l A n v z w =
     subst (λ (k : ℕ). Came (c + first k) zs (later k due) (cond (eqb k 0) l v) A) (sym z) (came-plain c zs due l A w)
 
-clash : {A : Type 0} → true ≡ false → A
-clash e = absurd (subst T e tt)
-
 absence-certainly : certainly (headOf absence) ≡ false
 unfolding certainly
-absence-certainly = ap (λ (n : ℕ). eqb (headOf absence .certain) 1 && ltb 0 n) (absence-empty .fields) ∙ no (eqb (headOf absence .certain) 1)
-  where
-    no : (b : Bool) → (b && false) ≡ false
-    no true = refl
-    no false = refl
+absence-certainly = ap (λ (n : ℕ). eqb (headOf absence .certain) 1 && ltb 0 n) (absence-empty .fields) ∙ and-false (eqb (headOf absence .certain) 1)
 
 -- ---- the field of a frame
-
-or-no : (x : Bool) → x ≡ (x || false)
-or-no true = refl
-or-no false = refl
 
 module _ (a : Air) (hears : ℕ → Bool) (t id : ℕ) (c : Carries) (is : a .carries t ≡ c) where
   -- it says nothing of the component's present structure, or of what comes
@@ -168,7 +158,7 @@ module _ (a : Air) (hears : ℕ → Bool) (t id : ℕ) (c : Carries) (is : a .ca
       (cond (eqb (newIn id c) 0) (linksNew a id t) (linkOf c)) (goneBefore a id t || goneIn id c) refl
       (sym (ap (λ (x : ℕ). later x (lastNew a id t)) z)) (plus (newBefore a id t) ∙ sym (ap (λ (x : ℕ). newBefore a id t + one x) z))
       (sym (ap (λ (x : ℕ). cond (eqb x 0) (linksNew a id t) (linkOf c)) z))
-      (or-no (goneBefore a id t) ∙ sym (ap (λ (b : Bool). goneBefore a id t || b) g))
+      (sym (or-false (goneBefore a id t)) ∙ sym (ap (λ (b : Bool). goneBefore a id t || b) g))
       (next-on a hears t (epoch (timed a) t) id refl _ _ _ _ u s
       (ap (λ (x : Carries). goneIn id x || cond (eqb (newIn id x) 0) false true) is ∙ ap₂ (λ (b : Bool) (x : ℕ). b || cond (eqb x 0) false true) g z) f)
     where
@@ -346,7 +336,7 @@ module _ (a : Air) (w : Orderly a) (hears : ℕ → Bool) (t : ℕ) (m : List �
           (next-as a hears (suc t) now k (suc i) (newBefore a k t + 1) l (goneBefore a k t) u _ now (later (newIn k (new k i l)) (lastNew a k t))
           (newBefore a k t + one (newIn k (new k i l))) (cond (eqb (newIn k (new k i l)) 0) (linksNew a k t) l) (goneBefore a k t || false) refl
           (sym (ap (λ (x : ℕ). later x (lastNew a k t)) yes-k)) (sym (ap (λ (b : Bool). newBefore a k t + cond b 0 1) some-k))
-          (sym (ap (λ (b : Bool). cond b (linksNew a k t) l) some-k)) (or-no (goneBefore a k t))
+          (sym (ap (λ (b : Bool). cond b (linksNew a k t) l) some-k)) (sym (or-false (goneBefore a k t)))
           (next-new a hears t now k refl (w .linked (suc now) k hk) i l (law .1 .0) (omega (arith, law .1 .1 .0)) _ _ _ _ u (structureAt k 1 m)
           (law .1 .1 .1 .0) (λ b z. law .1 .1 .1 .1 z (h .begun b)) (h .next k hk)))
 
@@ -478,11 +468,7 @@ module _ (a : Air) (w : Orderly a) (hears : ℕ → Bool) (t : ℕ) (m : List �
       plain x e = omega (arith, e)
 
       all-gone : (goneBefore a k t || eqb k k) ≡ true
-      all-gone = ap (λ (b : Bool). goneBefore a k t || b) (eq-eqb k k refl) ∙ or-yes (goneBefore a k t)
-        where
-          or-yes : (b : Bool) → (b || true) ≡ true
-          or-yes true = refl
-          or-yes false = refl
+      all-gone = ap (λ (b : Bool). goneBefore a k t || b) (eq-eqb k k refl) ∙ or-true (goneBefore a k t)
 
   taken-vectors : (flag tdms l : ℕ) → a .carries t ≡ vectors flag tdms l → Taken (vectors flag tdms l) m
   unfolding denies newIn oldIn goneIn linkOf later over presentIn comingIn first

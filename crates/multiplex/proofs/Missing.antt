@@ -9,13 +9,14 @@
 --
 -- Assumes nothing.
 use mathlib.Core.Path.{_≡_, refl, sym, ap, _∙_, subst}
-use mathlib.Core.Bool.{Bool, true, false, cond, not, _&&_, _||_}
+use mathlib.Core.Bool.{Bool, true, false, cond, not, _&&_, _||_, or-false, or-true}
 use mathlib.Core.List.{List}
 use Prim.Native.Nat.{ℕ, zero, suc, _+_, _-_, _<_}
 use native.Mathlib.Omega.{arith}
 use lib.ListN.{length}
 use native.Mathlib.Decide.{ℕ-discrete}
 use lib.Dec.{T, lit<}
+use Rattle.bits.proofs.Search.{clash}
 use Rattle.structure.specs.Structure.{structureSize, spoiled}
 use Rattle.map.specs.Map.{ids, structureAt, eachFrom, spoiledBoth}
 use Rattle.map.proofs.Places.{structure-length}
@@ -66,10 +67,6 @@ pub record Lost (a : Air) (hears : ℕ → Bool) (n : ℕ) : Type 0 where
   pub rounds : (id : ℕ) → roundsBefore a hears id n ≡ 0
   pub announced : (id : ℕ) → newRoundsBefore a hears id n ≡ 0
   pub alone : aloneBefore a hears n ≡ false
-
-pub or-no : (x : Bool) → (x || false) ≡ x
-or-no true = refl
-or-no false = refl
 
 pub off-cond : {A : Type 0} (x y : A) (b : Bool) → b ≡ false → cond b x y ≡ y
 off-cond x y true e = absurd (subst T e tt)
@@ -122,13 +119,9 @@ unfolding anyBefore
 any-heard hears t zero l h = absurd (omega arith)
 any-heard hears t (suc v) l h = go (ℕ-discrete t v) (any-heard hears t v)
   where
-    or-yes : (x : Bool) → (x || true) ≡ true
-    or-yes true = refl
-    or-yes false = refl
-
     go : Dec (t ≡ v) → (t < v → hears t ≡ true → anyBefore hears v ≡ true) → (hears v || anyBefore hears v) ≡ true
     go (yes e) r = ap (λ (b : Bool). b || anyBefore hears v) (ap hears (sym e) ∙ h)
-    go (no e) r = ap (λ (b : Bool). hears v || b) (r (omega (arith, l, e)) h) ∙ or-yes (hears v)
+    go (no e) r = ap (λ (b : Bool). hears v || b) (r (omega (arith, l, e)) h) ∙ or-true (hears v)
 
 ready-missed : (a : Air) (hears : ℕ → Bool) (id v : ℕ) → hears v ≡ false → anyBefore hears v ≡ true
     → readyBefore a hears id (suc v) ≡ (not (change (timed a) (suc v)) && readyBefore a hears id v)
@@ -159,7 +152,7 @@ lost-at a hears t (suc n) l gap h =
     let off : hears n ≡ false = unheard-at hears t (suc n) n gap (omega (arith, l)) (omega arith) in
     let any : anyBefore hears n ≡ true = any-heard hears t n (omega (arith, l)) h in
     record {
-      wholly = ap (λ (b : Bool). change (timed a) (suc n) || (b && whollyBefore a hears n)) off ∙ or-no (change (timed a) (suc n));
+      wholly = ap (λ (b : Bool). change (timed a) (suc n) || (b && whollyBefore a hears n)) off ∙ or-false (change (timed a) (suc n));
       rounds = λ id. off-cond (cond (change (timed a) (suc n)) 0 (roundsTo a hears id n)) 0 (hears n) off;
       announced = λ id. off-cond (cond (change (timed a) (suc n)) 0 (newRoundsTo a hears id n)) 0 (hears n) off;
       alone = λ i. cond (off i) (not (change (timed a) (suc n)) && aloneBefore a hears n) (not (any i));
@@ -187,9 +180,6 @@ module _ (a : Air) (hears : ℕ → Bool) (t n : ℕ) (missed : suc t < n) (gap 
 
   abbrev then : ℕ
   then = epoch (timed a) (suc t)
-
-  no : {A : Type 0} → false ≡ true → A
-  no z = absurd (subst T (sym z) tt)
 
   held : (id v : ℕ) → id < ids → v < 2 → structureAt id v spoilt ≡ spoiled (structureAt id v m)
   held id v hid hv = gap-structure m (k .size) id v hid hv
@@ -262,7 +252,7 @@ module _ (a : Air) (hears : ℕ → Bool) (t n : ℕ) (missed : suc t < n) (gap 
     turns = λ id hid. record {
       rightly = gap-right id hid;
       round = unbegun (nothing-counted .rounds id);
-      only = λ z. no (sym (nothing-counted .alone) ∙ z);
+      only = λ z. clash (sym z ∙ nothing-counted .alone);
     };
     came = λ id hid. none-came (nothing-counted .announced id);
   }

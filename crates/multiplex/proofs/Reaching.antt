@@ -6,24 +6,24 @@
 --
 -- Assumes nothing.
 use mathlib.Core.Path.{_≡_, refl, sym, ap, ap₂, _∙_, subst}
-use mathlib.Core.Bool.{Bool, true, false, cond, not, _&&_, _||_}
-use mathlib.Core.List.{List, [], _∷_}
+use mathlib.Core.Bool.{Bool, true, false, cond, not, _&&_, _||_, or-false, or-true}
+use mathlib.Core.List.{List}
 use Prim.Native.Nat.{ℕ, zero, suc, _+_, _-_, _*_, _≤_, _<_}
 use native.Mathlib.Omega.{arith}
-use borrow.Author.Tests.{eq-eqb, eqb-true}
+use borrow.Author.Tests.{eqb-true}
 use lib.ListN.{length, getD}
 use Rattle.bits.proofs.Search.{and-left, and-right}
 use lib.Dec.{T, eqb, lit<, lit≤}
 use Rattle.bits.specs.Bits.{blank}
 use Rattle.bits.proofs.Storing.{blank-length}
-use Rattle.runs.proofs.Parts.{blank-at}
+use Rattle.runs.proofs.Parts.{blank-at, part-blank}
 use Rattle.structure.specs.Structure.{structureSize, headOf, certainly, spoiled}
 use Rattle.structure.specs.declared.Structure.{Structure}
 use Rattle.structure.proofs.Gathering.{Empty}
 use Rattle.structure.proofs.Runs.{empty, spoiled-empty}
 use Rattle.map.specs.Map.{ids, mapSize, blockSize, structureAt, eachFrom, changedFrom, spoiledBoth}
 use Rattle.map.proofs.Places.{structure-length}
-use Rattle.map.proofs.Changing.{blank-empty, part-blank, gap-length, gap-structure, from-length}
+use Rattle.map.proofs.Changing.{blank-empty, gap-length, gap-structure, from-length}
 use Rattle.multiplex.specs.Broadcast.{change, epoch, begun, Linked}
 use Rattle.multiplex.specs.Broadcast as broadcast
 use Rattle.multiplex.specs.Air.{Air, timed, newIn, oldIn, later, same, lastOld, lastNew, linkOf, linksOld, linksNew, newBefore, newTo, goneBefore, goneTo, inForce, coming, Said, nothing, described, deleted, Orderly}
@@ -33,18 +33,13 @@ use Rattle.multiplex.specs.Sound.{anyBefore, Word, unheard, absent, ther
 use Rattle.multiplex.proofs.Distances.{epoch-step, epoch-mono}
 use Rattle.multiplex.proofs.Knowing.{Front, some, Next, none, sure, Past, Settled, stays-so, told, ends, front-gap, front-unsure, front-sure}
 use Rattle.multiplex.proofs.Words.{Words, Sure, sure-as, sure-gap, sure-change, words-as, words-gap, words-change, unheard-there, absent-unheard, Goes, goes-to}
-use Rattle.multiplex.proofs.Rounding.{Right, Turns, unbegun, Came, none-is, right-sure, right-kept, right-gone, right-round}
+use Rattle.multiplex.proofs.Rounding.{Right, Turns, unbegun, Came, none-is, right-sure, right-kept, right-gone, right-round, same-all}
 use Rattle.multiplex.proofs.Rounding as rounding
 use Rattle.multiplex.proofs.Listening.{Known, Before, front-as, next-as}
-use Rattle.multiplex.proofs.Missing.{Gap, front-later, silent-new, none-came, Lost, or-no, off-cond, heardReady, ready-kept, lost-at, starts, none-yet}
-
-same-refl : (xs : List ℕ) → same xs xs ≡ true
-unfolding same
-same-refl [] = refl
-same-refl (x ∷ xs) = ap₂ (λ (a b : Bool). a && b) (eq-eqb x x refl) (same-refl xs)
+use Rattle.multiplex.proofs.Missing.{Gap, front-later, silent-new, none-came, Lost, off-cond, heardReady, ready-kept, lost-at, starts, none-yet}
 
 pub same-eq : (xs ys : List ℕ) → xs ≡ ys → same xs ys ≡ true
-same-eq xs ys e = ap (same xs) (sym e) ∙ same-refl xs
+same-eq xs ys e = ap (same xs) (sym e) ∙ same-all xs
 
 -- ---- from when on it is right
 
@@ -118,7 +113,7 @@ module _ (a : Air) (w : Orderly a) (hears : ℕ → Bool) (t : ℕ) (m : List �
       let on : epoch (timed a) (suc t) ≡ e = epoch-step (timed a) t false c in
       record {
         size = k .size;
-        begun = λ q. ap (λ (b : Bool). change (timed a) (suc t) || b) (k .begun q) ∙ or-yes (change (timed a) (suc t));
+        begun = λ q. ap (λ (b : Bool). change (timed a) (suc t) || b) (k .begun q) ∙ or-true (change (timed a) (suc t));
         front = λ id hid. front-as a hears (suc t) e id _ _ (epoch (timed a) (suc t)) (lastOld a id (suc t)) (sym on)
             (sym (ap (λ (b : Bool). cond b (later (oldIn id (a .carries t)) (lastOld a id t)) 0) (same-eq _ _ (ap (λ (x : ℕ). a .config x id) (sym on)))))
             (k .front id hid);
@@ -138,10 +133,6 @@ module _ (a : Air) (w : Orderly a) (hears : ℕ → Bool) (t : ℕ) (m : List �
         came = λ id hid. came-as (sym (new-next id ∙ ap (λ (b : Bool). cond b 0 (newRoundsTo a hears id t)) c)) (ap (λ (x : ℕ). a .config (suc x) id) (sym on))
             (sym (ap (λ (b : Bool). cond b 0 (later (newIn id (a .carries t)) (lastNew a id t))) c)) refl (k .came id hid);
       }
-    where
-      or-yes : (x : Bool) → (x || true) ≡ true
-      or-yes true = refl
-      or-yes false = refl
 
   -- nothing is announced in the first frame of a configuration
   fresh : (n : ℕ) → Gap hears t n → epoch (timed a) n ≡ suc e → (v : Bool)
@@ -367,7 +358,7 @@ first-at a hears (suc n) q =
     let off : hears n ≡ false = off-at (hears n) refl in
     let any : anyBefore hears n ≡ false = none-heard hears n (λ v hv. q v (omega (arith, hv))) in
     record {
-      wholly = ap (λ (b : Bool). change (timed a) (suc n) || (b && whollyBefore a hears n)) off ∙ or-no (change (timed a) (suc n));
+      wholly = ap (λ (b : Bool). change (timed a) (suc n) || (b && whollyBefore a hears n)) off ∙ or-false (change (timed a) (suc n));
       ready = λ id. off-cond (heardReady a hears id n) (cond (anyBefore hears n) (not (change (timed a) (suc n)) && readyBefore a hears id n) (not (broadcast.some (inForce a (suc n) id)))) (hears n) off
           ∙ ap (λ (b : Bool). cond b (not (change (timed a) (suc n)) && readyBefore a hears id n) (not (broadcast.some (inForce a (suc n) id)))) any;
       rounds = λ id. off-cond (cond (change (timed a) (suc n)) 0 (roundsTo a hears id n)) 0 (hears n) off;

@@ -12,7 +12,7 @@
 --
 -- Assumes nothing.
 use mathlib.Core.Path.{_≡_, refl, sym, ap, ap₂, _∙_, subst}
-use mathlib.Core.Bool.{Bool, true, false, cond, not}
+use mathlib.Core.Bool.{Bool, true, false, cond}
 use mathlib.Core.List.{List}
 use Prim.Native.Nat.{ℕ, zero, suc, _≤_}
 use native.Mathlib.Omega.{arith}
@@ -31,18 +31,13 @@ use Rattle.multiplex.specs.Example.{structures, pick, told, example}
 use Rattle.multiplex.specs.Empty.{deaf, doubting, mute, refusing, firstOnly, late}
 use Rattle.multiplex.specs.Air.{vectors, Air, timed, inForce, fieldOn, oldIn, newIn, goneIn, InTurn, Orderly}
 use Rattle.multiplex.specs.Sound.{kept, missedBefore, inRow, Listener, Word, unheard, over, presentIn, comingIn, comingBefore, presentBefore, wordFor, NeverWrong}
-use Rattle.multiplex.specs.Finding.{Near, first, found, aloneBefore, roundsOf, whollyBefore, overChange, readyBefore, readyTo, every, Finds, ShowsInForce}
+use Rattle.multiplex.specs.Finding.{first, found, aloneBefore, roundsOf, whollyBefore, overChange, readyBefore, readyTo, every, Finds, ShowsInForce}
 use Rattle.multiplex.specs.Announcing.{heardNews, Announces}
 use Rattle.multiplex.specs.Admitting.{absentBy, absentBefore, absentBehind, absentFor, Reason, gone, long, Admits}
 use Rattle.multiplex.proofs.Soundness.{State, silent, since-one, state-at}
 use Rattle.multiplex.proofs.Steady.{lists, steady, steady-orderly}
 use Rattle.multiplex.proofs.Denied.{unsaid}
-use Rattle.multiplex.proofs.Examples.{example-orderly, example-followed}
-
-near-every : Near every
-unfolding missedBefore
-near-every zero h b = lit≤ tt
-near-every (suc t) h b = lit≤ tt
+use Rattle.multiplex.proofs.Examples.{example-orderly, example-followed, near-every}
 
 -- ---- what is in force
 

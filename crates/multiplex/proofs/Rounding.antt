@@ -8,6 +8,7 @@
 --   Came c zs due l A       of the announced one: after one beginning a run from the first field on, or all of it
 --   came-new, came-plain, came-full
 --   right-gap               frames are missed
+--   same-all, same-is       lists that are tested to be the same
 --   right-sure, right-over  a change
 --
 -- Assumes nothing.
@@ -19,13 +20,13 @@ use Prim.Native.Nat.{ℕ, zero, suc, _+_, _≤_, _<_}
 use native.Mathlib.Omega.{arith}
 use native.Mathlib.Decide.{ℕ-discrete}
 use borrow.Author.Tests.{eq-eqb, ne-eqb, eqb-true, leb-true}
-use lib.Dec.{T, leb, ltb, eqb, lit<}
+use lib.Dec.{leb, ltb, eqb, lit<}
 use lib.ListN.{length, getD, drop}
-use Rattle.bits.proofs.Search.{and-left, and-right}
+use Rattle.bits.proofs.Search.{and-left, and-right, clash}
 use Rattle.structure.specs.Structure.{structureSize, headOf, isNext, gathered, spoiled}
-use Rattle.structure.proofs.Gathering.{Holds, Empty, alike-holds, alike-empty, begun, kept-alike, other-begins}
+use Rattle.structure.proofs.Gathering.{Holds, Empty, alike-holds, alike-empty, other-begins}
 use Rattle.structure.proofs.Kept.{spoiled-last}
-use Rattle.structure.proofs.Runs.{Fields, Lasts, Part, empty, stuck, run, spoiled-empty, Took, partly, wholly, part-takes, open-takes, whole-next, Listed, placed, next-listed, begins-run}
+use Rattle.structure.proofs.Runs.{Fields, Lasts, Part, spoiled-empty, Took, partly, wholly, part-takes, open-takes, whole-next, Listed, placed, next-listed, begins-run}
 use Rattle.structure.proofs.Rounds.{first-joins, first-completes, completes-last, Wrong, wrong-begins, wrong-goes, wrong-ends}
 use Rattle.map.specs.Map.{ids, mapSize, structureAt, stayed, changedFrom}
 use Rattle.map.proofs.Places.{structure-length}
@@ -33,7 +34,7 @@ use Rattle.map.proofs.Changing.{stayed-alike, stayed-last, settled-empty, settl
 use Rattle.multiplex.specs.Broadcast.{some, Linked}
 use Rattle.multiplex.specs.Air.{Air, turn, same}
 use Rattle.multiplex.specs.Finding.{first, found}
-use Rattle.multiplex.proofs.Knowing.{linked-fields, Front, all, Next, none, delete, piece, sure, part-head, whole-kept, Settled, stays-so, told, ends}
+use Rattle.multiplex.proofs.Knowing.{linked-fields, Front, all, Next, none, delete, piece, sure, whole-kept, Settled, stays-so, told, ends}
 use Rattle.multiplex.proofs.Knowing as knowing
 
 pub data Right (xs : List ℕ) (due : ℕ) (F : List ℕ) : Type 0 where
@@ -57,9 +58,6 @@ pub record Turns (ready alone : Bool) (b : ℕ) (xs : List ℕ) (due l : ℕ) (F
   pub rightly : ready ≡ true → Right xs due F
   pub round : Round b xs due l F
   pub only : alone ≡ true → Alone b xs due l F
-
-clash : {A : Type 0} → true ≡ false → A
-clash e = absurd (subst T e tt)
 
 -- the third beginning
 pub third-right : (b : ℕ) (xs : List ℕ) (due l : ℕ) (F : List ℕ) → Round b xs due l F → leb 3 b ≡ true → Right xs due F
@@ -322,6 +320,11 @@ module _ (zs : List ℕ) (k : Linked zs) (i : ℕ) (hi : i < length zs) (l : ℕ
     came-new c A nx w = came-by c A nx w (ℕ-discrete i 0)
 
 -- ---- a change
+
+pub same-all : (xs : List ℕ) → same xs xs ≡ true
+unfolding same
+same-all [] = refl
+same-all (x ∷ xs) = ap₂ (λ (a b : Bool). a && b) (eq-eqb x x refl) (same-all xs)
 
 pub same-is : (xs ys : List ℕ) → same xs ys ≡ true → xs ≡ ys
 unfolding same

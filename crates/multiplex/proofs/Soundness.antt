@@ -7,7 +7,7 @@
 --
 -- Assumes nothing.
 use mathlib.Core.Path.{_≡_, refl, sym, ap, ap₂, _∙_, subst}
-use mathlib.Core.Bool.{Bool, true, false, cond, _&&_, _||_}
+use mathlib.Core.Bool.{Bool, true, false, cond, _&&_, _||_, and-true, and-false}
 use mathlib.Core.List.{List}
 use mathlib.Core.Logic.{_⊎_, inl, inr}
 use Prim.Native.Nat.{ℕ, zero, suc, _+_, _-_, _^_, _≤_, _<_}
@@ -172,14 +172,6 @@ module _ (a : Air) (w : Orderly a) (hears : ℕ → Bool) (T g : ℕ) (pos : 0 <
   heard-is : (x : Bool) → change (timed a) (suc T) ≡ x → allHeard (framesOf m) ≡ (u && x)
   heard-is x e = ap allHeard (k .frames) ∙ heard-all (timed a) T u _ ∙ ap (λ (b : Bool). u && b) e
 
-  and-yes : (x : Bool) → (x && true) ≡ x
-  and-yes true = refl
-  and-yes false = refl
-
-  and-no : (x : Bool) → (x && false) ≡ false
-  and-no true = refl
-  and-no false = refl
-
   frames-near : g ≡ 1 → skips (framesOf m) c ≡ false → (x : Bool) → change (timed a) t ≡ x → framesAfter (framesOf m) c ≡ framesAt a hears t (cond x true u)
   unfolding framesAfter
   frames-near one s x e =
@@ -235,14 +227,14 @@ module _ (a : Air) (w : Orderly a) (hears : ℕ → Bool) (T g : ℕ) (pos : 0 <
       go s true q (inr e) =
           take-known a w hears t m not-refused heard _ (change (timed a) t)
           (gap-before a hears T t missed gap (k .heard) (e ∙ sym (epoch-step (timed a) T true q)) _ true (near-change a w hears T m u k q))
-          (up-to true true u (changed-by e) s (heard-is true q ∙ and-yes u)) fresh (frames-far h s)
+          (up-to true true u (changed-by e) s (heard-is true q ∙ and-true u)) fresh (frames-far h s)
       go s false q (inl e) =
           take-known a w hears t m not-refused heard _ (change (timed a) t)
           (gap-before a hears T t missed gap (k .heard) (e ∙ sym (epoch-step (timed a) T false q)) m u (near-same a w hears T m u k q))
-          (up-to false true false (same-yet e) s (heard-is false q ∙ and-no u)) fresh (frames-far h s)
+          (up-to false true false (same-yet e) s (heard-is false q ∙ and-false u)) fresh (frames-far h s)
       go s false q (inr e) =
           take-known a w hears t m not-refused heard _ (change (timed a) t) (far-change a w hears T m u k t missed gap e q)
-          (up-to true true false (changed-by e) s (heard-is false q ∙ and-no u)) fresh (frames-far h s)
+          (up-to true true false (changed-by e) s (heard-is false q ∙ and-false u)) fresh (frames-far h s)
 
   near : g ≡ 1 → t ≡ suc T → Known a hears t (takeAfter m (fieldBytes (fieldOn a t))) (cond (change (timed a) t) true u)
   near one e =
@@ -257,12 +249,12 @@ module _ (a : Air) (w : Orderly a) (hears : ℕ → Bool) (T g : ℕ) (pos : 0 <
           let up : epoch (timed a) t ≡ suc (epoch (timed a) T) = ap (epoch (timed a)) e ∙ epoch-step (timed a) T true (back true q) in
           take-known a w hears t m not-refused heard _ true
           (subst (λ (n : ℕ). Before a hears n (changedFrom ids 0 u m) true) (sym e) (near-change a w hears T m u k (back true q)))
-          (up-to true false u (changed-by up) s (heard-is true (back true q) ∙ and-yes u)) fresh (frames-near one s true q)
+          (up-to true false u (changed-by up) s (heard-is true (back true q) ∙ and-true u)) fresh (frames-near one s true q)
       go s false q =
           let up : epoch (timed a) t ≡ epoch (timed a) T = ap (epoch (timed a)) e ∙ epoch-step (timed a) T false (back false q) in
           take-known a w hears t m not-refused heard m u
           (subst (λ (n : ℕ). Before a hears n m u) (sym e) (near-same a w hears T m u k (back false q)))
-          (up-to false false false (same-yet up) s (heard-is false (back false q) ∙ and-no u)) fresh (frames-near one s false q)
+          (up-to false false false (same-yet up) s (heard-is false (back false q) ∙ and-false u)) fresh (frames-near one s false q)
 
 -- ---- the first frame
 

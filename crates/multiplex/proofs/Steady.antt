@@ -4,21 +4,20 @@
 --   steady, steady-orderly
 --
 -- Assumes nothing.
-use mathlib.Core.Path.{_≡_, refl, sym, ap, ap₂, _∙_, subst}
-use mathlib.Core.Bool.{Bool, true, false, cond, _&&_, _||_}
+use mathlib.Core.Path.{_≡_, refl, sym, ap, _∙_}
+use mathlib.Core.Bool.{Bool, true, false, cond, _||_}
 use mathlib.Core.List.{List, [], _∷_}
-use Prim.Native.Nat.{ℕ, zero, suc, _+_, _/_, _%_, _^_, _≤_, _<_}
+use Prim.Native.Nat.{ℕ, zero, suc, _+_, _/_, _%_, _<_}
 use native.Mathlib.Omega.{arith}
 use native.Mathlib.Decide.{ℕ-discrete}
-use borrow.Author.Tests.{eq-eqb, ne-eqb}
+use borrow.Author.Tests.{ne-eqb}
 use lib.Dec.{eqb, lit<}
-use lib.ListN.{length}
 use Rattle.field.specs.Field.{tdmsOf, fln1, lln1, fln2, lln2, fcp, lcp, badPair, badTdms, deletes, key}
-use Rattle.map.specs.Map.{ids}
 use Rattle.multiplex.specs.Broadcast.{change, Linked}
 use Rattle.multiplex.specs.Example.{one, two}
-use Rattle.multiplex.specs.Air.{Carries, old, Air, timed, newIn, oldIn, goneIn, turn, later, same, lastOld, newBefore, newTo, goneBefore, goneTo, linkOf, linksOld, InTurn, nothing, Orderly}
+use Rattle.multiplex.specs.Air.{old, Air, timed, newIn, oldIn, goneIn, turn, later, lastOld, newBefore, goneBefore, linkOf, linksOld, InTurn, nothing, Orderly}
 use Rattle.multiplex.proofs.Keeping.{none-linked, two-linked, fitting, few-seven}
+use Rattle.multiplex.proofs.Rounding.{same-all}
 
 unfoldable pub lists : ℕ → List ℕ
 lists id = cond (eqb id 7) (one ∷ two ∷ []) []
@@ -33,11 +32,6 @@ lists-linked id = go (eqb id 7)
     go : (b : Bool) → Linked (cond b (one ∷ two ∷ []) [])
     go true = two-linked one two (fitting one tt refl refl) (fitting two tt refl refl) (lit< tt)
     go false = none-linked
-
-pub same-all : (xs : List ℕ) → same xs xs ≡ true
-unfolding same
-same-all [] = refl
-same-all (x ∷ xs) = ap₂ (λ (a b : Bool). a && b) (eq-eqb x x refl) (same-all xs)
 
 last-is : (t : ℕ) → lastOld steady 7 (suc t) ≡ suc (t % 2)
 unfolding lastOld steady oldIn later

@@ -14,10 +14,10 @@ use mathlib.Core.List.{List, [], _∷_}
 use Prim.Native.Nat.{ℕ, zero, suc, _+_, _-_, _≤_, _<_}
 use native.Mathlib.Omega.{arith}
 use native.Mathlib.Decide.{ℕ-discrete, decLt}
-use borrow.Author.Tests.{eq-eqb, ne-eqb, eqb-true, ltb-false}
-use lib.Dec.{T, ltb, eqb}
+use borrow.Author.Tests.{eq-eqb, ne-eqb, eqb-true, ltb-false, not-true}
+use lib.Dec.{ltb, eqb}
 use lib.ListN.{length, getD}
-use Rattle.bits.proofs.Search.{and-left, and-right}
+use Rattle.bits.proofs.Search.{and-left, and-right, clash}
 use Rattle.field.specs.Field.{fieldOf, fieldBytes, key}
 use Rattle.field.specs.declared.Field.{Field}
 use Rattle.structure.proofs.Runs.{rises-to}
@@ -39,9 +39,6 @@ pub record Rest (M : Machine) (a : Air) (hears : ℕ → Bool) (t u id : ℕ) : 
   pub fields : M .fields (kept M a hears (suc t)) id (countAt (timed a) u) ≡ a .config from id
   pub quiet : Quiet a hears t from (epoch (timed a) u) id
 
-clash : {A : Type 0} → false ≡ true → A
-clash e = absurd (subst T (sym e) tt)
-
 -- ---- a present field
 
 record Seven (c : Carries) : Type 0 where
@@ -51,11 +48,11 @@ record Seven (c : Carries) : Type 0 where
 
 seven-old : (a : Air) (t : ℕ) (c : Carries) → InTurn a t c → seven (carriedAs a t c) ≡ true → Seven c
 unfolding seven carriedAs InTurn
-seven-old a t (new k i l) law e = clash e
+seven-old a t (new k i l) law e = clash (sym e)
 seven-old a t (old k i l) law e = record { place = i; links = l; is = ap (λ (x : ℕ). old x i l) (eqb-true k 7 (and-left (eqb k 7) _ e)) }
 seven-old a t (gone flag k tdms l) law e =
-    clash (sym (ap not (law .1 .1 .1 .1 .0)) ∙ and-right (eqb k 7) _ (and-right (eqb flag 0) _ e))
-seven-old a t (vectors flag tdms l) law e = clash (and-right (eqb flag 0) _ e)
+    clash (sym (and-right (eqb k 7) _ (and-right (eqb flag 0) _ e)) ∙ ap not (law .1 .1 .1 .1 .0))
+seven-old a t (vectors flag tdms l) law e = clash (sym (and-right (eqb flag 0) _ e))
 
 counted : (a : Air) (t : ℕ) (c : Carries) → carriedAs a t c .count ≡ countAt (timed a) t
 unfolding carriedAs
@@ -67,7 +64,7 @@ counted a t (vectors flag tdms l) = refl
 -- a field without the update flag announces nothing
 present-unannounced : (a : Air) (t : ℕ) (c : Carries) → eqb (carriedAs a t c .flag) 0 ≡ true → announces 7 c ≡ false
 unfolding carriedAs announces newIn goneIn
-present-unannounced a t (new k i l) e = clash e
+present-unannounced a t (new k i l) e = clash (sym e)
 present-unannounced a t (old k i l) e = refl
 present-unannounced a t (gone flag k tdms l) e =
     ap (λ (n : ℕ). (eqb n 1 && eqb k 7) || false) (eqb-true flag 0 e)
@@ -156,15 +153,15 @@ module _ (a : Air) (hears : ℕ → Bool) (n : ℕ) where
   missed e m (none z q) = none z (λ v hv hh. by-place v n hv (λ h. q v h hh) (λ h. unheard v h hh))
     where
       unheard : (v : ℕ) → v ≡ n → hears v ≡ true → ⊥
-      unheard v h hh = clash (sym e ∙ ap hears (sym h) ∙ hh)
+      unheard v h hh = clash (sym hh ∙ ap hears h ∙ e)
   missed e m (one t i l lo only c any is z) =
-      one t i l (omega (arith, lo)) (λ v hv hh. by-place v n hv (λ h. only v h hh) (λ h. clash (sym e ∙ ap hears (sym h) ∙ hh)))
+      one t i l (omega (arith, lo)) (λ v hv hh. by-place v n hv (λ h. only v h hh) (λ h. clash (sym hh ∙ ap hears h ∙ e)))
       (ap (λ (b : Bool). cond b 0 (suc (missedBefore hears n))) e ∙ ap suc c ∙ minus n t lo) (ap₂ (λ (x y : Bool). x || y) e any) is z
     where
       minus : (x y : ℕ) → y < x → suc (x - suc y) ≡ suc x - suc y
       minus x y h = omega arith
   missed e m (sure t x lo is q z) =
-      sure t x (omega (arith, lo)) is (λ v hv hh. by-place v n hv (λ h. q v h hh) (λ h. clash (sym e ∙ ap hears (sym h) ∙ hh))) z
+      sure t x (omega (arith, lo)) is (λ v hv hh. by-place v n hv (λ h. q v h hh) (λ h. clash (sym hh ∙ ap hears h ∙ e))) z
   missed e m (lost z) = lost z
 
 module _ (a : Air) (w : Orderly a) (hears : ℕ → Bool) (L : Listener stubborn a hears) (n : ℕ) where
@@ -221,17 +218,13 @@ module _ (a : Air) (w : Orderly a) (hears : ℕ → Bool) (L : Listener stubborn
     unfolding together carriedAs announces newIn goneIn
     sure-now s e z =
         let on : n ≡ suc t = next-frame (eqb-true _ 1 (and-left (eqb (since (countAt (timed a) t) (countAt (timed a) n)) 1) _ z)) in
-        let stays = one-config (flip _ (and-right (eqb (since (countAt (timed a) t) (countAt (timed a) n)) 1) _ z)) in
+        let stays = one-config (not-true _ (and-right (eqb (since (countAt (timed a) t) (countAt (timed a) n)) 1) _ z)) in
         let same-field : getD (inForce a n 7) (s .place) 0 ≡ x = sym (ap (λ (k : Carries). carriedAs a n k .tdms) (s .is)) ∙ e in
         let all = alone a w t i l (s .place) (s .links) is (ap (a .carries) (sym on) ∙ s .is) (ap (epoch (timed a)) (sym on) ∙ stays)
         (ap (λ (v : ℕ). getD (inForce a v 7) (s .place) 0) (sym on) ∙ same-field) in
         sure t (r .tdms) (omega (arith, lo)) (all ∙ ap (λ (y : ℕ). y ∷ []) (sym e))
         (λ v hv hh. by-place v n hv (λ h. ap (λ (y : ℕ). announces 7 (a .carries y)) (only v h hh) ∙ ap (announces 7) is)
         (λ h. ap (λ (y : ℕ). announces 7 (a .carries y)) h ∙ ap (announces 7) (s .is))) refl
-      where
-        flip : (b : Bool) → not b ≡ true → b ≡ false
-        flip true q = sym q
-        flip false q = refl
 
     second-heard : Then (held (0 ∷ countAt (timed a) t ∷ x ∷ []) (fieldOn a n))
     unfolding held fieldOn
@@ -303,7 +296,7 @@ module _ (a : Air) (hears : ℕ → Bool) (t u id : ℕ) where
 
   rest : t ≤ u → surely m id ≡ true → Hold a hears (suc t) m → Rest stubborn a hears t u id
   unfolding stubborn
-  rest later-on e (none z q) = clash (ap (λ (y : List ℕ). surely y id) (sym z) ∙ e)
+  rest later-on e (none z q) = clash (sym e ∙ ap (λ (y : List ℕ). surely y id) z)
   rest later-on e (one v i l lo only c any is z) = not-sure 0 _ (λ q. omega (arith, q)) z e
   rest later-on e (sure v x lo is q z) =
       let seven-asked : id ≡ 7 = eqb-true id 7 (and-right (eqb (getD m 0 0) 1) _ e) in

@@ -6,7 +6,7 @@
 --
 -- Assumes nothing.
 use mathlib.Core.Path.{_≡_, refl, sym, ap, ap₂, _∙_, subst}
-use mathlib.Core.Bool.{Bool, true, false, cond, not, _&&_, _||_}
+use mathlib.Core.Bool.{Bool, true, false, cond, not, _&&_, _||_, or-true}
 use mathlib.Core.List.{List, []}
 use mathlib.Core.Logic.{_⊎_, inl, inr}
 use Prim.Native.Nat.{ℕ, suc, _+_, _-_, _%_, _≤_, _<_}
@@ -14,13 +14,12 @@ use native.Mathlib.Omega.{arith}
 use native.Mathlib.Decide.{ℕ-discrete, decLt}
 use borrow.Author.Tests.{eq-eqb, ne-eqb, lt-ltb, le-ltb, ltb-true, eqb-true, leb-true}
 use lib.Dec.{T, leb, ltb, eqb}
-use lib.ListN.{length}
 use Rattle.bits.proofs.Search.{and-left, and-right}
 use Rattle.structure.specs.Structure.{headOf, said, settledHead}
 use Rattle.structure.specs.declared.Structure.{Structure}
 use Rattle.frames.specs.Counts.{ahead, until, changing, enough, allHeard}
 use Rattle.frames.specs.declared.Frames.{Frames}
-use Rattle.map.specs.Map.{ids, mapSize, structureAt, framesOf, good, announced}
+use Rattle.map.specs.Map.{ids, structureAt, framesOf, good, announced}
 use Rattle.map.specs.Calls.{thenHead, thenNumber, unknown, foundOf, shownAt, shown}
 use Rattle.map.specs.declared.Shown.{Shown}
 use Rattle.multiplex.specs.Broadcast.{countAt, change, epoch}
@@ -59,11 +58,7 @@ kept-at a w hears near-by t ht = go (ready-at a w hears near-by (suc t)) (ready-
 said-news : (k p : Word) (F A : List ℕ) → Words k p F A → said (headOf A) ≡ heardNews p
 unfolding said heardNews
 said-news k unheard F A w = let z = w .nothing refl in λ i. ltb 0 (z .0 i) || eqb (z .1 i) 1
-said-news k absent F A w = (λ i. ltb 0 (headOf A .fields) || eqb (w .ended refl .1 i) 1) ∙ or-yes (ltb 0 (headOf A .fields))
-  where
-    or-yes : (b : Bool) → (b || true) ≡ true
-    or-yes true = refl
-    or-yes false = refl
+said-news k absent F A w = (λ i. ltb 0 (headOf A .fields) || eqb (w .ended refl .1 i) 1) ∙ or-true (ltb 0 (headOf A .fields))
 said-news k there F A w = λ i. lt-ltb 0 (headOf A .fields) (w .coming refl) i || eqb (headOf A .deleted) 1
 
 -- ---- when

@@ -9,7 +9,7 @@
 --
 -- Assumes nothing.
 use mathlib.Core.Path.{_≡_, refl, sym, ap, ap₂, _∙_, subst}
-use mathlib.Core.Bool.{Bool, true, false, cond, _&&_, _||_}
+use mathlib.Core.Bool.{Bool, true, false, cond, _&&_, _||_, and-false}
 use mathlib.Core.List.{List}
 use Prim.Native.Nat.{ℕ, zero, suc, _+_, _-_, _^_, _≤_, _<_}
 use native.Mathlib.Omega.{arith}
@@ -112,11 +112,7 @@ spoiled-fields : (s : List ℕ) → length s ≡ structureSize → 0 < headOf s 
 spoiled-fields s l h = ltb-true 0 (headOf (spoiled s) .fields) (spoiled-some s l ∙ lt-ltb 0 (headOf s .fields) h)
 
 unfinished-none : (s : List ℕ) → headOf s .fields ≡ 0 → (eqb (headOf s .whole) 0 && ltb 0 (headOf s .fields)) ≡ false
-unfinished-none s z = ap (λ (n : ℕ). eqb (headOf s .whole) 0 && ltb 0 n) z ∙ no (eqb (headOf s .whole) 0)
-  where
-    no : (b : Bool) → (b && false) ≡ false
-    no true = refl
-    no false = refl
+unfinished-none s z = ap (λ (n : ℕ). eqb (headOf s .whole) 0 && ltb 0 n) z ∙ and-false (eqb (headOf s .whole) 0)
 
 -- it has no field where it had none
 spoiled-back : (s : List ℕ) → length s ≡ structureSize → headOf (spoiled s) .fields ≡ 0 → headOf s .fields ≡ 0

@@ -12,7 +12,7 @@ use mathlib.Core.Path.{_≡_, refl, sym, ap, ap₂, _∙_, subst}
 use mathlib.Core.Bool.{Bool, true, false}
 use mathlib.Core.List.{List, [], _∷_}
 use mathlib.Core.Logic.{_⊎_, inl, inr}
-use Prim.Native.Nat.{ℕ, zero, suc, _+_, _*_, _/_, _%_, _≤_, _<_}
+use Prim.Native.Nat.{ℕ, suc, _+_, _*_, _/_, _%_, _≤_, _<_}
 use native.Mathlib.Omega.{arith}
 use native.Mathlib.Decide.{decLt, ℕ-discrete}
 use native.Mathlib.Nat.{le-trans}
@@ -20,11 +20,11 @@ use lib.ListN.{length, getD, drop, length-map}
 use lib.Seq.{ext-getD}
 use Rattle.bits.specs.Bits.{flips, sent, taken}
 use Rattle.bits.proofs.Flips.{flips-same}
-use Rattle.bits.proofs.Runs.{Below}
+use Rattle.bits.proofs.Runs.{Below, below-cons}
 use Rattle.bits.proofs.Storing.{getD-map}
 use Rattle.bare.specs.Bare.{headerRead}
 use Rattle.bare.specs.declared.Header.{Header}
-use Rattle.bare.proofs.Theorems.{header-reads}
+use Rattle.bare.proofs.Theorems.{header-reads, eight-seven}
 use Rattle.bare.proofs.Types.{within-near}
 use Rattle.golay.specs.Code.{word23, word24, nearest}
 use Rattle.golay.proofs.Nearest.{nearest-is, nearest-within-four}
@@ -51,10 +51,6 @@ carried-below false d h = h
 carried-below true d h = protected-below d
 
 -- a byte in front
-before-below : (x : ℕ) (u : List ℕ) → x < 256 → Below 256 u → Below 256 (x ∷ u)
-before-below x u hx hu zero = hx
-before-below x u hx hu (suc k) = hu k
-
 module _ (p : Bool) (a i : ℕ) (d : List ℕ) (ha : a ≤ 1023) (hi : i ≤ 3) (l : length d ≡ dataSize p) (b : Below 256 d) where
   small : a + 1024 * i < 4096
   small = omega arith
@@ -68,7 +64,7 @@ module _ (p : Bool) (a i : ℕ) (d : List ℕ) (ha : a ≤ 1023) (hi : i ≤ 3) 
   unfolding written
   sent-bytes =
       bytes-image (word23 (a + 1024 * i)) (0x00 ∷ carried p d) (ap suc (carried-length p d l))
-      (before-below 0x00 (carried p d) (omega arith) (carried-below p d b))
+      (below-cons 0x00 (carried p d) (omega arith) (carried-below p d b))
 
   pub sent-useful : usefulOf (sentImage p a i d) ≡ carried p d
   unfolding usefulOf
@@ -95,9 +91,6 @@ module _ (p : Bool) (a i : ℕ) (d : List ℕ) (ha : a ≤ 1023) (hi : i ≤ 3) 
 -- ---- protected data
 
 -- thirty words of these informations with at most four flips each: either one cannot be read, or all are read as sent
-seven : (i j : ℕ) → i < 4096 → j < 4096 → (i ≡ j → ⊥) → 7 ≤ flips (word24 i) (word24 j)
-seven i j hi hj ne = omega (arith, word24-apart i j hi hj ne)
-
 module _ (is ns : List ℕ) (small : Below 4096 is) (same : length ns ≡ length is)
     (few : (w : ℕ) → w < length is → flips (word24 (getD is w 0)) (getD ns w 0) ≤ 4) where
   each-read : failed (informations ns) ≡ length is → informations ns ≡ is
@@ -111,7 +104,7 @@ module _ (is ns : List ℕ) (small : Below 4096 is) (same : length ns ≡ length
           (failed-whole (informations ns) (omega (arith, whole, same, length-map ns (nearest word24))) w)
 
       at : (w : ℕ) → w < length is → getD (informations ns) w 0 ≡ getD is w 0
-      at w h = getD-map (nearest word24) ns w (omega (arith, same)) ∙ pick (nearest-within-four word24 seven word24-apart (getD ns w 0) (getD is w 0) (small w) (few w h))
+      at w h = getD-map (nearest word24) ns w (omega (arith, same)) ∙ pick (nearest-within-four word24 eight-seven word24-apart (getD ns w 0) (getD is w 0) (small w) (few w h))
         where
           pick : (nearest word24 (getD ns w 0) ≡ getD is w 0) ⊎ (nearest word24 (getD ns w 0) ≡ 4096) → nearest word24 (getD ns w 0) ≡ getD is w 0
           pick (inl e) = e
@@ -129,7 +122,7 @@ corrected-whole (i ∷ is) (n ∷ ns) small same few =
     go : failed (informations ns) ≡ length ns → failed (informations (n ∷ ns)) ≡ suc (length ns)
     go rest =
         failed-pass (nearest word24 n) (informations ns)
-        (omega (arith, nearest-is word24 seven n i (small 0) (few 0 (omega arith)), small 0))
+        (omega (arith, nearest-is word24 eight-seven n i (small 0) (few 0 (omega arith)), small 0))
         ∙ ap suc rest
 
 -- ---- the packet

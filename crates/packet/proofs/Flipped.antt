@@ -26,7 +26,7 @@ use lib.ListN.{length, getD, set, take, drop, length-map, length-set, length-app
 use lib.Seq.{take-all, take-take, take-append-le, drop-at, length-take-le, getD-set-same, getD-set-other}
 use Rattle.bits.specs.Bits.{flips, number, sent, taken}
 use Rattle.bits.proofs.Flips.{flips-of, flips-same}
-use Rattle.bits.proofs.Runs.{Below, below-take, below-cat, sent-length, sent-below, taken-length, taken-below, taken-sent, sent-taken}
+use Rattle.bits.proofs.Runs.{Below, below-take, below-cat, sent-length, sent-below, taken-length, taken-below, taken-sent, sent-taken, below-cons}
 use Rattle.bits.proofs.Storing.{getD-map}
 use Rattle.bare.specs.Bare.{types, typeNear, wordWritten}
 use Rattle.bare.specs.declared.Word.{Word}
@@ -87,14 +87,10 @@ wordFlips s t w = flips (getD (wordsOf (usefulOf s)) w 0) (getD (wordsOf (useful
 
 -- ---- lists of bytes and words
 
-before-below : (m n : ℕ) (ns : List ℕ) → n < m → Below m ns → Below m (n ∷ ns)
-before-below m n ns h hs zero = h
-before-below m n ns h hs (suc k) = hs k
-
 set-below : (m : ℕ) (ns : List ℕ) (j n : ℕ) → n < m → Below m ns → Below m (set ns j n)
 set-below m [] j n h hs k = hs k
-set-below m (x ∷ ns) zero n h hs k = before-below m n ns h (λ i. hs (suc i)) k
-set-below m (x ∷ ns) (suc j) n h hs k = before-below m x (set ns j n) (hs 0) (set-below m ns j n h (λ i. hs (suc i))) k
+set-below m (x ∷ ns) zero n h hs k = below-cons n ns h (λ i. hs (suc i)) k
+set-below m (x ∷ ns) (suc j) n h hs k = below-cons x (set ns j n) (hs 0) (set-below m ns j n h (λ i. hs (suc i))) k
 
 -- thirty words, as bytes and back
 words-packed : (ns : List ℕ) → Below (2 ^ 24) ns → length ns ≡ 30 → wordsOf (taken 8 90 (sent 24 ns)) ≡ ns
@@ -150,7 +146,7 @@ module _ (a c : ℕ) (d : List ℕ) (x : Flipping) (z : Fits a c d x) where
   unfolding flipped
   bytes-with =
       bytes-image (bitXor (word23 (a + 1024 * c)) (x .header)) (x .type ∷ usefulWith d x) length-91
-      (before-below 256 (x .type) (usefulWith d x) (z .type) (taken-below 8 90 (sent 24 (wordsWith d x)) (sent-below 24 (wordsWith d x))))
+      (below-cons (x .type) (usefulWith d x) (z .type) (taken-below 8 90 (sent 24 (wordsWith d x)) (sent-below 24 (wordsWith d x))))
 
   words-with : wordsOf (usefulOf (flipped a c d x)) ≡ wordsWith d x
   unfolding usefulOf
@@ -163,7 +159,7 @@ module _ (a c : ℕ) (d : List ℕ) (x : Flipping) (z : Fits a c d x) where
   type-sent =
       ap (λ (bs : List ℕ). getD bs 0 0)
       (bytes-image (word23 (a + 1024 * c)) (0x00 ∷ protected d) (ap suc (protected-length d))
-      (before-below 256 0x00 (protected d) (lit< tt) (protected-below d)))
+      (below-cons 0x00 (protected d) (lit< tt) (protected-below d)))
 
   words-sent : wordsOf (usefulOf (sentImage true a c d)) ≡ sentWords d
   words-sent = ap wordsOf (sent-useful true a c d (z .address) (z .index) (z .size) (z .bytes)) ∙ words-protected d

@@ -4,7 +4,7 @@
 --   put-length, put-put, put-next, put-part, put-below                    a part replaced
 --   part-put, part-put-before, part-put-after, getD-put-*                 what stands where after it
 --   sets-put                                                              stores one after the other are a put
---   blank-at                                                              a run of 0
+--   blank-at, part-blank                                                  a run of 0
 --
 -- Assumes nothing.
 use mathlib.Core.Path.{_≡_, refl, sym, ap, ap₂, _∙_}
@@ -148,3 +148,11 @@ unfolding blank
 blank-at zero k = refl
 blank-at (suc n) zero = refl
 blank-at (suc n) (suc k) = blank-at n k
+
+pub part-blank : (at n m : ℕ) → at + n ≤ m → part at n (blank m) ≡ blank n
+unfolding part blank
+part-blank zero zero m h = refl
+part-blank zero (suc n) zero h = absurd (omega arith)
+part-blank zero (suc n) (suc m) h = ap (λ (x : List ℕ). 0 ∷ x) (part-blank zero n m (omega arith))
+part-blank (suc at) n zero h = absurd (omega arith)
+part-blank (suc at) n (suc m) h = part-blank at n m (omega arith)

@@ -15,13 +15,13 @@ use lib.ListN.{length}
 use Rattle.bits.proofs.Runs.{Below}
 use Rattle.runs.specs.Part.{part}
 use Rattle.records.specs.declared.Step.{Step}
-use Rattle.records.specs.declared.Step.the-variants.{Record, End, More, Bad}
+use Rattle.records.specs.declared.Step.the-variants.{End, More, Bad}
 use Rattle.runs.specs.Numbers.{twoAt}
 use Rattle.records.specs.Format.{bodySize, goodHead, stepAt}
 use Rattle.records.proofs.Laws.{kindAt, step-end, step-bad, step-record, Stands, ended, waits, bad, whole, stands}
 use Rattle.records.proofs.Cutting.{good-length}
 use Rattle.serving.specs.Served.{servedAfter, Pass, pass}
-use Rattle.serving.proofs.Laws.{Stops, pass-stop, pass-on}
+use Rattle.serving.proofs.Laws.{Stops, pass-stop, pass-on, Waits}
 
 abbrev size : Bool → Bool → Bool → Bool → Bool → ℕ
 size a b c d e = cond a 94 (cond b 0 (cond c 5 (cond d 2 (cond e 2 65536))))
@@ -39,12 +39,6 @@ size-few kind = go (eqb kind 1) (eqb kind 2) (eqb kind 3) (eqb kind 4) (eqb kind
     go false false false false true h = lit≤ tt
     go false false false false false h = absurd (omega arith)
 
-abbrev Waiting : Step → Type 0
-Waiting (Record kind body) = ⊥
-Waiting End = Unit
-Waiting More = Unit
-Waiting Bad = ⊥
-
 module _ (s : List ℕ) (bytes : Below 256 s) where
   good-few : (at : ℕ) → goodHead s at ≡ true → bodySize (kindAt s at) ≤ 94
   unfolding twoAt
@@ -56,8 +50,8 @@ module _ (s : List ℕ) (bytes : Below 256 s) where
     where
       go : Dec (at + 98 ≤ length s) → (g : Bool) → goodHead s at ≡ g → length s ≤ at + 97
       go (no h) g q = omega arith
-      go (yes h) false q = absurd (subst Waiting (sym e ∙ step-bad s at l (omega arith) q) tt)
-      go (yes h) true q = absurd (subst Waiting (sym e ∙ step-record s at l (omega arith) q (omega (arith, good-few at q))) tt)
+      go (yes h) false q = absurd (subst Waits (sym e ∙ step-bad s at l (omega arith) q) tt)
+      go (yes h) true q = absurd (subst Waits (sym e ∙ step-record s at l (omega arith) q (omega (arith, good-few at q))) tt)
 
 -- what a pass from a place on has served, and what it leaves
 pub record Counted (s : List ℕ) (at : ℕ) (p : Pass) : Type 0 where

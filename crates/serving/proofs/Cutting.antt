@@ -22,17 +22,11 @@ use Rattle.records.specs.Format.{bodySize, stepAt}
 use Rattle.records.proofs.Laws.{kindAt, step-end, Stands, ended, waits, bad, whole, stands}
 use Rattle.records.proofs.Cutting.{shifted, step-shift, front-bad, front-record}
 use Rattle.serving.specs.Served.{servedAnswer, servedAfter, Pass, stopped, onStep, pass, ending, fileFrom, fileAnswers, cut, onBad, chunksFrom, chunkAnswers, joined}
-use Rattle.serving.proofs.Laws.{Stops, further, pass-stop, pass-on, pass-enough, passed, passed-on}
+use Rattle.serving.proofs.Laws.{Stops, further, pass-stop, pass-on, pass-enough, passed, passed-on, Waits}
 
 -- ---- what is printed
 
 -- no record, and none that is bad
-abbrev Waits : Step → Type 0
-Waits (Record kind body) = ⊥
-Waits End = Unit
-Waits More = Unit
-Waits Bad = ⊥
-
 abbrev said : Pass → List ℕ
 said p = p .answers ++ ending (p .last)
 

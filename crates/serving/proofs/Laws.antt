@@ -2,6 +2,7 @@
 --
 --   served-kind, served-ask      one record's call, by its kind
 --   Stops, pass-stop, pass-on    a pass stops, or serves a record and goes on behind it
+--   Waits                        it stops, and more bytes may come
 --   pass-enough                  a pass that may serve as many records as there are bytes comes to the end, however many more it may
 --   passed, passed-on            such a pass: its first record and the rest
 --   lent-part, lent-length       the body that is lent to the call
@@ -50,6 +51,13 @@ module _ (kind : ℕ) (b t : List ℕ) (r : ℕ) (u : List ℕ) where
       (p ∙ sym (fifth _ _ _ _ _ a b c d), q ∙ sym (fifth _ _ _ _ _ a b c d))
 
 -- ---- passes
+
+-- it stops, and waits for more bytes
+abbrev pub Waits : Step → Type 0
+Waits (Record kind body) = ⊥
+Waits End = Unit
+Waits More = Unit
+Waits Bad = ⊥
 
 abbrev pub Stops : Step → Type 0
 Stops (Record kind body) = ⊥

@@ -12,7 +12,7 @@
 -- Assumes nothing.
 use mathlib.Core.Path.{_≡_, refl, sym, ap, ap₂, _∙_, subst}
 use mathlib.Core.Bool.{Bool, true, false, cond, _&&_}
-use mathlib.Core.List.{List, [], _∷_}
+use mathlib.Core.List.{List}
 use Prim.Native.Nat.{ℕ, suc, _+_, _-_, _*_, _^_, _≤_, _<_}
 use native.Mathlib.Omega.{arith}
 use native.Mathlib.Decide.{decLt, ℕ-discrete}
@@ -21,7 +21,7 @@ use lib.Dec.{T, leb, ltb, eqb, lit<}
 use lib.ListN.{length, getD}
 use Rattle.bits.specs.Bits.{blank}
 use Rattle.bits.specs.Search.{first}
-use Rattle.bits.proofs.Search.{first-least, first-holds}
+use Rattle.bits.proofs.Search.{first-least, first-holds, truth, and-no}
 use Rattle.bits.proofs.Storing.{blank-length}
 use Rattle.runs.specs.Part.{part, put}
 use Rattle.runs.proofs.Parts.{put-length, part-put, part-put-before, part-put-after, getD-put-in, getD-put-before}
@@ -173,11 +173,6 @@ marked-alike s ls last certain =
       each = nth-head s ls h;
     }
 
-and-no : (a b c : Bool) → c ≡ false → (a && (b && c)) ≡ false
-and-no true true c h = h
-and-no true false c h = refl
-and-no false b c h = refl
-
 all-three : (a b c : Bool) → a ≡ true → b ≡ true → c ≡ true → (a && (b && c)) ≡ true
 all-three a b c p q r = λ i. p i && (q i && r i)
 
@@ -311,7 +306,7 @@ module _ (s xs : List ℕ) (n t l : ℕ) where
     unfolding turnOf goesOn
     completes =
         let off : (ltb 0 (headOf s .fields) && (eqb (headOf s .links) l && ltb (key (nth (stored (headOf s) - 1) s)) (key t))) ≡ false =
-        and-no (ltb 0 (headOf s .fields)) (eqb (headOf s .links) l) (ltb (key (nth (stored (headOf s) - 1) s)) (key t)) (ap (λ (x : ℕ). ltb x (key t)) (last-key 0 k h pos few) ∙ le-ltb (key (getD xs (n - 1) 0)) (key t) falls) in
+        and-no (ltb 0 (headOf s .fields)) (and-no (eqb (headOf s .links) l) (ap (λ (x : ℕ). ltb x (key t)) (last-key 0 k h pos few) ∙ le-ltb (key (getD xs (n - 1) 0)) (key t) falls)) in
         let all : (ltb 0 (headOf s .fields) && (leb (headOf s .fields) most && eqb (nth 0 s) t)) ≡ true =
         all-three _ _ _ (lt-ltb 0 (headOf s .fields) (omega (arith, h .fields)))
         (le-leb (headOf s .fields) most (omega (arith, h .fields))) (eq-eqb (nth 0 s) t (h .each 0 pos ∙ sym is)) in
@@ -368,10 +363,6 @@ module _ (s xs : List ℕ) (n k i t : ℕ) (h : Holds s n xs 1 k) (few : n ≤ m
 
   abbrev is-t : ℕ → Bool
   is-t j = eqb (nth j s) t
-
-  truth : (b : Bool) → T b → b ≡ true
-  truth true h = refl
-  truth false h = absurd h
 
   pub place-is : placeOf s t ≡ i
   unfolding placeOf

@@ -14,7 +14,7 @@
 --
 -- Assumes nothing.
 use mathlib.Core.Path.{_≡_, refl, sym, ap, _∙_, subst}
-use mathlib.Core.Bool.{Bool, true, false, true≢false, cond, _&&_, _||_}
+use mathlib.Core.Bool.{Bool, true, false, true≢false, cond, _&&_, _||_, or-true}
 use mathlib.Core.List.{List}
 use Prim.Native.Nat.{ℕ, _+_, _-_, _%_, _^_, _≤_, _<_}
 use native.Mathlib.Omega.{arith}
@@ -28,7 +28,6 @@ use Rattle.runs.specs.Part.{put}
 use Rattle.field.specs.Field.{fln1, fcp, deletes, key}
 use Rattle.structure.specs.Structure.{most, structureSize, allOnes, headOf, withHead, nth, withNth, stored, placeOf, isNext, goesOn, turnOf, gatheringHead, completedHead, markedHead, lateOf, beginning, turned, gathered, spoiled, noneHead, deletion, absence, goodHead, complete, settledHead}
 use Rattle.structure.specs.declared.Structure.{Structure}
-use Rattle.structure.specs.declared.Turn.{Turn}
 use Rattle.structure.specs.declared.Turn.the-variants.{Begins, Joins, Overflows, Completes, Known}
 use Rattle.structure.proofs.Gathering.{Empty, Alike, head-stored, head-nth, with-head-length, with-nth-length, marked-alike, beginning-head, beginning-length, beginning-first}
 
@@ -407,12 +406,8 @@ module _ (d : ℕ) where
         late = lit≤ tt;
         certain = lit≤ tt;
         room = refl;
-        none = either-none (eqb d 0);
+        none = or-true (eqb d 0);
       })
-    where
-      either-none : (b : Bool) → (b || true) ≡ true
-      either-none true = refl
-      either-none false = refl
 
 pub deletion-length : length deletion ≡ structureSize
 unfolding deletion

@@ -16,17 +16,15 @@ use mathlib.Core.Path.{_≡_, refl, sym, ap, _∙_, subst}
 use mathlib.Core.Bool.{Bool, true, false, true≢false, cond, _&&_}
 use mathlib.Core.List.{List, [], _∷_}
 use mathlib.Core.Logic.{_⊎_, inl, inr}
-use Prim.Native.Nat.{ℕ, zero, suc, _+_, _-_, _*_, _%_, _^_, _≤_, _<_}
+use Prim.Native.Nat.{ℕ, zero, suc, _+_, _-_, _%_, _^_, _≤_, _<_}
 use native.Mathlib.Omega.{arith}
-use native.Mathlib.Decide.{decLt, ℕ-discrete}
-use borrow.Author.Tests.{eq-eqb, ne-eqb, eqb-true, le-ltb, lt-ltb, ltb-true}
-use lib.Dec.{T, leb, ltb, eqb, lit<}
+use native.Mathlib.Decide.{ℕ-discrete}
+use borrow.Author.Tests.{eq-eqb, ne-eqb, eqb-true, le-ltb, ltb-true}
+use lib.Dec.{leb, ltb, eqb, lit<}
 use lib.ListN.{length, getD, drop}
 use lib.Seq.{getD-drop}
-use Rattle.bits.specs.Bits.{blank}
 use Rattle.bits.specs.Search.{first}
-use Rattle.bits.proofs.Search.{and-left, first-holds}
-use Rattle.bits.proofs.Storing.{blank-length}
+use Rattle.bits.proofs.Search.{and-left, first-holds, truth, and-no}
 use Rattle.field.specs.Field.{key, fln1, fcp, deletes}
 use Rattle.structure.specs.Structure.{most, structureSize, allOnes, headOf, withHead, nth, stored, placeOf, member, nextPlace, isNext, goesOn, turnOf, gatheringHead, completedHead, markedHead, lateOf, turned, gathered, spoiled}
 use Rattle.structure.specs.declared.Structure.{Structure}
@@ -61,10 +59,6 @@ Lasts s due = (headOf s .last ≡ 0) ⊎ (headOf s .last ≡ due)
 -- a field that a structure has
 pub data Listed (s : List ℕ) (t : ℕ) : Type 0 where
   placed : (j : ℕ) → j < stored (headOf s) → nth j s ≡ t → Listed s t
-
-truth : (b : Bool) → T b → b ≡ true
-truth true h = refl
-truth false h = absurd h
 
 pub next-listed : (s : List ℕ) (t : ℕ) → 0 < stored (headOf s) → isNext s t ≡ true → Listed s t
 unfolding isNext member placeOf nextPlace
@@ -278,11 +272,6 @@ module _ (xs : List ℕ) (f : Fields xs) (i : ℕ) (hi : i < length xs) (l : ℕ
   empty-takes : (s : List ℕ) → Empty s → Took (gathered s t l) xs (suc i) l
   empty-takes s e = open-takes s (e .fields) (e .whole)
 
-  and-no : (a b c : Bool) → c ≡ false → (a && (b && c)) ≡ false
-  and-no true true c h = h
-  and-no true false c h = refl
-  and-no false b c h = refl
-
   and-left-no : (a b c : Bool) → b ≡ false → (a && (b && c)) ≡ false
   and-left-no true b c h = ap (λ (x : Bool). x && c) h
   and-left-no false b c h = refl
@@ -296,7 +285,7 @@ module _ (xs : List ℕ) (f : Fields xs) (i : ℕ) (hi : i < length xs) (l : ℕ
   stuck-takes s k =
       let last : nth (stored (headOf s) - 1) s ≡ allOnes = ap (λ (n : ℕ). nth (n - 1) s) (stored-few (headOf s) 1 (k .fields) (omega arith)) ∙ k .first in
       begins-run s (turn-begins s t l (k .whole)
-      (and-no (ltb 0 (headOf s .fields)) (eqb (headOf s .links) l) _ (ap (λ (x : ℕ). ltb (key x) (key t)) last ∙ ones-key t))
+      (and-no (ltb 0 (headOf s .fields)) (and-no (eqb (headOf s .links) l) (ap (λ (x : ℕ). ltb (key x) (key t)) last ∙ ones-key t)))
       (ap (λ (x : ℕ). eqb x t) (k .first) ∙ ne-eqb allOnes t not-ones))
 
   -- a run of places j to j + k - 1
@@ -369,7 +358,7 @@ module _ (xs : List ℕ) (f : Fields xs) (i : ℕ) (hi : i < length xs) (l : ℕ
             minus a b p = omega arith
         go (no q) =
             begins-run s (turn-begins s t l (h .whole)
-            (and-no (ltb 0 (headOf s .fields)) (eqb (headOf s .links) l) _ (ap (λ (x : ℕ). ltb (key x) (key t)) last-place ∙ le-ltb _ (key t) falls))
+            (and-no (ltb 0 (headOf s .fields)) (and-no (eqb (headOf s .links) l) (ap (λ (x : ℕ). ltb (key x) (key t)) last-place ∙ le-ltb _ (key t) falls)))
             (ap (λ (x : ℕ). eqb x t) first-place
             ∙ ne-eqb (getD xs j 0) t (λ p. apart xs f i j (omega (arith, z, q)) (omega (arith, e, pos)) (sym p))))
 

@@ -1,6 +1,5 @@
 -- What the calls' code does, against their definitions.
 --
---   refused, accepted            a call that answers first and changes the state after: its answer with the bytes after
 --   start-refused, start-passed  start's one row, by the test of the length
 --   follow-length, end-length    an accepted call's state has 11,776 bytes
 --   Known, known                 what holds of a followed address
@@ -19,8 +18,8 @@ use borrow.Author.Tests.{eq-eqb, ne-eqb}
 use lib.Dec.{eqb}
 use lib.ListN.{length, take, drop}
 use Rattle.bits.specs.Bits.{blank}
-use Rattle.bits.specs.Rows.{refusal, done}
-use Rattle.bits.proofs.Rows.{refusal-hit, refusal-miss, done-refused, done-passed}
+use Rattle.bits.specs.Rows.{refusal}
+use Rattle.bits.proofs.Rows.{refusal-hit, refusal-miss}
 use Rattle.runs.specs.Part.{part, put}
 use Rattle.slot.specs.Slot.{slotSize, headOf, withHead}
 use Rattle.head.specs.Head.{agedHead}
@@ -32,15 +31,6 @@ use Rattle.table.specs.Calls.{startAnswer, followAnswer, leaveAnswer, en
 use Rattle.table.proofs.States.{slot-length, with-length}
 use Rattle.table.proofs.Kept.{follow-passed, leave-passed}
 use Rattle.table.proofs.Looking.{state-passed}
-
--- ---- the answer first, then the change
-
-module _ (r n : ℕ) (after before : List ℕ) (e : r ≡ n) where
-  pub refused : (r ≡ 0 → ⊥) → (r ≡ n) × (before ≡ done n after before)
-  refused ne = (e, sym (done-refused n after before (λ z. ne (e ∙ z))))
-
-  pub accepted : (now : List ℕ) → r ≡ 0 → now ≡ after → (0 ≡ n) × (now ≡ done n after before)
-  accepted now z q = (sym z ∙ e, q ∙ sym (done-passed n after before (sym e ∙ z)))
 
 pub start-refused : (s : List ℕ) → (length s ≡ stateSize → ⊥) → 20 ≡ startAnswer s
 unfolding startAnswer

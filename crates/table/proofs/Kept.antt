@@ -1,31 +1,29 @@
 -- Every call keeps the state good, whatever it answers.
 --
 --   follow-passed, leave-passed    what holds where a call is accepted: none of its rows
---   part-blank, slot-blank, blank-good     the state of 0 alone
+--   slot-blank, blank-good     the state of 0 alone
 --   start-good, follow-good, leave-good, end-good
 --   age-waits       the age does not move before the first whole group
 --
 -- Assumes nothing.
-use mathlib.Core.Path.{_≡_, refl, sym, ap, _∙_, subst}
+use mathlib.Core.Path.{_≡_, sym, ap, _∙_, subst}
 use mathlib.Core.Bool.{Bool, true, cond, not, _&&_}
-use mathlib.Core.List.{List, [], _∷_}
+use mathlib.Core.List.{List, []}
 use Prim.Native.Nat.{ℕ, zero, suc, _+_, _*_, _≤_, _<_}
 use native.Mathlib.Omega.{arith}
-use borrow.Author.Tests.{not-false, ltb-true, ltb-false, leb-true, le-leb, eq-eqb, ne-eqb}
-use lib.Dec.{T, ltb, leb, eqb}
+use borrow.Author.Tests.{not-false, ltb-true, ltb-false, eq-eqb, ne-eqb}
+use lib.Dec.{T, ltb, eqb}
 use mathlib.Core.Logic.{_⊎_, inl, inr}
 use lib.ListN.{length, getD}
 use Rattle.bits.specs.Bits.{blank}
 use Rattle.bits.specs.Rows.{done}
-use Rattle.bits.proofs.Rows.{refusal-passed, refusal-miss, refusal-none}
-use Rattle.bits.proofs.Search.{and-left}
+use Rattle.bits.proofs.Rows.{refusal-passed, refusal-miss, refusal-none, done-either}
 use Rattle.bits.proofs.Storing.{blank-length}
-use Rattle.runs.specs.Part.{part}
 use Rattle.head.specs.declared.Head.{Head}
 use Rattle.head.proofs.Bounds.{wish-bounds, good-new, good-aged}
 use Rattle.slot.proofs.Goods.{good-load, good-store, good-free, good-cases, head-blank, blank-free}
 use Rattle.slot.proofs.Heads.{store-load, withHead-length}
-use Rattle.runs.proofs.Parts.{blank-at}
+use Rattle.runs.proofs.Parts.{blank-at, part-blank}
 use Rattle.slot.specs.Slot.{slotSize, headOf, withHead, goodSlot, free}
 use Rattle.head.specs.Head.{freeHead, newHead, agedHead, within, goodWish, goodHead}
 use Rattle.head.specs.declared.Wish.{Wish}
@@ -34,12 +32,6 @@ use Rattle.table.specs.State.{slots, stateSize, slotAt, withSlot, addres
 use Rattle.table.specs.Calls.{startAnswer, startAfter, followAnswer, followAfter, leaveAnswer, leaveAfter, endAnswer, ages, endAfter}
 use Rattle.table.proofs.Looking.{Passed, past-state}
 use Rattle.table.proofs.States.{Good, good-each, each-good, find-has, slot-length, with-length, good-followed, good-left, good-change, address-is}
-
--- the bytes after, by cases of the answer
-pub done-either : (P : List ℕ → Type 0) (n : ℕ) (after before : List ℕ) → (n ≡ 0 → P after) → P before → P (done n after before)
-unfolding done
-done-either P zero after before a b = a refl
-done-either P (suc n) after before a b = b
 
 pub record Followed (s : List ℕ) (w : Wish) : Type 0 where
   pub state : Passed s
@@ -68,14 +60,6 @@ leave-passed s a e =
     (past-state s _ e .0, not-false (within 1 1022 a) (r22 .0), ltb-true (find s a) slots (not-false (ltb (find s a) slots) (r27 .0)))
 
 -- ---- start
-
-pub part-blank : (at n m : ℕ) → at + n ≤ m → part at n (blank m) ≡ blank n
-unfolding part blank
-part-blank zero zero m h = refl
-part-blank zero (suc n) zero h = absurd (omega arith)
-part-blank zero (suc n) (suc m) h = ap (λ (x : List ℕ). 0 ∷ x) (part-blank zero n m (omega arith))
-part-blank (suc at) n zero h = absurd (omega arith)
-part-blank (suc at) n (suc m) h = part-blank at n m (omega arith)
 
 pub slot-blank : (k : ℕ) → k < slots → slotAt k (blank stateSize) ≡ blank slotSize
 unfolding slotAt

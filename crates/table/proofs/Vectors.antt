@@ -19,7 +19,7 @@ use native.Mathlib.Omega.{arith}
 use native.Mathlib.Decide.{ℕ-discrete, decLt}
 use borrow.Author.Tests.{eq-eqb, ne-eqb, lt-ltb, le-ltb}
 use lib.Dec.{T, leb, ltb, eqb, leb→le, eqb→eq, lit<, lit≤}
-use lib.ListN.{length, take, drop}
+use lib.ListN.{length}
 use Rattle.bits.specs.Bits.{blank}
 use Rattle.bits.specs.Rows.{refusal}
 use Rattle.bits.specs.Search.{first}
@@ -28,14 +28,13 @@ use Rattle.bits.proofs.Storing.{blank-length}
 use Rattle.runs.specs.Part.{part}
 use Rattle.runs.specs.Numbers.{fourAt}
 use Rattle.slot.specs.Slot.{headOf, free, goodSlot}
-use Rattle.head.specs.Head.{goodHead}
-use Rattle.head.specs.Head.{wishOf, goodWish, wishAnswer}
+use Rattle.head.specs.Head.{goodHead, wishOf, goodWish, wishAnswer}
 use Rattle.head.specs.declared.Wish.{Wish}
 use Rattle.head.proofs.Wishes.{wish-0}
-use Rattle.table.specs.State.{slots, stateSize, startedState, slotAt, find, good}
+use Rattle.table.specs.State.{slots, stateSize, startedState, slotAt, good}
 use Rattle.table.specs.Calls.{startAnswer, followAnswer, followAfter, leaveAnswer, leaveAfter, endAnswer}
 use Rattle.table.proofs.Doing.{start-refused, start-passed}
-use Rattle.table.proofs.Kept.{part-blank}
+use Rattle.runs.proofs.Parts.{part-blank}
 use Rattle.table.proofs.Looking.{Passed, state-20, state-34, leave-22, leave-27, leave-0, follow-wish, follow-25, follow-26, follow-0}
 use Rattle.table.proofs.Shows.{Shows, place, with, find-place, start-shows, follow-shows, leave-shows, end-done}
 use Rattle.table.proofs.States.{good-each}

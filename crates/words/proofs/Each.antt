@@ -1,9 +1,14 @@
 -- Thirty words one by one: what is failed, turned and known after a number of them, and where all have the right check
 -- bits.
 --
---   failed-pass, failed-stop, failed-none    the place of the first that cannot be read
---   each-clean     words with the right check bits are read as their first twelve bits, with no flip
---   Reached        what is known when the first w words have been read; reached-none, reached-more
+--   failed-pass, failed-stop, failed-le      the place of the first that cannot be read
+--   failed-whole   where none fails, each is below 4,096
+--   firsts, firsts-small    the words' first twelve bits
+--   Clean, each-clean       words with the right check bits are read as their first twelve bits, with no flip
+--   Read, one-read, one-unread    one word, by its number
+--   Reached        what is known when the first w words have been read; reached-none, reached-more, reached-stop, reached-end
+--   words-short, words-whole, words-small    what is read of thirty words, by the place of the first that fails
+--   data-clean, read-length       the data bytes that they carry
 --
 -- Assumes nothing.
 use mathlib.Core.Path.{_≡_, refl, sym, ap, ap₂, _∙_, subst}

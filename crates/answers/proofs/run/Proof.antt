@@ -1,11 +1,12 @@
 -- `answers::run` ends: it counts its turns down. The loop's invariant: while it goes on, the progress after some chunks is reached, and
 -- the records' numbers have room for the turns that are left. Assumes nothing.
 use mathlib.Core.Path.{_≡_, refl}
-use mathlib.Core.Bool.{Bool, true, false, not, true≢false}
+use mathlib.Core.Bool.{true}
 use Prim.Native.Nat.{_+_, _*_, _≤_, _<_}
 use native.Mathlib.Omega.{arith}
 use borrow.Author.Needs.{needs}
 use lib.ListN.{length}
+use borrow.Author.Tests.{not-false}
 use Rattle.answers.specs.Said.{held, Reached}
 use Rattle.answers.proofs.run.Statement.{statement}
 use Rattle.answers.proofs.run.Tie as tie
@@ -18,10 +19,6 @@ Inv-loop state₀ buffer₀ out₀ progress₀ turns₀ state buffer out progres
 
 abbrev μ-loop : tie.MeasureT-loop
 μ-loop state₀ buffer₀ out₀ progress₀ turns₀ state buffer out progress turns = turns
-
-still : (going : Bool) → not going ≡ false → going ≡ true
-still true e = refl
-still false e = absurd (true≢false e)
 
 loop-holds : tie.Need-loop-holds Inv-loop μ-loop
 loop-holds c = (refl, refl, refl, omega arith, λ _. omega arith, λ _. c .before .before .before .pre .0)
@@ -41,7 +38,7 @@ returns c = search needs
 turn-requires : tie.Need-turn-requires Inv-loop μ-loop
 turn-requires c κs =
     let turn = c .before .before .before .before .before .before .loop in
-    let on = still (turn .progress .going) (c .before .before .before .if1 .left) in
+    let on = not-false (turn .progress .going) (c .before .before .before .if1 .left) in
     (turn .inv .5 on, (omega arith, (omega arith, (omega arith, turn .inv .4 on))))
 
 sub-turns : tie.Need-sub-turns Inv-loop μ-loop

@@ -6,7 +6,8 @@ use lib.ListN.{length, take, length-set}
 use Rattle.map.specs.Map.{ids}
 use Rattle.map.specs.Calls.{markOf, marks, listAfter}
 use Rattle.map.proofs.Looking.{passed}
-use Rattle.map.proofs.Doing.{refused, accepted, list-20, out-size, list-rest, marks-turn, marks-end}
+use Rattle.bits.proofs.Rows.{refused, accepted}
+use Rattle.map.proofs.Doing.{list-20, out-size, list-rest, marks-turn, marks-end}
 use borrow.Author.Needs.{needs}
 use Rattle.map.proofs.list.Statement.{statement}
 use Rattle.map.proofs.list.Tie as tie

@@ -3,7 +3,8 @@ use mathlib.Core.Path.{refl, ap, _∙_}
 use native.Mathlib.Omega.{arith}
 use Rattle.bits.specs.Bits.{blank}
 use Rattle.map.specs.Calls.{startAfter}
-use Rattle.map.proofs.Doing.{refused, accepted, start-refused, start-passed}
+use Rattle.bits.proofs.Rows.{refused, accepted}
+use Rattle.map.proofs.Doing.{start-refused, start-passed}
 use borrow.Author.Needs.{needs}
 use Rattle.map.proofs.start.Statement.{statement}
 use Rattle.map.proofs.start.Tie as tie

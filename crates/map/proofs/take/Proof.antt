@@ -7,7 +7,8 @@ use lib.ListN.{length}
 use borrow.Author.Needs.{needs}
 use Rattle.map.specs.Map.{mapSize}
 use Rattle.map.specs.Calls.{changedTo, upTo, takenIn, frameTaken, takeAfter}
-use Rattle.map.proofs.Doing.{refused, accepted, Fits, fits, flag-lt, changed-to, kept-to, changed-to-length, gap-to, none-to, up-to-length, taken-none, frame-again, frame-taken}
+use Rattle.bits.proofs.Rows.{refused, accepted}
+use Rattle.map.proofs.Doing.{Fits, fits, flag-lt, changed-to, kept-to, changed-to-length, gap-to, none-to, up-to-length, taken-none, frame-again, frame-taken}
 use Rattle.map.proofs.take.Statement.{statement}
 use Rattle.map.proofs.take.Tie as tie
 

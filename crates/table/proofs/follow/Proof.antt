@@ -6,7 +6,8 @@ use lib.ListN.{length}
 use borrow.Author.Needs.{needs}
 use Rattle.table.specs.State.{slots, stateSize}
 use Rattle.table.specs.Calls.{followAnswer, followAfter}
-use Rattle.table.proofs.Doing.{refused, accepted, follow-length, slot-stored}
+use Rattle.bits.proofs.Rows.{refused, accepted}
+use Rattle.table.proofs.Doing.{follow-length, slot-stored}
 use Rattle.table.proofs.Kept.{Followed, follow-passed}
 use Rattle.table.proofs.follow.Statement.{statement}
 use Rattle.table.proofs.follow.Tie as tie

@@ -4,7 +4,8 @@ use native.Mathlib.Omega.{arith}
 use borrow.Author.Needs.{needs}
 use Rattle.table.specs.State.{slots}
 use Rattle.table.specs.Calls.{leaveAfter}
-use Rattle.table.proofs.Doing.{refused, accepted, slot-cleared, Known, known}
+use Rattle.bits.proofs.Rows.{refused, accepted}
+use Rattle.table.proofs.Doing.{slot-cleared, Known, known}
 use Rattle.table.proofs.leave.Statement.{statement}
 use Rattle.table.proofs.leave.Tie as tie
 

@@ -4,7 +4,8 @@ use native.Mathlib.Omega.{arith}
 use borrow.Author.Needs.{needs}
 use Rattle.bits.specs.Bits.{blank}
 use Rattle.table.specs.Calls.{startAfter}
-use Rattle.table.proofs.Doing.{refused, accepted, start-refused, start-passed}
+use Rattle.bits.proofs.Rows.{refused, accepted}
+use Rattle.table.proofs.Doing.{start-refused, start-passed}
 use Rattle.table.proofs.start.Statement.{statement}
 use Rattle.table.proofs.start.Tie as tie
 

@@ -2,7 +2,8 @@
 use mathlib.Core.Path.{sym, _∙_}
 use borrow.Author.Needs.{needs}
 use Rattle.table.specs.Calls.{endAfter}
-use Rattle.table.proofs.Doing.{refused, accepted, end-length}
+use Rattle.bits.proofs.Rows.{refused, accepted}
+use Rattle.table.proofs.Doing.{end-length}
 use Rattle.table.proofs.subframe_end.Statement.{statement}
 use Rattle.table.proofs.subframe_end.Tie as tie
 

@@ -1,5 +1,5 @@
 -- `adapter::write::group` meets its contract: the answer first, then the four images. Assumes nothing.
-use Rattle.table.proofs.Doing.{refused, accepted}
+use Rattle.bits.proofs.Rows.{refused, accepted}
 use Rattle.adapter.specs.Calls.{writeAfter}
 use Rattle.adapter.proofs.Writing.{writable}
 use borrow.Author.Needs.{needs}

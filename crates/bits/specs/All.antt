@@ -1,0 +1,8 @@
+-- Each of a list.
+--
+--   All P xs   P holds of each of xs
+use mathlib.Core.List.{List, [], _∷_}
+
+abbrev pub All : {A : Type 0} → (A → Type 0) → List A → Type 0
+All P [] = Unit {0}
+All P (x ∷ xs) = P x × All P xs
