@@ -19,7 +19,7 @@ use borrow.Author.Tests.{ltb-true, lt-ltb, le-ltb, eq-eqb, ne-eqb, eqb-true, not
 use lib.Dec.{ltb, eqb}
 use lib.ListN.{length, take, drop}
 use Rattle.bits.specs.Rows.{Row, row, refusal, further, done}
-use Rattle.bits.proofs.Rows.{refusal-hit, refusal-miss, refusal-passed, refusal-none, further-refused, further-passed, done-passed}
+use Rattle.bits.proofs.Rows.{refusal-hit, refusal-miss, refusal-passed, refusal-none, further-refused, further-passed, done-refused, done-passed}
 use Rattle.bits.proofs.Search.{and-right}
 use Rattle.image.specs.Image.{spareOf}
 use Rattle.packet.specs.Received.{received}
@@ -31,9 +31,10 @@ use Rattle.table.specs.Calls.{stateRows, endAnswer}
 use Rattle.table.proofs.States.{find-le}
 use Rattle.table.proofs.Looking.{state-rest, state-refused, state-passed, past-state, slot-part}
 use Rattle.table.proofs.Doing.{span, slot-given}
-use Rattle.group.specs.Group.{takenNumber, takenAfter}
-use Rattle.adapter.proofs.Laws.{packet-refused}
-use Rattle.adapter.specs.Calls.{addressOf, followed, imageRows, placeRow, unplaced, readingAt, slotAnswer, slotAfter, packetAnswer, packetAfter}
+use Rattle.group.specs.Group.{taken, takenAfter}
+use Rattle.group.specs.declared.Answer.{Answer}
+use Rattle.adapter.proofs.Laws.{answered-refused, answered-passed}
+use Rattle.adapter.specs.Calls.{addressOf, followed, imageRows, placeRow, unplaced, readingAt, slotAnswered, slotAfter, refusedAs, answeredBy, packetAnswered, packetAfter}
 
 -- ---- the rows that need no slot
 
@@ -89,28 +90,30 @@ rows-further false false false true rest = refl
 rows-further false false false false rest = refl
 
 -- an answer with the state after it, by the row of 27 and the slot
-abbrev pub AtPlace : List ℕ → List ℕ → ℕ → List ℕ → Type 0
-AtPlace s image n t =
-    (n ≡ further (refusal (placeRow s image)) (slotAnswer s image)) × (t ≡ done (refusal (placeRow s image)) (slotAfter s image) s)
+abbrev pub AtPlace : List ℕ → List ℕ → Answer → List ℕ → Type 0
+AtPlace s image x t =
+    (x ≡ answeredBy (refusal (placeRow s image)) (slotAnswered s image)) × (t ≡ done (refusal (placeRow s image)) (slotAfter s image) s)
 
 module _ (s image : List ℕ) (r : ℕ) (e : r ≡ refusal (imageRows s image [])) where
   unplaced-further : unplaced s image ≡ further r (refusal (placeRow s image))
   unfolding unplaced
   unplaced-further = rows-further _ _ _ _ (placeRow s image) ∙ ap (λ (n : ℕ). further n (refusal (placeRow s image))) (sym e)
 
-  pub image-refused : (r ≡ 0 → ⊥) → (r ≡ packetAnswer s image) × (s ≡ packetAfter s image)
-  image-refused ne =
+  pub image-refused : (x : Answer) → (r ≡ 0 → ⊥) → x ≡ refusedAs r → (x ≡ packetAnswered s image) × (s ≡ packetAfter s image)
+  unfolding packetAfter
+  image-refused x ne ex =
       let equal : r ≡ unplaced s image = sym (unplaced-further ∙ further-refused r _ ne) in
-      let q = packet-refused s image (λ z. ne (equal ∙ z)) in
-      (equal ∙ sym (q .0), sym (q .1))
+      let un : unplaced s image ≡ 0 → ⊥ = λ z. ne (equal ∙ z) in (
+        ex ∙ ap refusedAs equal ∙ sym (answered-refused (unplaced s image) (slotAnswered s image) un),
+        sym (done-refused (unplaced s image) (slotAfter s image) s un),
+      )
 
-  pub image-placed : (n : ℕ) (t : List ℕ) → r ≡ 0 → AtPlace s image n t
-      → (n ≡ packetAnswer s image) × (t ≡ packetAfter s image)
-  unfolding packetAnswer packetAfter
-  image-placed n t z q =
+  pub image-placed : (x : Answer) (t : List ℕ) → r ≡ 0 → AtPlace s image x t → (x ≡ packetAnswered s image) × (t ≡ packetAfter s image)
+  unfolding packetAfter
+  image-placed x t z q =
       let same : refusal (placeRow s image) ≡ unplaced s image = sym (unplaced-further ∙ further-passed r _ z) in (
-        q .0 ∙ ap (λ (x : ℕ). further x (slotAnswer s image)) same,
-        q .1 ∙ ap (λ (x : ℕ). done x (slotAfter s image) s) same,
+        q .0 ∙ ap (λ (n : ℕ). answeredBy n (slotAnswered s image)) same,
+        q .1 ∙ ap (λ (n : ℕ). done n (slotAfter s image) s) same,
       )
 
 -- ---- 27, by an address and what was found of it
@@ -132,11 +135,13 @@ module _ (s image : List ℕ) (a k : ℕ) (ea : a ≡ addressOf image) (ek : k �
   test : (eqb a 0 || eqb k slots) ≡ not (followed s (addressOf image))
   test = ap (λ (x : ℕ). eqb a 0 || eqb x slots) ek ∙ no-place s a ∙ ap (λ (x : ℕ). not (followed s x)) ea
 
-  pub place-27 : (eqb a 0 || eqb k slots) ≡ true → AtPlace s image 27 s
-  unfolding further done
-  place-27 t =
+  pub place-27 : (eqb a 0 || eqb k slots) ≡ true → (x : Answer) → x ≡ refusedAs 27 → AtPlace s image x s
+  place-27 t x ex =
       let hit : 27 ≡ refusal (placeRow s image) = sym (refusal-hit (not (followed s (addressOf image))) 27 [] (sym test ∙ t)) in
-      (ap (λ (x : ℕ). further x (slotAnswer s image)) hit, ap (λ (x : ℕ). done x (slotAfter s image) s) hit)
+      let un : refusal (placeRow s image) ≡ 0 → ⊥ = λ z. omega (arith, hit, z) in (
+        ex ∙ ap refusedAs hit ∙ sym (answered-refused (refusal (placeRow s image)) (slotAnswered s image) un),
+        sym (done-refused (refusal (placeRow s image)) (slotAfter s image) s un),
+      )
 
   pub place-lt : (eqb a 0 || eqb k slots) ≡ false → k < slots
   unfolding followed
@@ -149,17 +154,17 @@ module _ (s image : List ℕ) (a k : ℕ) (ea : a ≡ addressOf image) (ek : k �
   place-found t = refusal-miss (not (followed s (addressOf image))) 27 [] (sym test ∙ t) ∙ refusal-none
 
   -- the slot was lent and came back
-  pub slot-served : (n : ℕ) (b : List ℕ) → (eqb a 0 || eqb k slots) ≡ false
+  pub slot-served : (y : Answer) (b : List ℕ) → (eqb a 0 || eqb k slots) ≡ false
       → let x = take (span (k * slotSize)) (drop (k * slotSize) s) in
-      (n ≡ takenNumber (readingAt x image) (headOf x)) × (b ≡ takenAfter (readingAt x image) x)
-      → AtPlace s image n (take (k * slotSize) s ++ (b ++ drop (span (k * slotSize)) (drop (k * slotSize) s)))
-  unfolding slotAnswer slotAfter
-  slot-served n b t q =
+      (y ≡ taken (readingAt x image) (headOf x)) × (b ≡ takenAfter (readingAt x image) x)
+      → AtPlace s image y (take (k * slotSize) s ++ (b ++ drop (span (k * slotSize)) (drop (k * slotSize) s)))
+  unfolding slotAfter
+  slot-served y b t q =
       let j : k ≡ find s (addressOf image) = ek ∙ ap (find s) ea in
       let x : take (span (k * slotSize)) (drop (k * slotSize) s) ≡ slotAt (find s (addressOf image)) s =
       slot-part k s ∙ ap (λ (i : ℕ). slotAt i s) j in (
-        q .0 ∙ ap (λ (y : List ℕ). takenNumber (readingAt y image) (headOf y)) x
-            ∙ sym (further-passed (refusal (placeRow s image)) _ (place-found t)),
+        q .0 ∙ ap (λ (z : List ℕ). taken (readingAt z image) (headOf z)) x
+            ∙ sym (answered-passed (refusal (placeRow s image)) (slotAnswered s image) (place-found t)),
         slot-given (λ (y : List ℕ). takenAfter (readingAt y image) y) k _ s b j (q .1)
             ∙ sym (done-passed (refusal (placeRow s image)) _ s (place-found t)),
       )

@@ -4,24 +4,35 @@
 --   Placed s image                   no row of 20, 34, 21 and 27 holds
 --   placed, placed-zero              exactly then nothing is refused before the slot is asked
 --   size-refused, spare-refused      20 where the image is not 94 bytes, 21 where its spare bit is set
---   packet-refused, packet-placed    the call's answer with the state after it, by these rows
+--   answered-refused, answered-passed     what a number that refuses makes of an answer, and what 0 does
+--   packet-place                     an answer has a place with 31 only
+--   packet-number                    the call's number is its answer's
+--   packet-refused, packet-placed    the call's number with the state after it, by these rows
 --
 -- Assumes nothing.
-use mathlib.Core.Path.{_≡_, ap, ap₂, _∙_}
-use mathlib.Core.Bool.{true, false, not, _&&_}
+use mathlib.Core.Path.{_≡_, refl, ap, ap₂, _∙_}
+use mathlib.Core.Bool.{Bool, true, false, cond, not, _&&_}
 use mathlib.Core.List.{List, [], _∷_}
-use Prim.Native.Nat.{ℕ, _<_}
+use Prim.Native.Nat.{ℕ, zero, suc, _<_}
 use native.Mathlib.Omega.{arith}
+use native.Mathlib.Decide.{ℕ-discrete}
 use borrow.Author.Tests.{not-false, eqb-true, eq-eqb, ne-eqb, lt-ltb, ltb-true}
 use lib.Dec.{ltb, eqb}
 use lib.ListN.{length}
-use Rattle.bits.specs.Rows.{row, refusal}
+use Rattle.bits.specs.Rows.{row, refusal, given, further}
 use Rattle.bits.proofs.Rows.{refusal-hit, refusal-miss, refusal-passed, refusal-none, further-refused, further-passed, done-refused, done-passed}
 use Rattle.bits.proofs.Search.{and-left, and-right}
-use Rattle.image.specs.Image.{spareOf}
+use Rattle.bare.specs.Bare.{headerRead}
+use Rattle.image.specs.Image.{headerOf, spareOf}
+use Rattle.words.specs.Protected.{dataRead}
+use Rattle.packet.specs.Received.{usefulOf, receivedNumber, received}
+use Rattle.head.specs.Move.{moveNumber, rowAt}
+use Rattle.head.specs.declared.Head.{Head}
 use Rattle.table.specs.State.{slots, find, good}
 use Rattle.table.proofs.Looking.{Passed, past-state, state-rest}
-use Rattle.adapter.specs.Calls.{addressOf, followed, placeRow, unplaced, slotAnswer, slotAfter, packetAnswer, packetAfter}
+use Rattle.group.specs.Group.{taken, takenNumber}
+use Rattle.group.specs.declared.Answer.{Answer}
+use Rattle.adapter.specs.Calls.{addressOf, followed, placeRow, unplaced, readingAt, slotAnswered, slotAnswer, slotAfter, refusedAs, answeredBy, packetAnswered, packetAnswer, packetAfter}
 
 pub followed-both : (s : List ℕ) (a : ℕ) → followed s a ≡ true → (0 < a) × (find s a < slots)
 unfolding followed
@@ -69,11 +80,42 @@ size-refused s image ne = refusal-hit (not (eqb (length image) 94)) 20 _ (ap not
 pub spare-refused : (s image : List ℕ) → length image ≡ 94 → Passed s → spareOf image ≡ 1 → unplaced s image ≡ 21
 spare-refused s image l p e = past s image l p ∙ refusal-hit (eqb (spareOf image) 1) 21 _ (eq-eqb (spareOf image) 1 e)
 
+pub answered-refused : (n : ℕ) (x : Answer) → (n ≡ 0 → ⊥) → answeredBy n x ≡ refusedAs n
+unfolding given further
+answered-refused zero x ne = absurd (ne refl)
+answered-refused (suc n) x ne = refl
+
+pub answered-passed : (n : ℕ) (x : Answer) → n ≡ 0 → answeredBy n x ≡ x
+unfolding given further
+answered-passed n x z = ap (λ (m : ℕ). answeredBy m x) z
+
+-- a reading has a place with 31 only, and so has its answer
+place-with-31 : (p : Bool) (image : List ℕ) (h : Head) → (taken (received p image) h .number ≡ 31 → ⊥) → taken (received p image) h .place ≡ 0
+unfolding takenNumber received further
+place-with-31 p image h ne =
+    ap (λ (b : Bool). cond b (dataRead (usefulOf image) .place) 0)
+    (ne-eqb (receivedNumber p image) 31
+    (λ e. ne (ap (λ (n : ℕ). further n (moveNumber (rowAt h (given n (headerRead (headerOf image) .index))))) e)))
+
 module _ (s image : List ℕ) where
+  pub packet-place : (packetAnswered s image .number ≡ 31 → ⊥) → packetAnswered s image .place ≡ 0
+  unfolding readingAt
+  packet-place ne = go (ℕ-discrete (unplaced s image) 0)
+    where
+      go : Dec (unplaced s image ≡ 0) → packetAnswered s image .place ≡ 0
+      go (yes z) =
+          let x = answered-passed (unplaced s image) (slotAnswered s image) z in
+          ap (λ (y : Answer). y .place) x ∙ place-with-31 _ image _ (λ e. ne (ap (λ (y : Answer). y .number) x ∙ e))
+      go (no n) = ap (λ (y : Answer). y .place) (answered-refused (unplaced s image) (slotAnswered s image) n)
+
+  pub packet-number : packetAnswer s image ≡ packetAnswered s image .number
+  unfolding packetAnswer
+  packet-number = refl
+
   pub packet-refused : (unplaced s image ≡ 0 → ⊥) → (packetAnswer s image ≡ unplaced s image) × (packetAfter s image ≡ s)
   unfolding packetAnswer packetAfter
   packet-refused ne = (further-refused (unplaced s image) _ ne, done-refused (unplaced s image) _ s ne)
 
   pub packet-placed : unplaced s image ≡ 0 → (packetAnswer s image ≡ slotAnswer s image) × (packetAfter s image ≡ slotAfter s image)
-  unfolding packetAnswer packetAfter
+  unfolding packetAnswer packetAfter slotAnswer
   packet-placed e = (further-passed (unplaced s image) _ e, done-passed (unplaced s image) _ s e)

@@ -6,30 +6,40 @@
 --   packets           20 before 34 before 21 before 27
 --   arrived           what a packet is answered that is read as 17 where 17 is followed, protected
 --   answers, starts   28, 29, 29, 30 by the type; 1 for a data packet with index 0
+--   unfollowed-told   27 carries nothing
+--   word-told         31 with place 2, where the third word has four flips
+--   out-told          32 with 2 and 3, where a slot awaits 2 and index 3 comes
 --
 -- Assumes nothing.
-use mathlib.Core.Path.{_≡_, refl, sym, ap, _∙_, subst}
-use mathlib.Core.Bool.{true, not}
+use mathlib.Core.Path.{_≡_, refl, sym, ap, ap₂, _∙_, subst}
+use mathlib.Core.Bool.{true, cond, not}
 use mathlib.Core.List.{List, [], _∷_, _++_, map}
-use Prim.Native.Nat.{ℕ, _<_}
+use Prim.Native.Nat.{ℕ, suc, _<_, _≤_}
 use native.Mathlib.Omega.{arith}
 use lib.Count.{ones, onesIn}
-use lib.Dec.{eqb, lit<, lit≤}
-use lib.ListN.{length, take, drop}
-use Rattle.bits.specs.Bits.{flips, bitsOf, number, sent, taken}
+use lib.Dec.{leb, eqb, lit<, lit≤}
+use lib.ListN.{length, getD, take, drop}
+use Rattle.bits.specs.Bits.{flips, bitsOf, number, sent, taken, blank}
 use Rattle.bits.specs.Rows.{refusal, further}
 use Rattle.bits.specs.Search.{first}
 use Rattle.bits.proofs.Rows.{refusal-miss}
 use Rattle.bits.proofs.Runs.{Below, sent-below, taken-below}
-use Rattle.golay.specs.Code.{less, line, divide, remainder, word23}
+use Rattle.golay.specs.Code.{less, line, divide, remainder, word23, word24, nearest}
+use Rattle.golay.proofs.Reading.{nearest24-is}
+use Rattle.golay.proofs.Vectors as golay
 use Rattle.bare.specs.Bare.{headerRead, typeNear}
 use Rattle.bare.specs.declared.Header.{Header}
-use Rattle.bare.proofs.Vectors.{header-17}
+use Rattle.bare.specs.declared.Word.{Word}
+use Rattle.bare.proofs.Theorems.{word-unreadable}
+use Rattle.bare.proofs.Vectors.{header-17, zero-far}
 use Rattle.image.specs.Image.{headerOf, bytesOf, spareOf, imageOf}
 use Rattle.image.proofs.Vectors as image
+use Rattle.words.specs.Protected.{wordsOf, informations, failed, wordsRead, dataRead}
 use Rattle.words.proofs.Vectors as words
-use Rattle.packet.specs.Received.{typeOf, receivedNumber, received, partAs, written}
+use Rattle.packet.specs.Received.{typeOf, usefulOf, receivedNumber, received, refusedAs, partAs, written}
+use Rattle.packet.specs.Damage.{sentImage}
 use Rattle.packet.specs.declared.Reading.{Reading}
+use Rattle.packet.proofs.Answers.{indexOf, answer-protected, isData, data-short}
 use Rattle.packet.proofs.Damages.{received-sent}
 use Rattle.packet.proofs.Vectors.{shielded, shielded-sent}
 use Rattle.runs.specs.Part.{part}
@@ -41,10 +51,13 @@ use Rattle.table.specs.State.{slots, slotAt, find}
 use Rattle.table.proofs.Looking.{state-34}
 use Rattle.table.proofs.Shows.{start-shows, find-place, follow-head, end-done}
 use Rattle.table.proofs.Vectors.{spoiled, spoiled-length, spoiled-not, started, ok, nobody, followed, followed-17, followed-shows, one}
-use Rattle.group.specs.Group.{takenNumber}
+use Rattle.group.specs.Group as group
+use Rattle.group.specs.Group.{answerOf, takenNumber}
+use Rattle.group.specs.declared.Answer.{Answer}
+use Rattle.group.proofs.Vectors.{answer}
 use Rattle.adapter.specs.Calls as calls
 use Rattle.adapter.proofs.Arriving.{image-0, image-placed, place-27}
-use Rattle.adapter.proofs.Laws.{both-followed, Placed, placed-zero, size-refused, spare-refused, packet-refused, packet-placed}
+use Rattle.adapter.proofs.Laws.{both-followed, Placed, placed-zero, size-refused, spare-refused, answered-passed, packet-number, packet-refused}
 
 -- ---- the writer, by the lengths of message and output
 
@@ -105,12 +118,17 @@ address-17 : (image : List ℕ) → headerOf image ≡ 0x75F011 → calls.addres
 unfolding calls.addressOf
 address-17 image e = ap (λ (n : ℕ). headerRead n .address) e ∙ ap (λ (h : Header). h .address) header-17
 
-unfollowed : calls.packetAnswer started image.plain ≡ 27
+pub unfollowed-told : calls.packetAnswered started image.plain ≡ answer 27 0 0 0
 unfolding first
-unfollowed =
+unfollowed-told =
     let none = image-0 started image.plain refl 0 (sym (end-done started nobody start-shows)) refl 0 (sym image.plain-spare) (λ q. omega (arith, q)) in
-    let away = place-27 started image.plain 17 16 (sym (address-17 image.plain image.plain-header)) (find-place started nobody start-shows 17) refl in
-    sym (image-placed started image.plain 0 none 27 started refl away .0)
+    let away =
+    place-27 started image.plain 17 16 (sym (address-17 image.plain image.plain-header)) (find-place started nobody start-shows 17) refl
+    (calls.refusedAs 27) refl in
+    sym (image-placed started image.plain 0 none (calls.refusedAs 27) started refl away .0)
+
+unfollowed : calls.packetAnswer started image.plain ≡ 27
+unfollowed = packet-number started image.plain ∙ ap (λ (x : Answer). x .number) unfollowed-told
 
 pub packets : (calls.packetAnswer started [] ∷ calls.packetAnswer spoiled (drop 1 image.plain) ∷ calls.packetAnswer spoiled marked
     ∷ calls.packetAnswer started marked ∷ calls.packetAnswer started image.plain ∷ [])
@@ -142,11 +160,14 @@ module _ (image : List ℕ) (l : length image ≡ 94) (h : headerOf image ≡ 0x
   unfolding first
   head = ap (λ (k : ℕ). headOf (slotAt k followed)) found ∙ follow-head started nobody start-shows (wishOf 17 1 2) followed-17
 
+  pub arrived-told : calls.packetAnswered followed image ≡ group.taken (received true image) (newHead (wishOf 17 1 2))
+  unfolding calls.readingAt
+  arrived-told =
+      answered-passed (calls.unplaced followed image) (calls.slotAnswered followed image) (placed-zero followed image here)
+      ∙ ap (λ (x : Head). group.taken (received (eqb (x .wish .protection) 1) image) x) head
+
   pub arrived : calls.packetAnswer followed image ≡ takenNumber (received true image) (newHead (wishOf 17 1 2))
-  unfolding calls.slotAnswer calls.readingAt
-  arrived =
-      packet-placed followed image (placed-zero followed image here) .0
-      ∙ ap (λ (x : Head). takenNumber (received (eqb (x .wish .protection) 1) image) x) head
+  arrived = packet-number followed image ∙ ap (λ (x : Answer). x .number) arrived-told
 
 abbrev typed : ℕ → List ℕ
 typed t = written 17 0 t image.counting
@@ -169,3 +190,54 @@ shielded-read = ap (received true) (sym shielded-sent) ∙ received-sent true 17
 pub starts : calls.packetAnswer followed shielded ≡ 1
 unfolding takenNumber further perOf needsOf rowOf moveOf moveNumber headerOf spareOf number sent bitsOf
 starts = arrived shielded refl refl refl ∙ ap (λ (r : Reading). takenNumber r (newHead (wishOf 17 1 2))) shielded-read
+
+-- ---- 31: the first two words are that of 0, and the third is it with four flips
+
+near : nearest word24 0x800000 ≡ 0
+unfolding flips ones onesIn
+near = nearest24-is 0x800000 0 (lit< tt) (subst (λ (ws : List ℕ). flips (getD ws 0 0) 0x800000 ≤ 3) (sym golay.words) (lit≤ tt))
+
+far : nearest word24 0x80000F ≡ 4096
+far = word-unreadable 0x80000F (lit< tt) (λ e. omega (arith, e, ap (λ (w : Word). w .number) zero-far))
+
+abbrev third : List ℕ
+third = written 17 0 0x00 (0x00 ∷ 0x00 ∷ 0x80 ∷ 0x00 ∷ 0x00 ∷ 0x80 ∷ 0x0F ∷ 0x00 ∷ 0x80 ∷ blank 81)
+
+third-place : dataRead (usefulOf third) .place ≡ 2
+unfolding bytesOf usefulOf dataRead wordsRead wordsOf informations failed written imageOf taken number bitsOf sent blank word23 remainder divide line less
+third-place =
+    ap₂ (λ (i j : ℕ). cond (leb 4096 i) 0 (suc (cond (leb 4096 i) 0 (suc (cond (leb 4096 j) 0 (suc (failed (informations (blank 27)))))))))
+    near far
+
+third-read : received true third ≡ refusedAs 31 2
+unfolding typeOf typeNear flips ones onesIn bytesOf written imageOf taken number bitsOf sent blank word23 remainder divide line less
+third-read =
+    let kind = isData third 0 refl (lit< tt) refl (λ q. omega (arith, q)) (λ q. omega (arith, q)) (λ q. omega (arith, q)) in
+    answer-protected third kind
+    ∙ data-short (indexOf third) (dataRead (usefulOf third)) (subst (λ (n : ℕ). n < 30) (sym third-place) (lit< tt))
+    ∙ ap (refusedAs 31) third-place
+
+pub word-told : calls.packetAnswered followed third ≡ answer 31 2 0 0
+unfolding takenNumber further headerOf spareOf written imageOf taken number bitsOf sent blank word23 remainder divide line less
+word-told = arrived-told third refl refl refl ∙ ap (λ (r : Reading). group.taken r (newHead (wishOf 17 1 2))) third-read
+
+-- ---- 32: at any slot that awaits 2, protected, the packet with index 3
+
+abbrev late : List ℕ
+late = sentImage true 17 3 words.counting
+
+module _ (s : List ℕ) (placed : Placed s late) where
+  abbrev at : Head
+  at = headOf (slotAt (find s (calls.addressOf late)) s)
+
+  late-read : at .wish .protection ≡ 1 → calls.readingAt (slotAt (find s (calls.addressOf late)) s) late ≡ partAs 3 words.counting
+  unfolding calls.readingAt
+  late-read p =
+      ap (λ (n : ℕ). received (eqb n 1) late) p ∙ received-sent true 17 3 words.counting (lit≤ tt) (lit≤ tt) refl bytes
+
+  pub out-told : at .wish .protection ≡ 1 → at .awaited ≡ 2 → calls.packetAnswered s late ≡ answer 32 0 2 3
+  unfolding takenNumber further perOf needsOf rowOf moveOf moveNumber
+  out-told p w =
+      answered-passed (calls.unplaced s late) (calls.slotAnswered s late) (placed-zero s late placed)
+      ∙ ap₂ (λ (r : Reading) (a : ℕ). answerOf (further (r .number) (moveNumber (moveOf 4 4 a (r .index)))) (r .place) a (r .index))
+      (late-read p) w

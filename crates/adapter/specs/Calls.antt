@@ -5,8 +5,10 @@
 --   followed s a             a slot of the state follows the address
 --   unplaced s image         20, 34, 21, which need no slot, and 27
 --   readingAt x image        what an image is received as where its slot has the bytes x
---   slotAnswer, slotAfter    what the slot of its address answers, and the state with that slot after
---   packetAnswer, packetAfter
+--   slotAnswered, slotAfter  what the slot of its address answers, and the state with that slot after; slotAnswer: its number
+--   refusedAs n              the answer that is a number and carries nothing
+--   answeredBy n x           that where n refuses, otherwise x
+--   packetAnswered, packetAfter     the call's; packetAnswer: its number
 --   groupSize p              the message of a group: 360 bytes plain, 180 protected
 --   groupImages p a m        its four images, indices 0 to 3
 --   writeAnswer, writeAfter  22, 23, 20
@@ -15,7 +17,7 @@ use mathlib.Core.List.{List, [], _∷_, _++_}
 use Prim.Native.Nat.{ℕ, _*_}
 use lib.Dec.{ltb, eqb}
 use lib.ListN.{length}
-use Rattle.bits.specs.Rows.{Row, row, refusal, further, done}
+use Rattle.bits.specs.Rows.{Row, row, refusal, given, further, done}
 use Rattle.bare.specs.Bare.{headerRead}
 use Rattle.image.specs.Image.{headerOf, spareOf}
 use Rattle.packet.specs.Received.{received}
@@ -26,7 +28,8 @@ use Rattle.slot.specs.Slot.{headOf}
 use Rattle.head.specs.Head.{within}
 use Rattle.table.specs.State.{slots, slotAt, withSlot, find}
 use Rattle.table.specs.Calls.{stateRows}
-use Rattle.group.specs.Group.{takenNumber, takenAfter}
+use Rattle.group.specs.Group.{taken, takenAfter}
+use Rattle.group.specs.declared.Answer.{Answer}
 
 -- ---- packet: 20, 34, 21, 27, 28, 29, 30, 31, 32
 
@@ -51,18 +54,36 @@ unfoldable pub readingAt : List ℕ → List ℕ → Reading
 readingAt x image = received (eqb (headOf x .wish .protection) 1) image
 
 -- what the slot of the address answers, and the state with it after
-unfoldable pub slotAnswer : List ℕ → List ℕ → ℕ
-slotAnswer s image =
+abbrev pub slotAnswered : List ℕ → List ℕ → Answer
+slotAnswered s image =
     let x = slotAt (find s (addressOf image)) s in
-    takenNumber (readingAt x image) (headOf x)
+    taken (readingAt x image) (headOf x)
+
+unfoldable pub slotAnswer : List ℕ → List ℕ → ℕ
+slotAnswer s image = slotAnswered s image .number
 
 unfoldable pub slotAfter : List ℕ → List ℕ → List ℕ
 slotAfter s image =
     let k = find s (addressOf image) in
     withSlot k (takenAfter (readingAt (slotAt k s) image) (slotAt k s)) s
 
+-- a call that is refused before its slot is found has nothing to tell of a packet
+abbrev pub refusedAs : ℕ → Answer
+refusedAs n = record { number = n; place = 0; awaited = 0; came = 0 }
+
+abbrev pub answeredBy : ℕ → Answer → Answer
+answeredBy n x = record {
+  number = further n (x .number);
+  place = given n (x .place);
+  awaited = given n (x .awaited);
+  came = given n (x .came);
+}
+
+abbrev pub packetAnswered : List ℕ → List ℕ → Answer
+packetAnswered s image = answeredBy (unplaced s image) (slotAnswered s image)
+
 unfoldable pub packetAnswer : List ℕ → List ℕ → ℕ
-packetAnswer s image = further (unplaced s image) (slotAnswer s image)
+packetAnswer s image = packetAnswered s image .number
 
 unfoldable pub packetAfter : List ℕ → List ℕ → List ℕ
 packetAfter s image = done (unplaced s image) (slotAfter s image) s

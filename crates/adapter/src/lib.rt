@@ -4,15 +4,16 @@
 ghost use mathlib.Core.Path.{_≡_};
 ghost use mathlib.Core.List.{[]};
 ghost use lib.ListN.{length};
-ghost use Rattle.bits.specs.Rows.{refusal, further, done};
+ghost use Rattle.bits.specs.Rows.{refusal, done};
 ghost use Rattle.bare.specs.Bare.{headerRead};
 ghost use Rattle.golay.specs.Code.{Lent};
 ghost use Rattle.image.specs.Image.{headerOf};
 ghost use Rattle.slot.specs.Slot.{slotSize, headOf};
 ghost use Rattle.table.specs.State.{stateSize};
-ghost use Rattle.group.specs.Group.{takenNumber, takenAfter};
-ghost use Rattle.adapter.specs.Calls.{readingAt, slotAnswer, slotAfter, packetAnswer, packetAfter, imageRows, placeRow};
+ghost use Rattle.group.specs.Group.{taken, takenAfter};
+ghost use Rattle.adapter.specs.Calls.{readingAt, slotAnswered, slotAfter, refusedAs, answeredBy, packetAnswered, packetAnswer, packetAfter, imageRows, placeRow};
 use bare::Header;
+use group::Answer;
 use image::Packet;
 use slot::Slot;
 use table::Table;
@@ -20,15 +21,23 @@ use table::look;
 
 pub mod write;
 
-// One image: 20, 34, 21, 27, 28, 29, 30, 31, 32, or 1 started, 2 held, 3 whole. The table of patterns is set up once at
-// most, for a damaged header and for the words after it.
+// One image: 20, 34, 21, 27, 28, 29, 30, 31, 32, or 1 started, 2 held, 3 whole.
 pub fn packet(state: &mut [u8], image: &[u8]) -> u8
     ensures { λ r. ⌜ r ≡ packetAnswer (now (state .entry)) (now (image .entry)) ⌝ }
     ensures { λ _. ⌜ now (state .exit) ≡ packetAfter (now (state .entry)) (now (image .entry)) ⌝ }
 {
-    let refused = checked(state, image);
-    if refused != 0 {
-        return refused;
+    answered(state, image).number
+}
+
+// The same with what 31 and 32 carry. The table of patterns is set up once at most, for a damaged header and for the words
+// after it.
+pub fn answered(state: &mut [u8], image: &[u8]) -> Answer
+    ensures { λ r. ⌜ r ≡ packetAnswered (now (state .entry)) (now (image .entry)) ⌝ }
+    ensures { λ _. ⌜ now (state .exit) ≡ packetAfter (now (state .entry)) (now (image .entry)) ⌝ }
+{
+    let number = checked(state, image);
+    if number != 0 {
+        return refused(number);
     }
     let checks = lookup::checks();
     let n = image::header(image);
@@ -55,32 +64,44 @@ fn checked(state: &[u8], image: &[u8]) -> u8
     if image::spare(image) == 1 { 21 } else { 0 }
 }
 
+// A call that is refused before its slot is found: nothing is told of the packet.
+fn refused(number: u8) -> Answer
+    ensures { λ r. ⌜ r ≡ refusedAs number ⌝ }
+{
+    Answer {
+        number,
+        place: 0,
+        awaited: 0,
+        came: 0,
+    }
+}
+
 // 27, or what the slot of the address answers.
-fn arrived(state: &mut [u8], patterns: &[u32], header: Header, image: &[u8]) -> u8
+fn arrived(state: &mut [u8], patterns: &[u32], header: Header, image: &[u8]) -> Answer
     requires { ⌜ length (now state) ≡ stateSize ⌝ }
     requires { ⌜ Lent (now patterns) ⌝ }
     requires { ⌜ header ≡ headerRead (headerOf (now image)) ⌝ }
     requires { ⌜ length (now image) ≡ 94 ⌝ }
-    ensures { λ r. ⌜ r ≡ further (refusal (placeRow (now (state .entry)) (now (image .entry)))) (slotAnswer (now (state .entry)) (now (image .entry))) ⌝ }
+    ensures { λ r. ⌜ r ≡ answeredBy (refusal (placeRow (now (state .entry)) (now (image .entry)))) (slotAnswered (now (state .entry)) (now (image .entry))) ⌝ }
     ensures { λ _. ⌜ now (state .exit)
         ≡ done (refusal (placeRow (now (state .entry)) (now (image .entry)))) (slotAfter (now (state .entry)) (now (image .entry))) (now (state .entry)) ⌝ }
 {
     let address = header.address as u32;
     let k = look::find(state, address);
     if (address == 0) | (k == Table::SLOTS) {
-        return 27;
+        return refused(27);
     }
     let at = k * Slot::SIZE;
     served(&mut state[at..at + Slot::SIZE], patterns, header, image)
 }
 
 // What the slot of its address answers to an image: the one function on its bytes and what the image is received as.
-fn served(slot: &mut [u8], patterns: &[u32], header: Header, image: &[u8]) -> u8
+fn served(slot: &mut [u8], patterns: &[u32], header: Header, image: &[u8]) -> Answer
     requires { ⌜ length (now slot) ≡ slotSize ⌝ }
     requires { ⌜ Lent (now patterns) ⌝ }
     requires { ⌜ header ≡ headerRead (headerOf (now image)) ⌝ }
     requires { ⌜ length (now image) ≡ 94 ⌝ }
-    ensures { λ r. ⌜ r ≡ takenNumber (readingAt (now (slot .entry)) (now (image .entry))) (headOf (now (slot .entry))) ⌝ }
+    ensures { λ r. ⌜ r ≡ taken (readingAt (now (slot .entry)) (now (image .entry))) (headOf (now (slot .entry))) ⌝ }
     ensures { λ _. ⌜ now (slot .exit) ≡ takenAfter (readingAt (now (slot .entry)) (now (image .entry))) (now (slot .entry)) ⌝ }
 {
     let head = Slot::load(slot);

@@ -8,14 +8,14 @@
 use mathlib.Core.Path.{_≡_, refl, sym, ap, _∙_}
 use mathlib.Core.Bool.{true, false}
 use mathlib.Core.List.{List, [], _∷_}
-use Prim.Native.Nat.{ℕ}
+use Prim.Native.Nat.{ℕ, _+_, _-_}
 use native.Mathlib.Omega.{arith}
 use lib.Dec.{lit<, lit≤}
 use Rattle.bits.specs.Bits.{blank}
 use Rattle.bits.specs.Search.{first}
 use Rattle.head.specs.Head.{wishOf, newHead, shown}
 use Rattle.head.specs.declared.Head.{Head}
-use Rattle.table.specs.State.{find}
+use Rattle.table.specs.State.{stateSize, find}
 use Rattle.table.specs.Calls.{leaveAnswer}
 use Rattle.table.proofs.Looking.{leave-22}
 use Rattle.table.proofs.Shows.{place, start-shows, find-place, follow-head}
@@ -52,12 +52,12 @@ nothing-yet =
     sym (asked-found followed 17 0 (newHead (wishOf 17 1 2)) (bare 4) (known followed one followed-shows 17 refl (lit< tt))
     (find-place followed one followed-shows 17) (sym (follow-head started nobody start-shows (wishOf 17 1 2) followed-17)) (sym (asked-none 0 (newHead (wishOf 17 1 2)) refl)))
 
-pub asks : (asked (blank 11775) 0 ∷ asked spoiled 0 ∷ asked started 0 ∷ asked started 1023 ∷ asked started 1 ∷ asked started 1022
+pub asks : (asked (blank (stateSize - 1)) 0 ∷ asked spoiled 0 ∷ asked started 0 ∷ asked started 1023 ∷ asked started 1 ∷ asked started 1022
     ∷ asked followed 18 ∷ asked followed 17 ∷ [])
     ≡ (bare 20 ∷ bare 34 ∷ bare 22 ∷ bare 22 ∷ bare 27 ∷ bare 27 ∷ bare 27 ∷ bare 4 ∷ [])
 unfolding first
 asks = λ i.
-    refused (blank 11775) 0 20 leave-20 (λ q. omega (arith, q)) i ∷ refused spoiled 0 34 leave-34 (λ q. omega (arith, q)) i
+    refused (blank (stateSize - 1)) 0 20 leave-20 (λ q. omega (arith, q)) i ∷ refused spoiled 0 34 leave-34 (λ q. omega (arith, q)) i
     ∷ refused started 0 22 (leave-22 started 0 ok refl) (λ q. omega (arith, q)) i
     ∷ refused started 1023 22 (leave-22 started 1023 ok refl) (λ q. omega (arith, q)) i
     ∷ refused started 1 27 (unknown started nobody start-shows 1 refl (lit≤ tt)) (λ q. omega (arith, q)) i

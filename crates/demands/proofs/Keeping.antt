@@ -8,7 +8,7 @@
 use mathlib.Core.Path.{_≡_, refl, sym, ap, ap₂, _∙_, subst}
 use mathlib.Core.Bool.{Bool, true, false, cond}
 use mathlib.Core.List.{List, [], _∷_}
-use Prim.Native.Nat.{ℕ, zero, suc, _+_, _≤_, _<_}
+use Prim.Native.Nat.{ℕ, zero, suc, _+_, _≤_, _<_, _-_}
 use native.Mathlib.Omega.{arith}
 use native.Mathlib.Decide.{ℕ-discrete}
 use lib.Dec.{T, ltb, eqb}
@@ -128,13 +128,13 @@ leaking-fails d =
 -- ---- a subframe's end
 
 -- a byte of a room, and no address
-bad-state : good (1 ∷ blank 11775) ≡ false
+bad-state : good (1 ∷ blank (stateSize - 1)) ≡ false
 unfolding good goodAt all goodSlot goodWish goodHead free headOf fourAt slotAt part blank
 bad-state = refl
 
 pub brittle-fails : KeepsTable brittle → ⊥
 unfolding byCall
 brittle-fails d =
-    let g : good (cond (free empty-state) (1 ∷ blank 11775) (endAfter empty-state)) ≡ true = d .good subframeEnd empty-state blank-state .good in
-    let e : good (1 ∷ blank 11775) ≡ true = sym (ap (λ (b : Bool). good (cond b (1 ∷ blank 11775) (endAfter empty-state))) (blank-free stateSize)) ∙ g in
+    let g : good (cond (free empty-state) (1 ∷ blank (stateSize - 1)) (endAfter empty-state)) ≡ true = d .good subframeEnd empty-state blank-state .good in
+    let e : good (1 ∷ blank (stateSize - 1)) ≡ true = sym (ap (λ (b : Bool). good (cond b (1 ∷ blank (stateSize - 1)) (endAfter empty-state))) (blank-free stateSize)) ∙ g in
     subst T (sym e ∙ bad-state) tt

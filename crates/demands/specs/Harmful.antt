@@ -17,7 +17,7 @@
 --   sparing        the writer sets the spare bit of the first image
 use mathlib.Core.Bool.{Bool, cond, not, _&&_, _||_}
 use mathlib.Core.List.{List, [], _∷_}
-use Prim.Native.Nat.{ℕ, zero, suc, _+_}
+use Prim.Native.Nat.{ℕ, zero, suc, _+_, _-_}
 use lib.Dec.{ltb, eqb}
 use lib.ListN.{length, getD, set}
 use Rattle.bits.specs.Bits.{blank}
@@ -26,7 +26,7 @@ use Rattle.slot.specs.Slot.{roomSize, headOf, withHead, withUnfinished, withSto
 use Rattle.head.specs.Head.{wishOf}
 use Rattle.head.specs.declared.Head.{Head}
 use Rattle.head.specs.declared.Wish.{Wish}
-use Rattle.table.specs.State.{slots, slotAt, withSlot, find}
+use Rattle.table.specs.State.{stateSize, slots, slotAt, withSlot, find}
 use Rattle.table.specs.Calls.{startAnswer, startAfter, followAnswer, followAfter, leaveAnswer, leaveAfter, endAnswer, endAfter}
 use Rattle.asking.specs.Asking.{asked, askPart}
 use Rattle.faults.specs.Faults.{numberDrops}
@@ -174,7 +174,7 @@ abbrev pub leaking : Machine
 leaking = but ourAnswer (leaving startAfter followed (λ a s. done (leaveAnswer s a) (followAfter (leaveAfter s a) (wishOf 500 0 1)) s) taken endAfter)
 
 abbrev pub brittle : Machine
-brittle = but ourAnswer (leaving startAfter followed left taken (λ s. cond (free s) (1 ∷ blank 11775) (endAfter s)))
+brittle = but ourAnswer (leaving startAfter followed left taken (λ s. cond (free s) (1 ∷ blank (stateSize - 1)) (endAfter s)))
 
 -- ---- right only from a follow on
 

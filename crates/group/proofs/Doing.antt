@@ -8,7 +8,8 @@
 --   row-does                       the row that was chosen, with its answer
 --   at-test, out-test              what the test for a packet out of step says
 --   block-45, block-90             how many bytes a packet brings; block-le: at most 90
---   taken-refused, taken-moved     the answer with the slot after it, by the reading's number
+--   taken-refused, taken-moved     the number with the slot after it, by the reading's number
+--   taken-told                     the number told with what it carries is the answer
 --
 -- Assumes nothing.
 use mathlib.Core.Path.{_≡_, refl, sym, ap, ap₂, _∙_}
@@ -35,7 +36,8 @@ use Rattle.runs.proofs.Parts.{put-part, put-length}
 use Rattle.slot.proofs.Laws.{unfinished-room, unfinished-length}
 use Rattle.packet.specs.declared.Reading.{Reading}
 use Rattle.faults.specs.Faults.{numberDrops}
-use Rattle.group.specs.Group.{blockOf, placed, begunRoom, slotJoined, roomsKept, roomsMoved, slotMoved, slotDropped, refusedAfter, takenNumber, takenAfter}
+use Rattle.group.specs.declared.Answer.{Answer}
+use Rattle.group.specs.Group.{blockOf, placed, begunRoom, slotJoined, roomsKept, roomsMoved, slotMoved, slotDropped, refusedAfter, answerOf, taken, takenNumber, takenAfter}
 
 -- in front of anything
 put-front : (at n : ℕ) (b r x : List ℕ) → at + n ≤ length r → put at n b (r ++ x) ≡ put at n b r ++ x
@@ -174,7 +176,7 @@ block-le h = go (eqb (h .wish .protection) 1)
     go true = omega arith
     go false = omega arith
 
--- ---- the answer with the slot after it, by the reading's number
+-- ---- the number with the slot after it, by the reading's number
 
 module _ (r : Reading) (h : Head) (s : List ℕ) (e : h ≡ headOf s) where
   pub taken-refused : (r .number ≡ 0 → ⊥) → (r .number ≡ takenNumber r h) × (refusedAfter (r .number) s ≡ takenAfter r s)
@@ -189,6 +191,9 @@ module _ (r : Reading) (h : Head) (s : List ℕ) (e : h ≡ headOf s) where
     et ∙ ap₂ (λ (x : Head) (y : List ℕ). slotMoved (rowAt x (r .index)) (placeAt x (r .index)) y s) e
         (eb ∙ ap (λ (x : Head). take (blockOf x) (r .bytes)) e) ∙ sym (done-passed (r .number) _ (refusedAfter (r .number) s) z),
   )
+
+pub taken-told : (r : Reading) (h : Head) (n : ℕ) (x : Answer) → n ≡ takenNumber r h → x ≡ answerOf n (r .place) (h .awaited) (r .index) → x ≡ taken r h
+taken-told r h n x en ex = ex ∙ ap (λ (m : ℕ). answerOf m (r .place) (h .awaited) (r .index)) en
 
 -- a refusal that drops
 pub taken-dropped : (r : Reading) (s : List ℕ) → (r .number ≡ 0 → ⊥) → numberDrops (r .number) ≡ true → takenAfter r s ≡ slotDropped s

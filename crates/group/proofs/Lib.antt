@@ -1,3 +1,4 @@
 pub mod Doing
 pub mod Edges
 pub mod Laws
+pub mod Vectors

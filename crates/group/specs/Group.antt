@@ -9,7 +9,9 @@
 --   roomsMoved mv c b s  both rooms after a row of the table, c the packet's place in its group; slotMoved: with the head
 --   slotDropped s        "Refusals 28 to 32 clear the slot's unfinished group, mark its gap and make it await 0."
 --   refusedAfter n s     the slot after a refusal with number n
---   takenNumber r h      the answer to reading r where the head is h
+--   takenNumber r h      the number that answers reading r where the head is h
+--   answerOf n p a c     the answer with number n, place p, and the indices a awaited and c come, told only with 32
+--   taken r h            the answer to reading r where the head is h
 --   takenAfter r s       the slot after it
 use mathlib.Core.Bool.{cond}
 use mathlib.Core.List.{List}
@@ -23,8 +25,10 @@ use Rattle.slot.specs.Slot.{roomSize, headOf, withHead, unfinished, withUnfinis
 use Rattle.head.specs.Head.{droppedHead}
 use Rattle.head.specs.Move.{Move, started, held, whole, outOfStep, moveNumber, movedHead, rowAt, placeAt}
 use Rattle.head.specs.declared.Head.{Head}
+use Rattle.faults.specs.Faults as faults
 use Rattle.faults.specs.Faults.{numberDrops}
 use Rattle.packet.specs.declared.Reading.{Reading}
+use Rattle.group.specs.declared.Answer.{Answer}
 
 unfoldable pub blockOf : Head → ℕ
 blockOf h = cond (eqb (h .wish .protection) 1) 45 90
@@ -60,6 +64,18 @@ slotDropped s = withHead (droppedHead (headOf s)) (withUnfinished (blank roomSiz
 
 unfoldable pub takenNumber : Reading → Head → ℕ
 takenNumber r h = further (r .number) (moveNumber (rowAt h (r .index)))
+
+abbrev pub answerOf : ℕ → ℕ → ℕ → ℕ → Answer
+answerOf n place awaited came = record {
+  number = n;
+  place = place;
+  awaited = cond (eqb n (faults.number faults.outOfStep)) awaited 0;
+  came = cond (eqb n (faults.number faults.outOfStep)) came 0;
+}
+
+-- a reading has a place with 31 only; the index awaited is that of the head before
+abbrev pub taken : Reading → Head → Answer
+taken r h = answerOf (takenNumber r h) (r .place) (h .awaited) (r .index)
 
 -- a refusal drops by the list of faults
 unfoldable pub refusedAfter : ℕ → List ℕ → List ℕ

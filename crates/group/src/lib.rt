@@ -6,7 +6,7 @@ ghost use lib.ListN.{length};
 ghost use Rattle.slot.specs.Slot.{slotSize, roomSize, headOf, withHead};
 ghost use Rattle.head.specs.Head.{wholeHead};
 ghost use Rattle.head.specs.Move.{moveNumber, rowAt, placeAt};
-ghost use Rattle.group.specs.Group.{blockOf, slotJoined, roomsKept, slotMoved, slotDropped, refusedAfter, takenNumber, takenAfter};
+ghost use Rattle.group.specs.Group.{blockOf, slotJoined, roomsKept, slotMoved, slotDropped, refusedAfter, answerOf, taken, takenNumber, takenAfter};
 use faults::Faults;
 use head::Head;
 use image::Packet;
@@ -27,9 +27,50 @@ impl Group {
     pub const IMAGES: usize = Self::PACKETS * Packet::IMAGE;
 }
 
-// What the slot of its address answers to what a packet was received as: 1 started, 2 held, 3 whole, 32, or the packet's own
-// refusal.
-pub fn taken(slot: &mut [u8], head: Head, reading: Reading) -> u8
+// What a packet is answered: its number, and what some numbers carry. With 31 the place of the first word that cannot be
+// read; with 32 the index that was awaited and the one that came. What a number does not carry is 0.
+pub struct Answer {
+    pub number: u8,
+    pub place: u8,
+    pub awaited: u8,
+    pub came: u8,
+}
+
+// What the slot of its address answers to what a packet was received as. The index awaited is that of the head before the
+// packet, since a packet out of step makes the slot await 0.
+pub fn taken(slot: &mut [u8], head: Head, reading: Reading) -> Answer
+    requires { ⌜ length (now slot) ≡ slotSize ⌝ }
+    requires { ⌜ head ≡ headOf (now slot) ⌝ }
+    requires { ⌜ length (reading .bytes) ≡ 90 ⌝ }
+    ensures { λ r. ⌜ r ≡ taken reading head ⌝ }
+    ensures { λ _. ⌜ now (slot .exit) ≡ takenAfter reading (now (slot .entry)) ⌝ }
+{
+    let number = numbered(slot, head, reading);
+    told(number, reading.place, head.awaited, reading.index)
+}
+
+// The two indices are told only where they are why the packet was refused.
+fn told(number: u8, place: u8, awaited: u8, came: u8) -> Answer
+    ensures { λ r. ⌜ r ≡ answerOf number place awaited came ⌝ }
+{
+    if number == Faults::OUT_OF_STEP {
+        return Answer {
+            number,
+            place,
+            awaited,
+            came,
+        };
+    }
+    Answer {
+        number,
+        place,
+        awaited: 0,
+        came: 0,
+    }
+}
+
+// The number: 1 started, 2 held, 3 whole, 32, or the packet's own refusal.
+fn numbered(slot: &mut [u8], head: Head, reading: Reading) -> u8
     requires { ⌜ length (now slot) ≡ slotSize ⌝ }
     requires { ⌜ head ≡ headOf (now slot) ⌝ }
     requires { ⌜ length (reading .bytes) ≡ 90 ⌝ }

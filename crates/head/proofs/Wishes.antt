@@ -2,17 +2,18 @@
 --
 --   outside          the tests of a bound, as the code makes them
 --   wish-22, wish-23, wish-24, wish-0      what is answered, row by row
---   wish-refused, wish-rest                the rows with others behind them, by what is answered
+--   rows-refused, rows-rest                rows with others behind them, by what the first are answered
+--   wish-refused, wish-rest                so for the wish's rows
 --   wish-passed                            where nothing is refused, the wish is good, nor is anything refused by the rest
 --
 -- Assumes nothing.
 use mathlib.Core.Path.{_≡_, refl, sym, ap, ap₂, _∙_}
 use mathlib.Core.Bool.{Bool, true, false, not, _&&_, _||_}
-use mathlib.Core.List.{List, [], _∷_}
+use mathlib.Core.List.{List, [], _∷_, _++_}
 use Prim.Native.Nat.{ℕ, _≤_, _<_}
 use native.Mathlib.Omega.{arith}
 use native.Mathlib.Decide.{decLt}
-use lib.Dec.{leb, ltb}
+use lib.Dec.{leb, ltb, lit<}
 use borrow.Author.Tests.{not-false, lt-ltb, le-ltb, lt-leb, le-leb, ltb-false}
 use Rattle.bits.specs.Rows.{Row, row, refusal}
 use Rattle.bits.proofs.Rows.{refusal-hit, refusal-miss, refusal-none, refusal-passed}
@@ -65,16 +66,31 @@ module _ (w : Wish) where
 
 -- ---- with others behind them
 
+-- no row gives 0
+abbrev All : List Row → Type 0
+All [] = Unit {0}
+All (row t n ∷ rows) = (0 < n) × All rows
+
+rows-refused : (rows rest : List Row) → (refusal rows ≡ 0 → ⊥) → refusal (rows ++ rest) ≡ refusal rows
+unfolding refusal
+rows-refused [] rest ne = absurd (ne refl)
+rows-refused (row true n ∷ rows) rest ne = refl
+rows-refused (row false n ∷ rows) rest ne = rows-refused rows rest ne
+
+-- where no row gives 0
+rows-rest : (rows rest : List Row) → All rows → refusal rows ≡ 0 → refusal (rows ++ rest) ≡ refusal rest
+unfolding refusal
+rows-rest [] rest a e = refl
+rows-rest (row true n ∷ rows) rest (l, a) e = absurd (omega (arith, e, l))
+rows-rest (row false n ∷ rows) rest (l, a) e = rows-rest rows rest a e
+
 pub wish-refused : (w : Wish) (rest : List Row) → (wishAnswer w ≡ 0 → ⊥) → refusal (wishRows w rest) ≡ wishAnswer w
-unfolding wishAnswer refusal
-wish-refused w rest ne = go (not (within 1 1022 (w .address))) (ltb 1 (w .protection)) (not (within 1 1500 (w .limit))) ne
-  where
-    go : (a p l : Bool) → (refusal (row a 22 ∷ row p 23 ∷ row l 24 ∷ []) ≡ 0 → ⊥)
-        → refusal (row a 22 ∷ row p 23 ∷ row l 24 ∷ rest) ≡ refusal (row a 22 ∷ row p 23 ∷ row l 24 ∷ [])
-    go true p l ne = refl
-    go false true l ne = refl
-    go false false true ne = refl
-    go false false false ne = absurd (ne refl)
+unfolding wishAnswer
+wish-refused w rest ne = rows-refused (wishRows w []) rest ne
+
+pub wish-rest : (w : Wish) (rest : List Row) → wishAnswer w ≡ 0 → refusal (wishRows w rest) ≡ refusal rest
+unfolding wishAnswer
+wish-rest w rest e = rows-rest (wishRows w []) rest (lit< tt, (lit< tt, (lit< tt, tt))) e
 
 pub wish-passed : (w : Wish) (rest : List Row) → refusal (wishRows w rest) ≡ 0 → (goodWish w ≡ true) × (refusal rest ≡ 0)
 unfolding goodWish
@@ -88,14 +104,3 @@ wish-passed w rest e =
           (ap₂ _&&_ (le-leb (w .protection) 1 (ltb-false 1 (w .protection) (r23 .0))) (not-false l (r24 .0))),
       r24 .1,
     )
-
-pub wish-rest : (w : Wish) (rest : List Row) → wishAnswer w ≡ 0 → refusal (wishRows w rest) ≡ refusal rest
-unfolding wishAnswer refusal
-wish-rest w rest e = go (not (within 1 1022 (w .address))) (ltb 1 (w .protection)) (not (within 1 1500 (w .limit))) e
-  where
-    go : (a p l : Bool) → refusal (row a 22 ∷ row p 23 ∷ row l 24 ∷ []) ≡ 0
-        → refusal (row a 22 ∷ row p 23 ∷ row l 24 ∷ rest) ≡ refusal rest
-    go true p l e = absurd (omega (arith, e))
-    go false true l e = absurd (omega (arith, e))
-    go false false true e = absurd (omega (arith, e))
-    go false false false e = refl

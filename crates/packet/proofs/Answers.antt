@@ -31,6 +31,7 @@ use Rattle.image.proofs.Laws.{bytes-length}
 use Rattle.words.specs.Protected.{dataRead}
 use Rattle.words.specs.declared.Data.{Data}
 use Rattle.words.proofs.Each.{read-length}
+use Rattle.faults.specs.Faults as fault
 use Rattle.faults.specs.Faults.{unreadables, Numbered}
 use Rattle.packet.specs.Received.{typeOf, usefulOf, unreadable, receivedNumber, receivedBytes, filled, received, refusedAs, partAs, dataAs}
 use Rattle.packet.specs.Damage.{Refused}
@@ -43,7 +44,7 @@ indexOf s = headerRead (headerOf s) .index
 unfoldable pub receivedAs : Bool → List ℕ → ℕ → Reading
 receivedAs p s answer = record {
   number = answer;
-  place = cond (eqb answer 31) (dataRead (usefulOf s) .place) 0;
+  place = cond (eqb answer (fault.number fault.wordUnreadable)) (dataRead (usefulOf s) .place) 0;
   index = given answer (indexOf s);
   bytes = filled answer (receivedBytes p s);
 }
@@ -61,42 +62,42 @@ answer-length p s ne = received-as p s 20 (refusal-hit (not (eqb (length s) 94))
 module _ (p : Bool) (s : List ℕ) (l : length s ≡ 94) where
   -- past the row of 20
   typed : receivedNumber p s
-      ≡ refusal (row (leb 256 (typeOf s)) 28 ∷ row (eqb (typeOf s) 0x3F) 29 ∷ row (eqb (typeOf s) 0xC7) 29
-      ∷ row (eqb (typeOf s) 0xF8) 30 ∷ row (unreadable p (usefulOf s)) 31 ∷ [])
+      ≡ refusal (row (leb 256 (typeOf s)) (fault.number fault.typeUnreadable) ∷ row (eqb (typeOf s) 0x3F) (fault.number fault.typeControl) ∷ row (eqb (typeOf s) 0xC7) (fault.number fault.typeReserved)
+      ∷ row (eqb (typeOf s) 0xF8) (fault.number fault.typeScrambled) ∷ row (unreadable p (usefulOf s)) (fault.number fault.wordUnreadable) ∷ [])
   unfolding receivedNumber
   typed = refusal-miss (not (eqb (length s) 94)) 20 _ (ap not (eq-eqb (length s) 94 l))
 
   -- a type in the form that computes
   by-type : (t k : ℕ) → typeOf s ≡ t
-      → refusal (row (leb 256 t) 28 ∷ row (eqb t 0x3F) 29 ∷ row (eqb t 0xC7) 29 ∷ row (eqb t 0xF8) 30
-      ∷ row (unreadable p (usefulOf s)) 31 ∷ []) ≡ k
+      → refusal (row (leb 256 t) (fault.number fault.typeUnreadable) ∷ row (eqb t 0x3F) (fault.number fault.typeControl) ∷ row (eqb t 0xC7) (fault.number fault.typeReserved) ∷ row (eqb t 0xF8) (fault.number fault.typeScrambled)
+      ∷ row (unreadable p (usefulOf s)) (fault.number fault.wordUnreadable) ∷ []) ≡ k
       → received p s ≡ receivedAs p s k
   by-type t k e r =
-      received-as p s k (typed ∙ ap (λ (x : ℕ). refusal (row (leb 256 x) 28 ∷ row (eqb x 0x3F) 29 ∷ row (eqb x 0xC7) 29 ∷ row (eqb x 0xF8) 30 ∷ row (unreadable p (usefulOf s)) 31 ∷ [])) e ∙ r)
+      received-as p s k (typed ∙ ap (λ (x : ℕ). refusal (row (leb 256 x) (fault.number fault.typeUnreadable) ∷ row (eqb x 0x3F) (fault.number fault.typeControl) ∷ row (eqb x 0xC7) (fault.number fault.typeReserved) ∷ row (eqb x 0xF8) (fault.number fault.typeScrambled) ∷ row (unreadable p (usefulOf s)) (fault.number fault.wordUnreadable) ∷ [])) e ∙ r)
 
-  pub answer-unreadable : 256 ≤ typeOf s → received p s ≡ refusedAs 28 0
+  pub answer-unreadable : 256 ≤ typeOf s → received p s ≡ refusedAs (fault.number fault.typeUnreadable) 0
   unfolding receivedAs given filled
-  answer-unreadable h = by-type (typeOf s) 28 refl (refusal-hit (leb 256 (typeOf s)) 28 _ (le-leb 256 (typeOf s) h))
+  answer-unreadable h = by-type (typeOf s) (fault.number fault.typeUnreadable) refl (refusal-hit (leb 256 (typeOf s)) (fault.number fault.typeUnreadable) _ (le-leb 256 (typeOf s) h))
 
-  pub answer-control : typeOf s ≡ 0x3F → received p s ≡ refusedAs 29 0
+  pub answer-control : typeOf s ≡ 0x3F → received p s ≡ refusedAs (fault.number fault.typeControl) 0
   unfolding receivedAs refusal given filled
-  answer-control e = by-type 0x3F 29 e refl
+  answer-control e = by-type 0x3F (fault.number fault.typeControl) e refl
 
-  pub answer-reserved : typeOf s ≡ 0xC7 → received p s ≡ refusedAs 29 0
+  pub answer-reserved : typeOf s ≡ 0xC7 → received p s ≡ refusedAs (fault.number fault.typeReserved) 0
   unfolding receivedAs refusal given filled
-  answer-reserved e = by-type 0xC7 29 e refl
+  answer-reserved e = by-type 0xC7 (fault.number fault.typeReserved) e refl
 
-  pub answer-scrambled : typeOf s ≡ 0xF8 → received p s ≡ refusedAs 30 0
+  pub answer-scrambled : typeOf s ≡ 0xF8 → received p s ≡ refusedAs (fault.number fault.typeScrambled) 0
   unfolding receivedAs refusal given filled
-  answer-scrambled e = by-type 0xF8 30 e refl
+  answer-scrambled e = by-type 0xF8 (fault.number fault.typeScrambled) e refl
 
   data-number : typeOf s < 256 → (typeOf s ≡ 0x3F → ⊥) → (typeOf s ≡ 0xC7 → ⊥) → (typeOf s ≡ 0xF8 → ⊥)
-      → receivedNumber p s ≡ refusal (row (unreadable p (usefulOf s)) 31 ∷ [])
+      → receivedNumber p s ≡ refusal (row (unreadable p (usefulOf s)) (fault.number fault.wordUnreadable) ∷ [])
   data-number h a b c =
-      typed ∙ refusal-miss (leb 256 (typeOf s)) 28 _ (lt-leb 256 (typeOf s) h)
-      ∙ refusal-miss (eqb (typeOf s) 0x3F) 29 _ (ne-eqb (typeOf s) 0x3F a)
-      ∙ refusal-miss (eqb (typeOf s) 0xC7) 29 _ (ne-eqb (typeOf s) 0xC7 b)
-      ∙ refusal-miss (eqb (typeOf s) 0xF8) 30 _ (ne-eqb (typeOf s) 0xF8 c)
+      typed ∙ refusal-miss (leb 256 (typeOf s)) (fault.number fault.typeUnreadable) _ (lt-leb 256 (typeOf s) h)
+      ∙ refusal-miss (eqb (typeOf s) 0x3F) (fault.number fault.typeControl) _ (ne-eqb (typeOf s) 0x3F a)
+      ∙ refusal-miss (eqb (typeOf s) 0xC7) (fault.number fault.typeReserved) _ (ne-eqb (typeOf s) 0xC7 b)
+      ∙ refusal-miss (eqb (typeOf s) 0xF8) (fault.number fault.typeScrambled) _ (ne-eqb (typeOf s) 0xF8 c)
 
 -- a data packet by its type: not one of the others
 pub record IsData (s : List ℕ) : Type 0 where
@@ -116,28 +117,28 @@ unfolding receivedAs refusal unreadable given receivedBytes
 answer-plain s d = received-as false s 0 (data-number false s (d .size) (d .readable) (d .control) (d .reserved) (d .scrambled))
 
 short-number : (s : List ℕ) → IsData s → (b : Bool) → ltb (dataRead (usefulOf s) .place) 30 ≡ b
-    → receivedNumber true s ≡ refusal (row b 31 ∷ [])
+    → receivedNumber true s ≡ refusal (row b (fault.number fault.wordUnreadable) ∷ [])
 unfolding unreadable
 short-number s d b e =
     data-number true s (d .size) (d .readable) (d .control) (d .reserved) (d .scrambled)
-    ∙ ap (λ (x : Bool). refusal (row x 31 ∷ [])) e
+    ∙ ap (λ (x : Bool). refusal (row x (fault.number fault.wordUnreadable) ∷ [])) e
 
 pub answer-protected : (s : List ℕ) → IsData s → received true s ≡ dataAs (indexOf s) (dataRead (usefulOf s))
 unfolding receivedAs refusal given filled receivedBytes
 answer-protected s d = go (ltb (dataRead (usefulOf s) .place) 30) refl
   where
     either : Bool → Reading
-    either b = cond b (refusedAs 31 (dataRead (usefulOf s) .place)) (partAs (indexOf s) (dataRead (usefulOf s) .bytes))
+    either b = cond b (refusedAs (fault.number fault.wordUnreadable) (dataRead (usefulOf s) .place)) (partAs (indexOf s) (dataRead (usefulOf s) .bytes))
 
     go : (b : Bool) → ltb (dataRead (usefulOf s) .place) 30 ≡ b → received true s ≡ dataAs (indexOf s) (dataRead (usefulOf s))
-    go true e = received-as true s 31 (short-number s d true e) ∙ sym (ap either e)
+    go true e = received-as true s (fault.number fault.wordUnreadable) (short-number s d true e) ∙ sym (ap either e)
     go false e = received-as true s 0 (short-number s d false e) ∙ sym (ap either e)
 
-pub data-short : (i : ℕ) (d : Data) → d .place < 30 → dataAs i d ≡ refusedAs 31 (d .place)
-data-short i d h = ap (λ (b : Bool). cond b (refusedAs 31 (d .place)) (partAs i (d .bytes))) (lt-ltb (d .place) 30 h)
+pub data-short : (i : ℕ) (d : Data) → d .place < 30 → dataAs i d ≡ refusedAs (fault.number fault.wordUnreadable) (d .place)
+data-short i d h = ap (λ (b : Bool). cond b (refusedAs (fault.number fault.wordUnreadable) (d .place)) (partAs i (d .bytes))) (lt-ltb (d .place) 30 h)
 
 pub data-whole : (i : ℕ) (d : Data) → 30 ≤ d .place → dataAs i d ≡ partAs i (d .bytes)
-data-whole i d h = ap (λ (b : Bool). cond b (refusedAs 31 (d .place)) (partAs i (d .bytes))) (le-ltb (d .place) 30 h)
+data-whole i d h = ap (λ (b : Bool). cond b (refusedAs (fault.number fault.wordUnreadable) (d .place)) (partAs i (d .bytes))) (le-ltb (d .place) 30 h)
 
 -- ---- what the readers of the parts found
 
@@ -188,7 +189,7 @@ received-either p s l =
     subst (λ (n : ℕ). (n ≡ 0) ⊎ Numbered unreadables n) (sym (typed p s l))
     (go (leb 256 (typeOf s)) (eqb (typeOf s) 0x3F) (eqb (typeOf s) 0xC7) (eqb (typeOf s) 0xF8) (unreadable p (usefulOf s)))
   where
-    go : (a b c d e : Bool) → let n = refusal (row a 28 ∷ row b 29 ∷ row c 29 ∷ row d 30 ∷ row e 31 ∷ []) in
+    go : (a b c d e : Bool) → let n = refusal (row a (fault.number fault.typeUnreadable) ∷ row b (fault.number fault.typeControl) ∷ row c (fault.number fault.typeReserved) ∷ row d (fault.number fault.typeScrambled) ∷ row e (fault.number fault.wordUnreadable) ∷ []) in
         (n ≡ 0) ⊎ Numbered unreadables n
     go true b c d e = inr (inl refl)
     go false true c d e = inr (inr (inl refl))

@@ -35,6 +35,7 @@ use Rattle.words.specs.Protected.{protected, wordsOf, informations, failed, dat
 use Rattle.words.specs.declared.Words.{Words}
 use Rattle.words.proofs.Each.{failed-pass, failed-le, words-whole, failed-whole}
 use Rattle.words.proofs.Packing.{words-protected, words-length, data-segments, segments-below, segments-length, protected-length, protected-below}
+use Rattle.faults.specs.Faults as fault
 use Rattle.packet.specs.Received.{typeOf, usefulOf, received, written, refusedAs, partAs}
 use Rattle.packet.specs.Damage.{dataSize, carried, sentImage, Kept, Came, Corrected, Refused}
 use Rattle.packet.specs.declared.Reading.{Reading}
@@ -165,20 +166,20 @@ by-type p t l = unread (decLt (typeOf t) 256)
     numbered n r e q = ap (λ (x : Reading). x .number) e ∙ q
 
     scrambled : typeOf t < 256 → (typeOf t ≡ 0x3F → ⊥) → (typeOf t ≡ 0xC7 → ⊥) → Dec (typeOf t ≡ 0xF8) → Refused (received p t) ⊎ IsData t
-    scrambled h a b (yes e) = inl (inr (inr (inr (inl (numbered 30 (refusedAs 30 0) (answer-scrambled p t l e) refl)))))
+    scrambled h a b (yes e) = inl (inr (inr (inr (inl (numbered (fault.number fault.typeScrambled) (refusedAs (fault.number fault.typeScrambled) 0) (answer-scrambled p t l e) refl)))))
     scrambled h a b (no e) = inr (isData t (typeOf t) l h refl a b e)
 
     reserved : typeOf t < 256 → (typeOf t ≡ 0x3F → ⊥) → Dec (typeOf t ≡ 0xC7) → Refused (received p t) ⊎ IsData t
-    reserved h a (yes e) = inl (inr (inr (inl (numbered 29 (refusedAs 29 0) (answer-reserved p t l e) refl))))
+    reserved h a (yes e) = inl (inr (inr (inl (numbered (fault.number fault.typeReserved) (refusedAs (fault.number fault.typeReserved) 0) (answer-reserved p t l e) refl))))
     reserved h a (no e) = scrambled h a e (ℕ-discrete (typeOf t) 0xF8)
 
     control : typeOf t < 256 → Dec (typeOf t ≡ 0x3F) → Refused (received p t) ⊎ IsData t
-    control h (yes e) = inl (inr (inl (numbered 29 (refusedAs 29 0) (answer-control p t l e) refl)))
+    control h (yes e) = inl (inr (inl (numbered (fault.number fault.typeControl) (refusedAs (fault.number fault.typeControl) 0) (answer-control p t l e) refl)))
     control h (no e) = reserved h e (ℕ-discrete (typeOf t) 0xC7)
 
     unread : Dec (typeOf t < 256) → Refused (received p t) ⊎ IsData t
     unread (yes h) = control h (ℕ-discrete (typeOf t) 0x3F)
-    unread (no h) = inl (inl (numbered 28 (refusedAs 28 0) (answer-unreadable p t l (omega arith)) refl))
+    unread (no h) = inl (inl (numbered (fault.number fault.typeUnreadable) (refusedAs (fault.number fault.typeUnreadable) 0) (answer-unreadable p t l (omega arith)) refl))
 
 -- a data packet whose useful bytes came with at most four flips a word
 data-came : (p : Bool) (t d : List ℕ) (i : ℕ) → IsData t → indexOf t ≡ i → length d ≡ dataSize p → Below 256 d

@@ -19,7 +19,7 @@ use Rattle.golay.specs.Code.{word23}
 use Rattle.image.specs.Image.{headerOf, bytesOf, imageOf}
 use Rattle.words.specs.Protected.{dataRead}
 use Rattle.words.specs.declared.Data.{Data}
-use Rattle.faults.specs.Faults.{Fault, typeUnreadable, typeControl, typeReserved, typeScrambled, wordUnreadable, outOfStep, unreadables, rowsBy}
+use Rattle.faults.specs.Faults.{Fault, number, typeUnreadable, typeControl, typeReserved, typeScrambled, wordUnreadable, outOfStep, unreadables, rowsBy}
 use Rattle.packet.specs.declared.Reading.{Reading}
 
 unfoldable pub typeOf : List ℕ → ℕ
@@ -60,7 +60,7 @@ received protected s =
     let answer = receivedNumber protected s in
     record {
       number = answer;
-      place = cond (eqb answer 31) (dataRead (usefulOf s) .place) 0;
+      place = cond (eqb answer (number wordUnreadable)) (dataRead (usefulOf s) .place) 0;
       index = given answer (headerRead (headerOf s) .index);
       bytes = filled answer (receivedBytes protected s);
     }
@@ -73,7 +73,7 @@ abbrev pub partAs : ℕ → List ℕ → Reading
 partAs index bytes = record { number = 0; place = 0; index = index; bytes = filled 0 bytes }
 
 abbrev pub dataAs : ℕ → Data → Reading
-dataAs index d = cond (ltb (d .place) 30) (refusedAs 31 (d .place)) (partAs index (d .bytes))
+dataAs index d = cond (ltb (d .place) 30) (refusedAs (number wordUnreadable) (d .place)) (partAs index (d .bytes))
 
 -- 4.3.6: header, type byte, useful bytes; the spare bit is 0
 unfoldable pub written : ℕ → ℕ → ℕ → List ℕ → List ℕ

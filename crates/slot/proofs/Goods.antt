@@ -22,7 +22,7 @@ use Rattle.runs.proofs.Parts.{blank-at}
 use Rattle.head.specs.Head.{freeHead, goodWish, goodHead}
 use Rattle.head.specs.declared.Head.{Head}
 use Rattle.head.proofs.Bounds.{wish-bounds, good-bounds}
-use Rattle.slot.specs.Slot.{headOf, withHead, free, goodSlot}
+use Rattle.slot.specs.Slot.{slotSize, headOf, withHead, free, goodSlot}
 use Rattle.slot.proofs.Heads.{load-store, withHead-below}
 
 pub free-blank : (s : List ℕ) → free s ≡ true → s ≡ blank (length s)
@@ -67,13 +67,13 @@ good-cases s e = go (free s) refl e
 
 -- a good head is stored and read back, and makes a good slot
 module _ (h : Head) (e : goodHead h ≡ true) (s : List ℕ) where
-  pub good-load : length s ≡ 736 → headOf (withHead h s) ≡ h
+  pub good-load : length s ≡ slotSize → headOf (withHead h s) ≡ h
   good-load l =
       let b = good-bounds h e in
       let w = wish-bounds (h .wish) (b .wish) in
       load-store h s l (omega arith) (omega arith) (omega arith) (omega arith)
 
-  pub good-store : length s ≡ 736 → goodSlot (withHead h s) ≡ true
+  pub good-store : length s ≡ slotSize → goodSlot (withHead h s) ≡ true
   good-store l = good-slot (withHead h s) (ap goodHead (good-load l) ∙ e)
 
   pub good-store-below : Below 256 s → Below 256 (withHead h s)

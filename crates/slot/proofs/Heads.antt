@@ -16,7 +16,7 @@ use Rattle.runs.specs.Part.{part, put}
 use Rattle.runs.specs.Numbers.{four, fourAt}
 use Rattle.runs.proofs.Parts.{part-cons, part-cat, getD-part, put-length, part-put, part-put-before, put-put, put-part, put-below}
 use Rattle.runs.proofs.Numbers.{four-below, fourAt-part, fourAt-four, four-fourAt}
-use Rattle.slot.specs.Slot.{headOf, headBytes, withHead, unfinished, stored}
+use Rattle.slot.specs.Slot.{headAt, headSize, roomSize, slotSize, wholeAt, headOf, headBytes, withHead, unfinished, stored}
 use Rattle.head.specs.declared.Head.{Head}
 
 mod-small : (n : ℕ) → n < 256 → n % 256 ≡ n
@@ -32,34 +32,34 @@ read b = record {
   gap = getD b 15 0;
 }
 
-head-read : (s : List ℕ) → headOf s ≡ read (part 720 16 s)
+head-read : (s : List ℕ) → headOf s ≡ read (part headAt headSize s)
 unfolding headOf
 head-read s =
     λ i. record {
       wish = record {
         address = fourAt-part 720 0 16 s (lit≤ tt) i;
         limit = fourAt-part 720 4 16 s (lit≤ tt) i;
-        protection = sym (getD-part 720 16 12 s (lit< tt)) i;
+        protection = sym (getD-part headAt headSize 12 s (lit< tt)) i;
       };
       age = fourAt-part 720 8 16 s (lit≤ tt) i;
-      awaited = sym (getD-part 720 16 13 s (lit< tt)) i;
-      group = sym (getD-part 720 16 14 s (lit< tt)) i;
-      gap = sym (getD-part 720 16 15 s (lit< tt)) i;
+      awaited = sym (getD-part headAt headSize 13 s (lit< tt)) i;
+      group = sym (getD-part headAt headSize 14 s (lit< tt)) i;
+      gap = sym (getD-part headAt headSize 15 s (lit< tt)) i;
     }
 
 -- the sixteen bytes alone say what the head is
-pub head-same : (s t : List ℕ) → part 720 16 s ≡ part 720 16 t → headOf s ≡ headOf t
+pub head-same : (s t : List ℕ) → part headAt headSize s ≡ part headAt headSize t → headOf s ≡ headOf t
 head-same s t e = head-read s ∙ ap read e ∙ sym (head-read t)
 
-pub headBytes-length : (h : Head) → length (headBytes h) ≡ 16
+pub headBytes-length : (h : Head) → length (headBytes h) ≡ headSize
 unfolding headBytes four
 headBytes-length h = refl
 
-pub load-store : (h : Head) (s : List ℕ) → length s ≡ 736 → h .wish .address < 2 ^ 32 → h .wish .limit < 2 ^ 32
+pub load-store : (h : Head) (s : List ℕ) → length s ≡ slotSize → h .wish .address < 2 ^ 32 → h .wish .limit < 2 ^ 32
     → h .wish .protection < 256 → h .age < 2 ^ 32 → headOf (withHead h s) ≡ h
 unfolding withHead headBytes four fourAt
 load-store h s l ha hl hp hg =
-    head-read (withHead h s) ∙ ap read (part-put 720 16 (headBytes h) s (omega arith) refl)
+    head-read (withHead h s) ∙ ap read (part-put headAt headSize (headBytes h) s (omega arith) refl)
     ∙ (λ i. record {
       wish = record {
         address = fourAt-four (h .wish .address) [] ha i;
@@ -72,7 +72,7 @@ load-store h s l ha hl hp hg =
       gap = h .gap;
     })
 
-pub headBytes-part : (s : List ℕ) → length s ≡ 736 → Below 256 s → headBytes (headOf s) ≡ part 720 16 s
+pub headBytes-part : (s : List ℕ) → length s ≡ slotSize → Below 256 s → headBytes (headOf s) ≡ part headAt headSize s
 unfolding headBytes headOf part
 headBytes-part s l h =
     let small : getD s 732 0 % 256 ∷ getD s 733 0 ∷ getD s 734 0 ∷ getD s 735 0 ∷ [] ≡ part 732 4 s =
@@ -87,26 +87,26 @@ headBytes-part s l h =
     ∙ sym (part-cat 724 4 8 s))
     ∙ sym (part-cat 720 4 12 s)
 
-pub store-load : (s : List ℕ) → length s ≡ 736 → Below 256 s → withHead (headOf s) s ≡ s
+pub store-load : (s : List ℕ) → length s ≡ slotSize → Below 256 s → withHead (headOf s) s ≡ s
 unfolding withHead
-store-load s l h = ap (λ (x : List ℕ). put 720 16 x s) (headBytes-part s l h) ∙ put-part 720 16 s
+store-load s l h = ap (λ (x : List ℕ). put headAt headSize x s) (headBytes-part s l h) ∙ put-part headAt headSize s
 
-pub withHead-length : (h : Head) (s : List ℕ) → length s ≡ 736 → length (withHead h s) ≡ length s
+pub withHead-length : (h : Head) (s : List ℕ) → length s ≡ slotSize → length (withHead h s) ≡ length s
 unfolding withHead
-withHead-length h s l = put-length 720 16 (headBytes h) s (omega arith) (headBytes-length h)
+withHead-length h s l = put-length headAt headSize (headBytes h) s (omega arith) (headBytes-length h)
 
-pub store-unfinished : (h : Head) (s : List ℕ) → length s ≡ 736 → unfinished (withHead h s) ≡ unfinished s
+pub store-unfinished : (h : Head) (s : List ℕ) → length s ≡ slotSize → unfinished (withHead h s) ≡ unfinished s
 unfolding withHead unfinished
-store-unfinished h s l = part-put-before 720 16 (headBytes h) s 0 360 (omega arith) (lit≤ tt)
+store-unfinished h s l = part-put-before headAt headSize (headBytes h) s 0 roomSize (omega arith) (lit≤ tt)
 
-pub store-stored : (h : Head) (s : List ℕ) → length s ≡ 736 → stored (withHead h s) ≡ stored s
+pub store-stored : (h : Head) (s : List ℕ) → length s ≡ slotSize → stored (withHead h s) ≡ stored s
 unfolding withHead stored
-store-stored h s l = part-put-before 720 16 (headBytes h) s 360 360 (omega arith) (lit≤ tt)
+store-stored h s l = part-put-before headAt headSize (headBytes h) s wholeAt roomSize (omega arith) (lit≤ tt)
 
 -- the later of two heads stays
-pub store-store : (g h : Head) (s : List ℕ) → length s ≡ 736 → withHead h (withHead g s) ≡ withHead h s
+pub store-store : (g h : Head) (s : List ℕ) → length s ≡ slotSize → withHead h (withHead g s) ≡ withHead h s
 unfolding withHead
-store-store g h s l = put-put 720 16 (headBytes g) s (headBytes h) (omega arith) (headBytes-length g)
+store-store g h s l = put-put headAt headSize (headBytes g) s (headBytes h) (omega arith) (headBytes-length g)
 
 module _ (h : Head) (ha : h .awaited < 256) (hg : h .group < 256) (hm : h .gap < 256) where
   pub headBytes-below : Below 256 (headBytes h)
@@ -125,4 +125,4 @@ module _ (h : Head) (ha : h .awaited < 256) (hg : h .group < 256) (hm : h .gap <
 
   pub withHead-below : (s : List ℕ) → Below 256 s → Below 256 (withHead h s)
   unfolding withHead
-  withHead-below s b = put-below 720 16 (headBytes h) s headBytes-below b
+  withHead-below s b = put-below headAt headSize (headBytes h) s headBytes-below b

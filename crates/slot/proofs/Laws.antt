@@ -13,54 +13,54 @@ use lib.ListN.{length}
 use Rattle.bits.proofs.Runs.{Below}
 use Rattle.runs.specs.Part.{part, put}
 use Rattle.runs.proofs.Parts.{part-length, put-length, part-put, part-put-before, part-put-after, put-below}
-use Rattle.slot.specs.Slot.{headOf, unfinished, stored, withUnfinished, withStored}
+use Rattle.slot.specs.Slot.{headAt, headSize, roomSize, slotSize, wholeAt, headOf, unfinished, stored, withUnfinished, withStored}
 use Rattle.slot.proofs.Heads.{head-same}
 
-pub unfinished-room : (s : List ℕ) → length s ≡ 736 → length (unfinished s) ≡ 360
+pub unfinished-room : (s : List ℕ) → length s ≡ slotSize → length (unfinished s) ≡ roomSize
 unfolding unfinished
-unfinished-room s l = part-length 0 360 s (omega arith)
+unfinished-room s l = part-length 0 roomSize s (omega arith)
 
-pub stored-room : (s : List ℕ) → length s ≡ 736 → length (stored s) ≡ 360
+pub stored-room : (s : List ℕ) → length s ≡ slotSize → length (stored s) ≡ roomSize
 unfolding stored
-stored-room s l = part-length 360 360 s (omega arith)
+stored-room s l = part-length wholeAt roomSize s (omega arith)
 
 pub unfinished-below : (r s : List ℕ) → Below 256 r → Below 256 s → Below 256 (withUnfinished r s)
 unfolding withUnfinished
-unfinished-below r s hr hs = put-below 0 360 r s hr hs
+unfinished-below r s hr hs = put-below 0 roomSize r s hr hs
 
 pub stored-below : (r s : List ℕ) → Below 256 r → Below 256 s → Below 256 (withStored r s)
 unfolding withStored
-stored-below r s hr hs = put-below 360 360 r s hr hs
+stored-below r s hr hs = put-below wholeAt roomSize r s hr hs
 
-module _ (r s : List ℕ) (l : length s ≡ 736) (k : length r ≡ 360) where
+module _ (r s : List ℕ) (l : length s ≡ slotSize) (k : length r ≡ roomSize) where
   pub unfinished-put : unfinished (withUnfinished r s) ≡ r
   unfolding unfinished withUnfinished
-  unfinished-put = part-put 0 360 r s (omega arith) k
+  unfinished-put = part-put 0 roomSize r s (omega arith) k
 
   pub unfinished-stored : stored (withUnfinished r s) ≡ stored s
   unfolding stored withUnfinished
-  unfinished-stored = part-put-after 0 360 r s 360 360 (omega arith) k (lit≤ tt)
+  unfinished-stored = part-put-after 0 roomSize r s wholeAt roomSize (omega arith) k (lit≤ tt)
 
   pub unfinished-head : headOf (withUnfinished r s) ≡ headOf s
   unfolding withUnfinished
-  unfinished-head = head-same (withUnfinished r s) s (part-put-after 0 360 r s 720 16 (omega arith) k (lit≤ tt))
+  unfinished-head = head-same (withUnfinished r s) s (part-put-after 0 roomSize r s headAt headSize (omega arith) k (lit≤ tt))
 
   pub unfinished-length : length (withUnfinished r s) ≡ length s
   unfolding withUnfinished
-  unfinished-length = put-length 0 360 r s (omega arith) k
+  unfinished-length = put-length 0 roomSize r s (omega arith) k
 
   pub stored-put : stored (withStored r s) ≡ r
   unfolding stored withStored
-  stored-put = part-put 360 360 r s (omega arith) k
+  stored-put = part-put wholeAt roomSize r s (omega arith) k
 
   pub stored-unfinished : unfinished (withStored r s) ≡ unfinished s
   unfolding unfinished withStored
-  stored-unfinished = part-put-before 360 360 r s 0 360 (omega arith) (lit≤ tt)
+  stored-unfinished = part-put-before wholeAt roomSize r s 0 roomSize (omega arith) (lit≤ tt)
 
   pub stored-head : headOf (withStored r s) ≡ headOf s
   unfolding withStored
-  stored-head = head-same (withStored r s) s (part-put-after 360 360 r s 720 16 (omega arith) k (lit≤ tt))
+  stored-head = head-same (withStored r s) s (part-put-after wholeAt roomSize r s headAt headSize (omega arith) k (lit≤ tt))
 
   pub stored-length : length (withStored r s) ≡ length s
   unfolding withStored
-  stored-length = put-length 360 360 r s (omega arith) k
+  stored-length = put-length wholeAt roomSize r s (omega arith) k

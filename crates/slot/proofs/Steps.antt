@@ -19,13 +19,13 @@ use Rattle.bits.proofs.Flips.{or-none}
 use Rattle.bits.proofs.Runs.{Below, or-above}
 use Rattle.runs.specs.Part.{put}
 use Rattle.runs.specs.Numbers.{four, fourAt}
-use Rattle.slot.specs.Slot.{headBytes, withHead, free}
+use Rattle.slot.specs.Slot.{slotSize, headBytes, withHead, free}
 use Rattle.head.specs.Head.{agedHead}
 use Rattle.head.specs.declared.Head.{Head}
 use Rattle.runs.proofs.Parts.{put-length, put-next}
 use Rattle.runs.proofs.Numbers.{four-sets}
 
-pub head-stores : (h : Head) (s t u v : List ℕ) → length s ≡ 736
+pub head-stores : (h : Head) (s t u v : List ℕ) → length s ≡ slotSize
     → t ≡ put 720 4 (four (h .wish .address)) s → u ≡ put 724 4 (four (h .wish .limit)) t → v ≡ put 728 4 (four (h .age)) u
     → set (set (set (set v 732 (h .wish .protection % 256)) 733 (h .awaited)) 734 (h .group)) 735 (h .gap) ≡ withHead h s
 unfolding withHead headBytes four
@@ -36,7 +36,7 @@ head-stores h s t u v l et eu ev =
     let d : List ℕ = h .wish .protection % 256 ∷ h .awaited ∷ h .group ∷ h .gap ∷ [] in
     let two : u ≡ put 720 8 (a ++ b) s = eu ∙ ap (put 724 4 b) et ∙ put-next 720 4 a s 4 b (omega arith) refl in
     let three : v ≡ put 720 12 ((a ++ b) ++ c) s = ev ∙ ap (put 728 4 c) two ∙ put-next 720 8 (a ++ b) s 4 c (omega arith) refl in
-    let long : length v ≡ 736 = ap length three ∙ put-length 720 12 ((a ++ b) ++ c) s (omega arith) refl ∙ l in
+    let long : length v ≡ slotSize = ap length three ∙ put-length 720 12 ((a ++ b) ++ c) s (omega arith) refl ∙ l in
     four-sets 732 (h .wish .protection % 256) (h .awaited) (h .group) (h .gap) v (omega arith)
     ∙ ap (put 732 4 d) three ∙ put-next 720 12 ((a ++ b) ++ c) s 4 d (omega arith) refl
 

@@ -14,7 +14,7 @@
 use mathlib.Core.Path.{_≡_, refl, sym, ap, ap₂, _∙_, subst}
 use mathlib.Core.Bool.{Bool, true, false, cond, _||_}
 use mathlib.Core.List.{List, [], _∷_}
-use Prim.Native.Nat.{ℕ, zero, suc, _≤_, _<_}
+use Prim.Native.Nat.{ℕ, zero, suc, _≤_, _<_, _+_, _-_}
 use native.Mathlib.Omega.{arith}
 use native.Mathlib.Decide.{ℕ-discrete, decLt}
 use borrow.Author.Tests.{eq-eqb, ne-eqb, lt-ltb, le-ltb}
@@ -50,28 +50,32 @@ empty = []
 none : length empty ≡ stateSize → ⊥
 none q = omega (arith, q)
 
-short : length (blank 11775) ≡ stateSize → ⊥
-short = wrong 11775 (λ q. omega (arith, q))
+short : length (blank (stateSize - 1)) ≡ stateSize → ⊥
+short = wrong (stateSize - 1) (λ q. omega (arith, q))
 
-long : length (blank 11777) ≡ stateSize → ⊥
-long = wrong 11777 (λ q. omega (arith, q))
+long : length (blank (stateSize + 1)) ≡ stateSize → ⊥
+long = wrong (stateSize + 1) (λ q. omega (arith, q))
 
-pub starts : (startAnswer empty ∷ startAnswer (blank 11775) ∷ startAnswer (blank 11777) ∷ startAnswer (blank 11776) ∷ []) ≡ (20 ∷ 20 ∷ 20 ∷ 0 ∷ [])
+-- the paper's number
+pub size : stateSize ≡ 11776
+size = refl
+
+pub starts : (startAnswer empty ∷ startAnswer (blank (stateSize - 1)) ∷ startAnswer (blank (stateSize + 1)) ∷ startAnswer (blank stateSize) ∷ []) ≡ (20 ∷ 20 ∷ 20 ∷ 0 ∷ [])
 starts = λ i.
-    sym (start-refused empty none) i ∷ sym (start-refused (blank 11775) short) i ∷ sym (start-refused (blank 11777) long) i
-    ∷ sym (start-passed (blank 11776) (blank-length 11776)) i ∷ []
+    sym (start-refused empty none) i ∷ sym (start-refused (blank (stateSize - 1)) short) i ∷ sym (start-refused (blank (stateSize + 1)) long) i
+    ∷ sym (start-passed (blank stateSize) (blank-length stateSize)) i ∷ []
 
 -- ---- 34: a byte that is not 0 in a slot without an address
 
 abbrev pub spoiled : List ℕ
-spoiled = 1 ∷ blank 11775
+spoiled = 1 ∷ blank (stateSize - 1)
 
 pub spoiled-length : length spoiled ≡ stateSize
-spoiled-length = ap suc (blank-length 11775)
+spoiled-length = ap suc (blank-length (stateSize - 1))
 
 spoiled-slot : slotAt 0 spoiled ≡ 1 ∷ blank 735
 unfolding slotAt part
-spoiled-slot = ap (λ (x : List ℕ). 1 ∷ x) (part-blank 0 735 11775 (lit≤ tt))
+spoiled-slot = ap (λ (x : List ℕ). 1 ∷ x) (part-blank 0 735 (stateSize - 1) (lit≤ tt))
 
 spoiled-bad : goodSlot (1 ∷ blank 735) ≡ false
 unfolding goodSlot free goodHead headOf fourAt blank goodWish
@@ -141,15 +145,15 @@ ends = λ i.
     state-20 empty [] none i ∷ state-34 spoiled [] spoiled-length spoiled-not i ∷ end-done started nobody start-shows i
     ∷ end-done followed one followed-shows i ∷ []
 
-pub leave-20 : leaveAnswer (blank 11775) 0 ≡ 20
+pub leave-20 : leaveAnswer (blank (stateSize - 1)) 0 ≡ 20
 unfolding leaveAnswer
-leave-20 = state-20 (blank 11775) _ short
+leave-20 = state-20 (blank (stateSize - 1)) _ short
 
 pub leave-34 : leaveAnswer spoiled 0 ≡ 34
 unfolding leaveAnswer
 leave-34 = state-34 spoiled _ spoiled-length spoiled-not
 
-pub leaves : (leaveAnswer (blank 11775) 0 ∷ leaveAnswer spoiled 0 ∷ leaveAnswer started 0 ∷ leaveAnswer started 1023 ∷ leaveAnswer started 1
+pub leaves : (leaveAnswer (blank (stateSize - 1)) 0 ∷ leaveAnswer spoiled 0 ∷ leaveAnswer started 0 ∷ leaveAnswer started 1023 ∷ leaveAnswer started 1
     ∷ leaveAnswer started 1022 ∷ leaveAnswer followed 18 ∷ leaveAnswer followed 17 ∷ [])
     ≡ (20 ∷ 34 ∷ 22 ∷ 22 ∷ 27 ∷ 27 ∷ 27 ∷ 0 ∷ [])
 unfolding first
@@ -168,10 +172,10 @@ follow-34 : (w : Wish) → followAnswer spoiled w ≡ 34
 unfolding followAnswer
 follow-34 w = state-34 spoiled _ spoiled-length spoiled-not
 
-pub follows-refused : (followAnswer empty (wishOf 0 2 0) ∷ followAnswer (blank 11775) (wishOf 17 1 2) ∷ followAnswer (blank 11777) (wishOf 17 1 2)
+pub follows-refused : (followAnswer empty (wishOf 0 2 0) ∷ followAnswer (blank (stateSize - 1)) (wishOf 17 1 2) ∷ followAnswer (blank (stateSize + 1)) (wishOf 17 1 2)
     ∷ followAnswer spoiled (wishOf 0 2 0) ∷ []) ≡ (20 ∷ 20 ∷ 20 ∷ 34 ∷ [])
 follows-refused = λ i.
-    follow-20 empty (wishOf 0 2 0) none i ∷ follow-20 (blank 11775) (wishOf 17 1 2) short i ∷ follow-20 (blank 11777) (wishOf 17 1 2) long i ∷ follow-34 (wishOf 0 2 0) i ∷ []
+    follow-20 empty (wishOf 0 2 0) none i ∷ follow-20 (blank (stateSize - 1)) (wishOf 17 1 2) short i ∷ follow-20 (blank (stateSize + 1)) (wishOf 17 1 2) long i ∷ follow-34 (wishOf 0 2 0) i ∷ []
 
 pub follows : (followAnswer started (wishOf 0 2 0) ∷ followAnswer started (wishOf 1023 2 0) ∷ followAnswer started (wishOf 1 2 0) ∷ followAnswer started (wishOf 1022 2 0)
     ∷ followAnswer started (wishOf 17 1 0) ∷ followAnswer started (wishOf 17 1 1501) ∷ followAnswer started (wishOf 1 0 1) ∷ followAnswer started (wishOf 1022 1 1500) ∷ [])

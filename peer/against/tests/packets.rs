@@ -38,7 +38,7 @@ fn flips_from_none_to_six() {
     for n in 0..rounds(6 * choices) {
         let k = random.below(16);
         // Mostly groups go on, where the damage lets them.
-        let awaited = both.state()[736 * k + 733].into();
+        let awaited = both.state()[second::slot::SLOT * k + 733].into();
         let index = [random.below(4) as u32, awaited, awaited][random.below(3)];
         let mut bytes = image(&mut random, k as u32, index, DATA);
         let (header, kind, word) = (n, n / CHOICES, n / CHOICES / CHOICES);

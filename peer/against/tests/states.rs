@@ -186,7 +186,7 @@ fn wrong_lengths() {
     let image = write_image(17, 0, DATA, &[7; 90]).repeat(2);
     let contents = [0; 2 * STATE];
     let states = [
-        0, 1, 15, 16, 94, 735, 736, 11_040, 11_775, 11_776, 11_777, 23_552,
+        0, 1, 15, 16, 94, SLOT - 1, SLOT, STATE - SLOT, STATE - 1, STATE, STATE + 1, 2 * STATE,
     ];
     for state in states {
         for length in [0, 1, 2, 93, 94, 95, 187, 188] {

@@ -2,6 +2,7 @@
 
 use second::samples::calls::{self, Call};
 use second::samples::{difference, rounds, states};
+use second::slot::SLOT;
 use second::table::{Table, STATE};
 use second::xorshift::Xorshift;
 use second::{fast, group};
@@ -60,7 +61,7 @@ fn bad_states() {
 #[test]
 fn wrong_lengths() {
     let image = second::image::write_image(17, 0, 0, &[7; 90]).repeat(3);
-    for state_length in [0, 1, 94, 736, STATE - 1, STATE, STATE + 1, 2 * STATE] {
+    for state_length in [0, 1, 94, SLOT, STATE - 1, STATE, STATE + 1, 2 * STATE] {
         for image_length in [0, 1, 93, 94, 95, 188, 282] {
             let (mut slow, mut quick) = (vec![0; state_length], vec![0; state_length]);
             let call = Call::Packet(image[..image_length].to_vec());

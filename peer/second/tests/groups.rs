@@ -5,6 +5,7 @@ mod sha256;
 use second::group::{packet, write_group};
 use second::image::{protect, write_image};
 use second::samples::{difference, flip, flip_some, states, word_at};
+use second::slot::SLOT as SIZE;
 use second::table::{ask, follow, STATE};
 use second::types::DATA;
 use second::xorshift::Xorshift;
@@ -14,7 +15,7 @@ const PROTECTED_GROUP: &str = "a72de0907726530efe7b494c4eecc6ce8309a3f210dbcf266
 const PLAIN_GROUP: &str = "3d95d0fbc8db258e393ff562f7780cb6205337bf5145934917bc4f04c5054aea";
 
 /// Where the slot under test begins, its address, and where its fields are.
-const SLOT: usize = 5 * 736;
+const SLOT: usize = 5 * SIZE;
 const ADDRESS: u32 = 300;
 const AGE: usize = 728;
 const PROTECTION: usize = 732;
@@ -104,7 +105,7 @@ fn row(address: u32, protection: u32, length: usize, room: usize) -> u8 {
 /// A good state in which every room is full of dirt; the slot under test has this protection and awaits this index.
 fn dirty(random: &mut Xorshift, protected: bool, awaited: u8) -> Vec<u8> {
     let mut state = vec![0; STATE];
-    for (place, bytes) in (0..).zip(state.chunks_mut(736)) {
+    for (place, bytes) in (0..).zip(state.chunks_mut(SIZE)) {
         let mut slot = states::slot(random, ADDRESS - 5 + place);
         slot.unfinished = random.bytes();
         slot.group = random.bytes();
@@ -138,7 +139,7 @@ fn the_table_of_section_4() {
             let data = random.bytes::<90>()[..size].to_vec();
             let mut state = dirty(&mut random, protected, awaited);
             let mut after = state.clone();
-            let answer = taken(&mut after[SLOT..SLOT + 736], index, &data);
+            let answer = taken(&mut after[SLOT..SLOT + SIZE], index, &data);
             let image = image_of(protected, index, DATA, &data);
             assert_eq!(packet(&mut state, &image), answer);
             assert_eq!(difference(&state, &after), None, "{awaited} {index}");
@@ -192,7 +193,7 @@ fn what_cannot_be_read_ends_the_group() {
         for (kind, number) in [(0x55, 28), (0x3F, 29), (0xC7, 29), (0xF8, 30), (DATA, 31)] {
             let mut state = dirty(&mut random, true, awaited);
             let mut after = state.clone();
-            dropped(&mut after[SLOT..SLOT + 736]);
+            dropped(&mut after[SLOT..SLOT + SIZE]);
             let mut image = image_of(true, index, kind, &random.bytes::<45>());
             // Four flips in a word, also where the type is refused before.
             let place = word_at(random.below(30));

@@ -2,6 +2,7 @@
 
 use second::samples::calls::{self, Call};
 use second::samples::{difference, rounds, states};
+use second::slot::SLOT;
 use second::table::{ask, board_text, follow, leave, start, subframe_end, Lent, STATE};
 use second::xorshift::Xorshift;
 
@@ -47,10 +48,10 @@ fn a_follow_writes_the_head() {
     let state = with(0, &[]);
     assert_eq!(state[..720], [0; 720]);
     assert_eq!(
-        state[720..736],
+        state[720..SLOT],
         [17, 0, 0, 0, 44, 1, 0, 0, 0, 0, 0, 0, 1, 0, 0, 0]
     );
-    assert!(state[736..].iter().all(|&byte| byte == 0));
+    assert!(state[SLOT..].iter().all(|&byte| byte == 0));
 }
 
 #[test]
@@ -87,8 +88,8 @@ fn bounds_of_the_bytes() {
 /// Free is all 736 bytes 0. An address alone does not make a slot used either: its limit is 0.
 #[test]
 fn a_stray_byte_in_a_free_slot() {
-    for place in 0..736 {
-        let state = with(736 * (1 + place % 15) + place, &[1]);
+    for place in 0..SLOT {
+        let state = with(SLOT * (1 + place % 15) + place, &[1]);
         assert!(!is_good(&state), "{place}");
     }
 }
@@ -100,12 +101,12 @@ fn dirt_in_the_rooms_of_a_used_slot_is_not_tested() {
 
 #[test]
 fn no_two_slots_share_an_address() {
-    let slot = with(0, &[])[..736].to_vec();
+    let slot = with(0, &[])[..SLOT].to_vec();
     for place in 1..16 {
-        assert!(!is_good(&with(736 * place, &slot)));
+        assert!(!is_good(&with(SLOT * place, &slot)));
         let mut other = slot.clone();
         other[720] = 18;
-        assert!(is_good(&with(736 * place, &other)));
+        assert!(is_good(&with(SLOT * place, &other)));
     }
 }
 
@@ -175,7 +176,7 @@ fn the_order_of_the_others() {
 
 #[test]
 fn lengths_of_the_state() {
-    for length in [0, 1, 16, 720, 736, 11_775, 11_777, 2 * STATE] {
+    for length in [0, 1, 16, 720, SLOT, STATE - 1, STATE + 1, 2 * STATE] {
         for call in calls().into_iter().chain([Call::Start]) {
             let mut state = vec![0xA5; length];
             assert_eq!(call.make(&mut state).number, 20);
@@ -215,9 +216,9 @@ fn ask_and_board_text() {
             for address in 1..=16 {
                 assert_eq!(follow(&mut state, address, protection, 3), 0);
             }
-            let head = 736 * place + 720;
+            let head = SLOT * place + 720;
             let address = 1 + place as u32;
-            let part = (736 * place + 360, if protection == 1 { 180 } else { 360 });
+            let part = (SLOT * place + 360, if protection == 1 { 180 } else { 360 });
             for (age, whole, gap, number) in [
                 (0, 0, 0, 4),
                 (1500, 0, 1, 4),

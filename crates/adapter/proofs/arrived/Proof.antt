@@ -13,6 +13,12 @@ use Rattle.adapter.proofs.arrived.Tie as tie
 abbrev start : tie.After-find → tie.Start
 start c = c .before .before .before .before .before .before
 
+abbrev served : tie.After-slice-known2 → tie.After-served
+served c = c .before .before
+
+abbrev found : tie.After-served → tie.Else1
+found c = c .before .before
+
 address : (c : tie.After-find) → start c .args .header .address ≡ addressOf (start c .args .image .now)
 unfolding addressOf
 address c = ap (λ (h : Header). h .address) (start c .pre .1 .1 .0)
@@ -26,11 +32,17 @@ cast-address c = search needs
 find-requires : tie.Need-find-requires
 find-requires c κs = search needs
 
+refused-requires : tie.Need-refused-requires
+refused-requires c κs = search needs
+
 same-length : tie.Need-same-length
 same-length c = search needs
 
 returns : tie.Need-returns
-returns c = place-27 _ (start (c .before) .args .image .now) _ _ (address (c .before)) (c .before .find .ensures) (c .if1 .taken)
+returns c =
+    let test = c .before in
+    let at = test .before in
+    place-27 _ (start at .args .image .now) _ _ (address at) (at .find .ensures) (test .if1 .taken) _ (c .refused .ensures)
 
 mul-at : tie.Need-mul-at
 mul-at c = omega (arith, place c)
@@ -55,9 +67,9 @@ same-length-2 c = search needs
 
 returns-2 : tie.Need-returns-2
 returns-2 c =
-    let found = c .before .before .before .before .before in
-    slot-served _ (start found .args .image .now) _ (found .find .result) (address found) (found .find .ensures) _ _ (c .before .before .before .before .if1 .left)
-    (c .before .before .served .ensures)
+    let test = found (served c) in
+    let at = test .before in
+    slot-served _ (start at .args .image .now) _ (at .find .result) (address at) (at .find .ensures) _ _ (test .if1 .left) (served c .served .ensures)
 
 pub arrived-spec : {M : Type 1} → statement M
 arrived-spec =
@@ -65,6 +77,7 @@ arrived-spec =
     (tie.spec
     cast-address
     find-requires
+    refused-requires
     same-length
     returns
     mul-at
