@@ -34,7 +34,7 @@ use Rattle.table.proofs.Doing.{span, slot-given}
 use Rattle.group.specs.Group.{taken, takenAfter}
 use Rattle.group.specs.declared.Answer.{Answer}
 use Rattle.adapter.proofs.Laws.{answered-refused, answered-passed}
-use Rattle.adapter.specs.Calls.{addressOf, followed, imageRows, placeRow, unplaced, readingAt, slotAnswered, slotAfter, refusedAs, answeredBy, packetAnswered, packetAfter}
+use Rattle.adapter.specs.Calls.{addressOf, followed, imageRows, placeRow, unplaced, readingAt, slotAnswered, slotAfter, refusedAnswer, answeredBy, packetAnswered, packetAfter}
 
 -- ---- the rows that need no slot
 
@@ -99,12 +99,12 @@ module _ (s image : List ℕ) (r : ℕ) (e : r ≡ refusal (imageRows s image []
   unfolding unplaced
   unplaced-further = rows-further _ _ _ _ (placeRow s image) ∙ ap (λ (n : ℕ). further n (refusal (placeRow s image))) (sym e)
 
-  pub image-refused : (x : Answer) → (r ≡ 0 → ⊥) → x ≡ refusedAs r → (x ≡ packetAnswered s image) × (s ≡ packetAfter s image)
+  pub image-refused : (x : Answer) → (r ≡ 0 → ⊥) → x ≡ refusedAnswer r → (x ≡ packetAnswered s image) × (s ≡ packetAfter s image)
   unfolding packetAfter
   image-refused x ne ex =
       let equal : r ≡ unplaced s image = sym (unplaced-further ∙ further-refused r _ ne) in
       let un : unplaced s image ≡ 0 → ⊥ = λ z. ne (equal ∙ z) in (
-        ex ∙ ap refusedAs equal ∙ sym (answered-refused (unplaced s image) (slotAnswered s image) un),
+        ex ∙ ap refusedAnswer equal ∙ sym (answered-refused (unplaced s image) (slotAnswered s image) un),
         sym (done-refused (unplaced s image) (slotAfter s image) s un),
       )
 
@@ -135,11 +135,11 @@ module _ (s image : List ℕ) (a k : ℕ) (ea : a ≡ addressOf image) (ek : k �
   test : (eqb a 0 || eqb k slots) ≡ not (followed s (addressOf image))
   test = ap (λ (x : ℕ). eqb a 0 || eqb x slots) ek ∙ no-place s a ∙ ap (λ (x : ℕ). not (followed s x)) ea
 
-  pub place-27 : (eqb a 0 || eqb k slots) ≡ true → (x : Answer) → x ≡ refusedAs 27 → AtPlace s image x s
+  pub place-27 : (eqb a 0 || eqb k slots) ≡ true → (x : Answer) → x ≡ refusedAnswer 27 → AtPlace s image x s
   place-27 t x ex =
       let hit : 27 ≡ refusal (placeRow s image) = sym (refusal-hit (not (followed s (addressOf image))) 27 [] (sym test ∙ t)) in
       let un : refusal (placeRow s image) ≡ 0 → ⊥ = λ z. omega (arith, hit, z) in (
-        ex ∙ ap refusedAs hit ∙ sym (answered-refused (refusal (placeRow s image)) (slotAnswered s image) un),
+        ex ∙ ap refusedAnswer hit ∙ sym (answered-refused (refusal (placeRow s image)) (slotAnswered s image) un),
         sym (done-refused (refusal (placeRow s image)) (slotAfter s image) s un),
       )
 

@@ -32,7 +32,7 @@ use Rattle.table.specs.State.{slots, find, good}
 use Rattle.table.proofs.Looking.{Passed, past-state, state-rest}
 use Rattle.group.specs.Group.{taken, takenNumber}
 use Rattle.group.specs.declared.Answer.{Answer}
-use Rattle.adapter.specs.Calls.{addressOf, followed, placeRow, unplaced, readingAt, slotAnswered, slotAnswer, slotAfter, refusedAs, answeredBy, packetAnswered, packetAnswer, packetAfter}
+use Rattle.adapter.specs.Calls.{addressOf, followed, placeRow, unplaced, readingAt, slotAnswered, slotAnswer, slotAfter, refusedAnswer, answeredBy, packetAnswered, packetAnswer, packetAfter}
 
 pub followed-both : (s : List ℕ) (a : ℕ) → followed s a ≡ true → (0 < a) × (find s a < slots)
 unfolding followed
@@ -80,7 +80,7 @@ size-refused s image ne = refusal-hit (not (eqb (length image) 94)) 20 _ (ap not
 pub spare-refused : (s image : List ℕ) → length image ≡ 94 → Passed s → spareOf image ≡ 1 → unplaced s image ≡ 21
 spare-refused s image l p e = past s image l p ∙ refusal-hit (eqb (spareOf image) 1) 21 _ (eq-eqb (spareOf image) 1 e)
 
-pub answered-refused : (n : ℕ) (x : Answer) → (n ≡ 0 → ⊥) → answeredBy n x ≡ refusedAs n
+pub answered-refused : (n : ℕ) (x : Answer) → (n ≡ 0 → ⊥) → answeredBy n x ≡ refusedAnswer n
 unfolding given further
 answered-refused zero x ne = absurd (ne refl)
 answered-refused (suc n) x ne = refl

@@ -124,8 +124,8 @@ unfollowed-told =
     let none = image-0 started image.plain refl 0 (sym (end-done started nobody start-shows)) refl 0 (sym image.plain-spare) (λ q. omega (arith, q)) in
     let away =
     place-27 started image.plain 17 16 (sym (address-17 image.plain image.plain-header)) (find-place started nobody start-shows 17) refl
-    (calls.refusedAs 27) refl in
-    sym (image-placed started image.plain 0 none (calls.refusedAs 27) started refl away .0)
+    (calls.refusedAnswer 27) refl in
+    sym (image-placed started image.plain 0 none (calls.refusedAnswer 27) started refl away .0)
 
 unfollowed : calls.packetAnswer started image.plain ≡ 27
 unfollowed = packet-number started image.plain ∙ ap (λ (x : Answer). x .number) unfollowed-told

@@ -6,7 +6,7 @@
 --   unplaced s image         20, 34, 21, which need no slot, and 27
 --   readingAt x image        what an image is received as where its slot has the bytes x
 --   slotAnswered, slotAfter  what the slot of its address answers, and the state with that slot after; slotAnswer: its number
---   refusedAs n              the answer that is a number and carries nothing
+--   refusedAnswer n          the answer that is a number and carries nothing
 --   answeredBy n x           that where n refuses, otherwise x
 --   packetAnswered, packetAfter     the call's; packetAnswer: its number
 --   groupSize p              the message of a group: 360 bytes plain, 180 protected
@@ -68,8 +68,8 @@ slotAfter s image =
     withSlot k (takenAfter (readingAt (slotAt k s) image) (slotAt k s)) s
 
 -- a call that is refused before its slot is found has nothing to tell of a packet
-abbrev pub refusedAs : ℕ → Answer
-refusedAs n = record { number = n; place = 0; awaited = 0; came = 0 }
+abbrev pub refusedAnswer : ℕ → Answer
+refusedAnswer n = record { number = n; place = 0; awaited = 0; came = 0 }
 
 abbrev pub answeredBy : ℕ → Answer → Answer
 answeredBy n x = record {

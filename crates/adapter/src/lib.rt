@@ -11,7 +11,7 @@ ghost use Rattle.image.specs.Image.{headerOf};
 ghost use Rattle.slot.specs.Slot.{slotSize, headOf};
 ghost use Rattle.table.specs.State.{stateSize};
 ghost use Rattle.group.specs.Group.{taken, takenAfter};
-ghost use Rattle.adapter.specs.Calls.{readingAt, slotAnswered, slotAfter, refusedAs, answeredBy, packetAnswered, packetAnswer, packetAfter, imageRows, placeRow};
+ghost use Rattle.adapter.specs.Calls.{readingAt, slotAnswered, slotAfter, refusedAnswer, answeredBy, packetAnswered, packetAnswer, packetAfter, imageRows, placeRow};
 use bare::Header;
 use group::Answer;
 use image::Packet;
@@ -66,7 +66,7 @@ fn checked(state: &[u8], image: &[u8]) -> u8
 
 // A call that is refused before its slot is found: nothing is told of the packet.
 fn refused(number: u8) -> Answer
-    ensures { λ r. ⌜ r ≡ refusedAs number ⌝ }
+    ensures { λ r. ⌜ r ≡ refusedAnswer number ⌝ }
 {
     Answer {
         number,

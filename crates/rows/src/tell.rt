@@ -4,7 +4,10 @@ use crate::Row;
 use crate::bytes;
 use crate::read;
 use libc::STDOUT_FILENO;
+ghost use mathlib.Core.Path.{_≡_};
+ghost use mathlib.Core.Bool.{true};
 ghost use Prim.Native.Nat.{_≤_};
+ghost use Rattle.rows.specs.Passed.{Same};
 
 // How far a program has come: the line that it reads, how many rows were run and passed, and how many bytes of its state, or map, are
 // lent.
@@ -124,8 +127,10 @@ fn searched(mut search: Search, byte: u8, name: u64) -> Search {
     search
 }
 
-// Numbers that are not given are 0 on both sides.
-fn agrees(row: Row, answer: Answer) -> bool {
+// A row passes only where all that it awaits came. Numbers that are not given are 0 on both sides.
+fn agrees(row: Row, answer: Answer) -> bool
+    ensures { λ r. ⌜ (r ≡ true → Same (row .values) (answer .values)) ⌝ }
+{
     let wants = row.values;
     let values = answer.values;
     let mut good = readable(row, answer);
