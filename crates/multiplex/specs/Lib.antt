@@ -5,6 +5,7 @@ pub mod Sound
 pub mod Finding
 pub mod Announcing
 pub mod Admitting
+pub mod Doubting
 pub mod Example
 pub mod Empty
 pub mod Faulty
