@@ -4,7 +4,7 @@
 --   settled-*             an announced structure as it comes into force
 --   anew-*                worked: a change that is not sure, and one field announced or in force, not known to be whole; and an
 --                         announcement that was begun over another
---   changed-length        a component's block keeps its length
+--   changed-length, both-length, ruled-length     a component's block keeps its length
 --   each-*, from-*        the loop over all components, by any rule and by a change's: each block is changed, and nothing else
 --   both-*, gap-*         a missed frame: each structure is spoiled, and nothing else
 --   stays, comes-in, goes-out    what is in force behind a change, by what was announced; cleared, emptied: nothing is announced
@@ -28,7 +28,9 @@ use Rattle.runs.proofs.Parts.{part-length, blank-at}
 use Rattle.runs.specs.Numbers.{four, fourAt, eight, eightAt}
 use Rattle.field.specs.Field.{deletes}
 use Rattle.structure.specs.Structure.{most, structureSize, allOnes, headOf, withHead, nth, withNth, markedHead, beginning, turnOf, spoiled, said, complete, settledHead}
-use Rattle.map.specs.Map.{ids, mapSize, blockSize, framesOf, blockAt, withBlock, structureAt, stayed, settled, forced, changed, eachFrom, changedFrom, spoiledBoth}
+use Rattle.map.specs.Map.{ids, mapSize, blockSize, framesOf, blockAt, withBlock, structureAt, stayed, settled, forced, changed, eachFrom, changedFrom, spoiledBoth, ruled}
+use Rattle.map.specs.declared.Rule.{Rule}
+use Rattle.map.specs.declared.Rule.the-variants.{Change, Missed}
 use Rattle.structure.specs.declared.Structure.{Structure}
 use Rattle.structure.specs.declared.Turn.the-variants.{Begins}
 use Rattle.map.proofs.Places.{block-length, block-structure, block-same, block-other, block-frames, with-block-length}
@@ -337,6 +339,11 @@ module _ (b : List ℕ) (lb : length b ≡ blockSize) where
   both-part zero hw = take-at one two structureSize one-length
   both-part (suc zero) hw = ap (take structureSize) (drop-at one two structureSize one-length) ∙ take-all structureSize two (omega (arith, two-length))
   both-part (suc (suc w)) hw = absurd (omega arith)
+
+pub ruled-length : (rule : Rule) (b : List ℕ) → length b ≡ blockSize → length (ruled rule b) ≡ blockSize
+unfolding ruled
+ruled-length (Change sure) b l = changed-length sure b l
+ruled-length Missed b l = both-length b l
 
 module _ (m : List ℕ) (l : length m ≡ mapSize) where
   pub gap-length : length (eachFrom ids 0 spoiledBoth m) ≡ mapSize

@@ -10,6 +10,7 @@
 --   inForce, announced      a component's structures
 --   forced, changed         a component at a change
 --   spoiledBoth b   a component's structures, where a frame was missed
+--   ruled           either, by the rule
 --   eachFrom        every component by such a rule
 --   good m          the condition of a good map
 --   present, components     which components a set has for certain, and how many
@@ -25,6 +26,8 @@ use Rattle.frames.specs.Counts.{goodFrames}
 use Rattle.structure.specs.Structure.{structureSize, headOf, withHead, markedHead, spoiled, goodHead, said, certainly, settledHead}
 use Rattle.structure.specs.declared.Structure.{Structure}
 use Rattle.frames.specs.declared.Frames.{Frames}
+use Rattle.map.specs.declared.Rule.{Rule}
+use Rattle.map.specs.declared.Rule.the-variants.{Change, Missed}
 
 abbrev pub ids : ℕ
 ids = 256
@@ -113,6 +116,12 @@ changedFrom n k sure m = eachFrom n k (changed sure) m
 
 unfoldable pub spoiledBoth : List ℕ → List ℕ
 spoiledBoth b = spoiled (part 0 structureSize b) ++ spoiled (part structureSize structureSize b)
+
+-- ---- either
+
+unfoldable pub ruled : Rule → List ℕ → List ℕ
+ruled (Change sure) b = changed sure b
+ruled Missed b = spoiledBoth b
 
 -- ---- the components of a set, before or behind a change
 

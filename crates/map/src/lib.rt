@@ -6,7 +6,7 @@ ghost use mathlib.Core.Path.{_≡_};
 ghost use Prim.Native.Nat.{_<_};
 ghost use lib.ListN.{length};
 ghost use Rattle.runs.specs.Part.{part, put};
-ghost use Rattle.map.specs.Map.{framesOf, withFrames, stayed, settled, changed, eachFrom, changedFrom, spoiledBoth};
+ghost use Rattle.map.specs.Map.{framesOf, withFrames, stayed, settled, changed, eachFrom, spoiledBoth, ruled};
 ghost use Rattle.map.specs.Calls.{startAnswer, startAfter, putIn, takenIn, takeAnswer, takeAfter, shown, listAnswer, listAfter, heard, known};
 use field::Field;
 use field::Tdms;
@@ -56,6 +56,13 @@ pub struct Reach {
     pub row: u8,
     pub unbroken: u8,
     pub components: usize,
+}
+
+// What befalls every component at once: a change, behind which a list that is not whole may lack fields unless it is sure; frames that were
+// missed.
+pub enum Rule {
+    Change(bool),
+    Missed,
 }
 
 // The frames, at the map's end.
@@ -109,10 +116,10 @@ pub fn take(map: &mut [u8], field: &[u8]) -> u8
     }
     let missed = frames.skips(field.count);
     if frames.changing(field.count) {
-        change(map, frames.all_heard());
+        each(map, Rule::Change(frames.all_heard()));
     }
     if missed {
-        spoil(map);
+        each(map, Rule::Missed);
     }
     if field.id != Field::PANNING {
         put_in(map, field);
@@ -121,16 +128,30 @@ pub fn take(map: &mut [u8], field: &[u8]) -> u8
     0
 }
 
-// Every announced structure is put in force.
-fn change(map: &mut [u8], sure: bool)
+// A rule for every component.
+fn each(map: &mut [u8], rule: Rule)
     requires { ⌜ length (now map) ≡ 36356 ⌝ }
-    ensures { λ _. ⌜ now (map .exit) ≡ changedFrom 256 0 sure (now (map .entry)) ⌝ }
+    ensures { λ _. ⌜ now (map .exit) ≡ eachFrom 256 0 (ruled rule) (now (map .entry)) ⌝ }
 {
     let mut id: usize = 0;
     while id < Map::IDS {
         let at = id * Map::BLOCK;
-        change_one(&mut map[at..at + Map::BLOCK], sure);
+        by_rule(&mut map[at..at + Map::BLOCK], rule);
         id += 1;
+    }
+}
+
+fn by_rule(block: &mut [u8], rule: Rule)
+    requires { ⌜ length (now block) ≡ 142 ⌝ }
+    ensures { λ _. ⌜ now (block .exit) ≡ ruled rule (now (block .entry)) ⌝ }
+{
+    match rule {
+        Rule::Change(sure) => {
+            change_one(block, sure);
+        }
+        Rule::Missed => {
+            spoil_one(block);
+        }
     }
 }
 
@@ -171,18 +192,6 @@ fn stay(s: &mut [u8], sure: bool)
 }
 
 // A frame was missed: nothing that is being gathered is taken for the whole.
-fn spoil(map: &mut [u8])
-    requires { ⌜ length (now map) ≡ 36356 ⌝ }
-    ensures { λ _. ⌜ now (map .exit) ≡ eachFrom 256 0 spoiledBoth (now (map .entry)) ⌝ }
-{
-    let mut id: usize = 0;
-    while id < Map::IDS {
-        let at = id * Map::BLOCK;
-        spoil_one(&mut map[at..at + Map::BLOCK]);
-        id += 1;
-    }
-}
-
 fn spoil_one(block: &mut [u8])
     requires { ⌜ length (now block) ≡ 142 ⌝ }
     ensures { λ _. ⌜ now (block .exit) ≡ spoiledBoth (now (block .entry)) ⌝ }

@@ -5,7 +5,7 @@ use mathlib.Core.Logic.{⊎-elim}
 use native.Mathlib.Omega.{arith}
 use lib.ListN.{length}
 use borrow.Author.Needs.{needs}
-use Rattle.map.specs.Map.{mapSize}
+use Rattle.map.specs.Map.{mapSize, ruled}
 use Rattle.map.specs.Calls.{changedTo, upTo, takenIn, frameTaken, takeAfter}
 use Rattle.bits.proofs.Rows.{refused, accepted}
 use Rattle.map.proofs.Doing.{Fits, fits, flag-lt, changed-to, kept-to, changed-to-length, gap-to, none-to, up-to-length, taken-none, frame-again, frame-taken}
@@ -18,6 +18,7 @@ fit c = fits _ _ _ (c .before .take-answer .ensures) (c .if1 .left)
 
 -- a change up to the field's frame
 changed : (c : tie.Joined3) → c .if3 .map ≡ changedTo (c .before .before .before .before .before .before .before .before .before .before .before .before .before .args .map .now) (c .before .before .before .before .before .before .before .load .result .count)
+unfolding ruled
 changed c =
     let m = c .before .before .before .before .before .before .before .before .before .before .before .before .before .args .map .now in
     let n = c .before .before .before .before .before .before .before .load .result .count in
@@ -30,6 +31,7 @@ behind c = ap length (changed c) ∙ changed-to-length _ _ (fit (c .before .befo
 
 -- behind it, where a frame was missed, what is being gathered
 up-to : (c : tie.Joined4) → c .if4 .map ≡ upTo (c .before .before .before .before .before .before .before .before .before .before .before .before .before .before .args .map .now) (c .before .before .before .before .before .before .before .before .load .result .count)
+unfolding ruled
 up-to c =
     let m = c .before .before .before .before .before .before .before .before .before .before .before .before .before .before .args .map .now in
     let n = c .before .before .before .before .before .before .before .before .load .result .count in
@@ -90,11 +92,11 @@ changing-requires c κs = search needs
 all-heard-requires : tie.Need-all-heard-requires
 all-heard-requires c κs = search needs
 
-change-requires : tie.Need-change-requires
-change-requires c κs = fit (c .before .before .before .before .before .before .before .before .before .before) .size
+each-requires : tie.Need-each-requires
+each-requires c κs = fit (c .before .before .before .before .before .before .before .before .before .before) .size
 
-spoil-requires : tie.Need-spoil-requires
-spoil-requires c κs = behind (c .before .before)
+each-requires-2 : tie.Need-each-requires-2
+each-requires-2 c κs = behind (c .before .before)
 
 put-in-requires : tie.Need-put-in-requires
 put-in-requires c κs =
@@ -140,8 +142,8 @@ take-spec =
     skips-requires
     changing-requires
     all-heard-requires
-    change-requires
-    spoil-requires
+    each-requires
+    each-requires-2
     put-in-requires
     after-requires
     put-frames-requires
