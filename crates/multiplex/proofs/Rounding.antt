@@ -4,7 +4,8 @@
 --   Round b xs due l F      by b beginnings: nothing is known; it is right; after one, something unfinished or another list that agrees so far; after
 --                           two, a run from the first field on
 --   Alone b xs due l F      the same where nothing was heard before this configuration: right exactly from the second beginning on
---   Turns                   all of it; turns-old: a present field; turns-plain: any other; third-right, second-right
+--   Turns                   all of it; turns-old: a present field; turns-plain: any other; third-right, second-right,
+--                           second-open
 --   Came c g zs due l A     of the announced one: not begun; after one beginning a run from the first field on; or, once it came round, all of it
 --   came-new, came-plain, came-gap     a field of it; any other; frames are missed
 --   came-full, came-open    it is whole exactly where it came round
@@ -76,6 +77,12 @@ second-right b xs due l F (open-yet z w) e = absurd (omega (arith, z, leb-true 2
 second-right b xs due l F (running z p q h) e = absurd (omega (arith, z, leb-true 2 b e))
 second-right b xs due l F (rightly g r) e = r
 second-right b xs due l F (nothing z em) e = absent z em
+
+pub second-open : (b : ℕ) (xs : List ℕ) (due l : ℕ) (F : List ℕ) → Alone b xs due l F → leb 2 b ≡ false → headOf F .whole ≡ 0
+second-open b xs due l F (open-yet z o) e = o .whole
+second-open b xs due l F (running z p q h) e = h .whole
+second-open b xs due l F (rightly g r) e = clash (sym g ∙ e)
+second-open b xs due l F (nothing z em) e = em .whole
 
 either : (ready alone : Bool) (b : ℕ) (xs : List ℕ) (due l : ℕ) (F : List ℕ) → (ready ≡ true → Right xs due F) → Round b xs due l F → (alone ≡ true → Alone b xs due l F)
     → Turns (ready || found alone b) alone b xs due l F
