@@ -31,7 +31,7 @@ use Rattle.multiplex.specs.Finding.{roundsTo, newRoundsTo, whollyBefore,
 use Rattle.multiplex.specs.Doubting.{cameTo, Doubts}
 use Rattle.multiplex.proofs.Counting.{heard-all}
 use Rattle.multiplex.proofs.Knowing.{Next, none, delete, piece, sure, full, Settled, stays-so, told, ends}
-use Rattle.multiplex.proofs.Rounding.{Right, second-right, second-open, came-full, came-open}
+use Rattle.multiplex.proofs.Rounding.{Right, second-right, second-open, sought-full, sought-open}
 use Rattle.multiplex.proofs.Rounding as rounding
 use Rattle.multiplex.proofs.Listening.{Known}
 use Rattle.multiplex.proofs.Seeing.{present, Seen, shown-is, head-force, seen-force, head-coming, seen-coming}
@@ -146,12 +146,12 @@ module _ (a : Air) (w : Orderly a) (hears : ℕ → Bool) (t : ℕ) (m : List �
       where
         go : (x y : Bool) → cameTo a hears id t ≡ x → last ≡ y → shown m id c .number ≡ cond (cameTo a hears id t || last) 0 46
         go true y ex ey =
-            let f = came-full (newRoundsTo a hears id t) (cameTo a hears id t) zs _ _ A (h .came id hid) ex in
+            let f = sought-full (newRoundsTo a hears id t) (cameTo a hears id t) zs _ _ A (h .sought id hid) ex in
             all-shown 1 (f .1 .0) (f .0) (f .1 .1 .1) (inr refl) ∙ sym (ap (λ (b : Bool). cond (b || last) 0 46) ex)
         go false true ex ey = last-shown ey ∙ sym (ap₂ (λ (b d : Bool). cond (b || d) 0 46) ex ey)
         go false false ex ey =
             number-is ∙ ap thenNumber (head-coming m id c (h .size) (k .all-good) shows-coming false (last-is ∙ ey))
-            ∙ unfinished-then (headOf A) some-coming (came-open (newRoundsTo a hears id t) (cameTo a hears id t) zs _ _ A (h .came id hid) ex)
+            ∙ unfinished-then (headOf A) some-coming (sought-open (newRoundsTo a hears id t) (cameTo a hears id t) zs _ _ A (h .sought id hid) ex)
             ∙ sym (ap₂ (λ (b d : Bool). cond (b || d) 0 46) ex ey)
 
   -- ---- the structure in force

@@ -25,12 +25,11 @@ use Rattle.multiplex.specs.Heard.{ours}
 use Rattle.multiplex.specs.Air.{Air, timed, newIn, oldIn, later, lastOld, lastNew, linkOf, linksNew, newTo, goneTo, inForce, coming, Said, nothing, described, deleted, Orderly}
 use Rattle.multiplex.specs.Sound.{kept, missedBefore, anyBefore, Word, unheard, absent, there, comingTo}
 use Rattle.multiplex.specs.Finding.{Near, aloneBefore, found, roundsTo, newRoundsTo, whollyBefore, news, overChange, readyBefore, readyTo, Rightly, Finds, every, Followed, ShowsInForce}
-use Rattle.multiplex.specs.Doubting.{cameBefore, cameTo}
 use Rattle.multiplex.proofs.Counting.{heard-all}
 use Rattle.multiplex.proofs.Distances.{epoch-step}
 use Rattle.multiplex.proofs.Knowing.{Deleting, Next, none, delete, piece, sure, Settled, stays-so, told, ends}
 use Rattle.multiplex.proofs.Knowing as knowing
-use Rattle.multiplex.proofs.Rounding.{Right, came-full, same-is, none-is}
+use Rattle.multiplex.proofs.Rounding.{Right, came-full, came-by, same-is, none-is}
 use Rattle.multiplex.proofs.Rounding as rounding
 use Rattle.multiplex.proofs.Listening.{Known}
 use Rattle.multiplex.proofs.Seeing.{Force, Seen, seen-force, seen-coming, seen-deleted}
@@ -161,8 +160,7 @@ module _ (a : Air) (w : Orderly a) (hears : ℕ → Bool) (t : ℕ) (m : List �
         by (sure i pos le x d hl la y) n = absurd (omega (arith, pos, n .0, y .fields))
         by (knowing.full l hl pos la y) n = absurd (omega (arith, pos, n .0, y .fields))
     run-over there z ok =
-        let y = came-full (newRoundsTo a hears id t) (cameTo a hears id t) zs _ _ A (h .came id hid)
-        (ap (λ (b : Bool). cameBefore a hears id t || b) ok ∙ or-true (cameBefore a hears id t)) in
+        let y = came-full (newRoundsTo a hears id t) zs _ _ A (came-by (h .sought id hid)) ok in
         listed-seen 1 (y .1 .0) (y .0) (y .1 .1 .1) (inr refl)
 
     run-change : cond (whollyBefore a hears t) (readyTo a hears id t || news a id t) (overChange (comingTo a hears id t) (readyTo a hears id t) a hears id t) ≡ true

@@ -34,7 +34,7 @@ use Rattle.multiplex.specs.Sound.{anyBefore, unheard, presentIn, comingB
 use Rattle.multiplex.proofs.Distances.{epoch-step, epoch-mono}
 use Rattle.multiplex.proofs.Knowing.{Front, some, all, Next, none, delete, piece, sure, full, Silent, front-gap, next-gap}
 use Rattle.multiplex.proofs.Words.{Sure, sure-as, sure-gap, words-as, words-gap, Goes, goes-to}
-use Rattle.multiplex.proofs.Rounding.{Right, Came, came-gap, right-gap}
+use Rattle.multiplex.proofs.Rounding.{Right, Sought, sought-gap, right-gap}
 use Rattle.multiplex.proofs.Rounding as rounding
 use Rattle.multiplex.proofs.Listening.{Before}
 
@@ -63,8 +63,8 @@ module _ (a : Air) (hears : ℕ → Bool) (t n : ℕ) (gap : Gap hears t n) wher
 
 -- ---- what is counted
 
-pub none-came : {c : ℕ} {g : Bool} {zs : List ℕ} {due l : ℕ} {A : List ℕ} → c ≡ 0 → g ≡ false → Empty A → Came c g zs due l A
-none-came {c} {g} {zs} {due} {l} {A} z e em = rounding.unbegun z e (open-none zs A (em .fields) (em .whole))
+pub none-sought : {c : ℕ} {g : Bool} {zs : List ℕ} {due l : ℕ} {A : List ℕ} → c ≡ 0 → g ≡ false → Empty A → Sought c g zs due l A
+none-sought {c} {g} {zs} {due} {l} {A} z e em = rounding.unbegun z e (open-none zs A (em .fields) (em .whole))
 
 -- behind frames that were missed nothing is counted
 pub record Lost (a : Air) (hears : ℕ → Bool) (n : ℕ) : Type 0 where
@@ -265,14 +265,14 @@ module _ (a : Air) (w : Orderly a) (hears : ℕ → Bool) (t n : ℕ) (missed : 
       (subst (Right (a .config then id) (lastOld a id n)) (sym (held id 0 hid (lit< tt)))
       (right-gap _ (lastOld a id (suc t)) _ _ (k .turns id hid .rightly (ready-kept a hears id t n (omega (arith, missed)) gap heard z .1))))
 
-  gap-came : (id : ℕ) → id < ids → Came (newRoundsBefore a hears id n) (cameBefore a hears id n) (coming a n id) (lastNew a id n) (linksNew a id n) (structureAt id 1 spoilt)
-  gap-came id hid =
-      subst (λ (x : ℕ). Came (newRoundsBefore a hears id n) (cameBefore a hears id n) (a .config (suc x) id) (lastNew a id n) (linksNew a id n) (structureAt id 1 spoilt)) (sym on)
-      (subst (λ (g : Bool). Came (newRoundsBefore a hears id n) g (a .config (suc then) id) (lastNew a id n) (linksNew a id n) (structureAt id 1 spoilt))
+  gap-sought : (id : ℕ) → id < ids → Sought (newRoundsBefore a hears id n) (cameBefore a hears id n) (coming a n id) (lastNew a id n) (linksNew a id n) (structureAt id 1 spoilt)
+  gap-sought id hid =
+      subst (λ (x : ℕ). Sought (newRoundsBefore a hears id n) (cameBefore a hears id n) (a .config (suc x) id) (lastNew a id n) (linksNew a id n) (structureAt id 1 spoilt)) (sym on)
+      (subst (λ (g : Bool). Sought (newRoundsBefore a hears id n) g (a .config (suc then) id) (lastNew a id n) (linksNew a id n) (structureAt id 1 spoilt))
       (sym (round-kept a hears id t n (omega (arith, missed)) gap on))
-      (subst (Came (newRoundsBefore a hears id n) (cameBefore a hears id (suc t)) (a .config (suc then) id) (lastNew a id n) (linksNew a id n)) (sym (held id 1 hid (lit< tt)))
-      (came-gap (newRoundsBefore a hears id (suc t)) (newRoundsBefore a hears id n) (cameBefore a hears id (suc t)) (a .config (suc then) id) _ _ (lastNew a id n) (linksNew a id n)
-      (structureAt id 1 m) (w .linked (suc then) id hid) (long id 1 hid (lit< tt)) (nothing-counted .announced id) (k .came id hid))))
+      (subst (Sought (newRoundsBefore a hears id n) (cameBefore a hears id (suc t)) (a .config (suc then) id) (lastNew a id n) (linksNew a id n)) (sym (held id 1 hid (lit< tt)))
+      (sought-gap (newRoundsBefore a hears id (suc t)) (newRoundsBefore a hears id n) (cameBefore a hears id (suc t)) (a .config (suc then) id) _ _ (lastNew a id n) (linksNew a id n)
+      (structureAt id 1 m) (w .linked (suc then) id hid) (long id 1 hid (lit< tt)) (nothing-counted .announced id) (k .sought id hid))))
 
   pub gap-before : Before a hears n spoilt (change (timed a) n)
   gap-before = record {
@@ -300,5 +300,5 @@ module _ (a : Air) (w : Orderly a) (hears : ℕ → Bool) (t n : ℕ) (missed : 
       round = rounding.unbegun (nothing-counted .rounds id);
       only = λ z. clash (sym z ∙ nothing-counted .alone);
     };
-    came = gap-came;
+    sought = gap-sought;
   }

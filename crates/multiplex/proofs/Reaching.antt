@@ -35,10 +35,10 @@ use Rattle.multiplex.specs.Sound.{anyBefore, Word, unheard, absent, ther
 use Rattle.multiplex.proofs.Distances.{epoch-step, epoch-mono}
 use Rattle.multiplex.proofs.Knowing.{Front, some, Next, none, sure, Past, Settled, stays-so, told, ends, front-gap, front-unsure, front-sure}
 use Rattle.multiplex.proofs.Words.{Words, Sure, sure-as, sure-gap, sure-change, words-as, words-gap, words-change, unheard-there, absent-unheard, Goes, goes-to}
-use Rattle.multiplex.proofs.Rounding.{Right, Turns, Came, none-is, right-sure, right-kept, right-gone, right-round, same-all}
+use Rattle.multiplex.proofs.Rounding.{Right, Turns, Sought, came-by, none-is, right-sure, right-kept, right-gone, right-round, same-all}
 use Rattle.multiplex.proofs.Rounding as rounding
 use Rattle.multiplex.proofs.Listening.{Known, Before, front-as, next-as}
-use Rattle.multiplex.proofs.Missing.{Gap, front-later, silent-new, none-came, round-over, Lost, off-cond, heardReady, ready-kept, lost-at, starts, none-yet}
+use Rattle.multiplex.proofs.Missing.{Gap, front-later, silent-new, none-sought, round-over, Lost, off-cond, heardReady, ready-kept, lost-at, starts, none-yet}
 
 pub same-eq : (xs ys : List ℕ) → xs ≡ ys → same xs ys ≡ true
 same-eq xs ys e = ap (same xs) (sym e) ∙ same-all xs
@@ -52,11 +52,11 @@ turns-as {r} {r'} {o} {o'} {b} {b'} {xs} {xs'} {due} {due'} {l} {l'} {F} er eo e
     (subst (λ (x : ℕ). Turns r o x xs' due' l' F) eb
     (subst (λ (x : List ℕ). Turns r o b x due' l' F) ex (subst (λ (x : ℕ). Turns r o b xs x l' F) ed (subst (λ (x : ℕ). Turns r o b xs due x F) el w)))))
 
-came-as : {c c' : ℕ} {g g' : Bool} {zs zs' : List ℕ} {due due' l l' : ℕ} {A : List ℕ} → c ≡ c' → g ≡ g' → zs ≡ zs' → due ≡ due' → l ≡ l' → Came c g zs due l A → Came c' g' zs' due' l' A
-came-as {c} {c'} {g} {g'} {zs} {zs'} {due} {due'} {l} {l'} {A} ec eg ez ed el w =
-    subst (λ (x : ℕ). Came x g' zs' due' l' A) ec
-    (subst (λ (x : Bool). Came c x zs' due' l' A) eg
-    (subst (λ (x : List ℕ). Came c g x due' l' A) ez (subst (λ (x : ℕ). Came c g zs x l' A) ed (subst (λ (x : ℕ). Came c g zs due x A) el w))))
+sought-as : {c c' : ℕ} {g g' : Bool} {zs zs' : List ℕ} {due due' l l' : ℕ} {A : List ℕ} → c ≡ c' → g ≡ g' → zs ≡ zs' → due ≡ due' → l ≡ l' → Sought c g zs due l A → Sought c' g' zs' due' l' A
+sought-as {c} {c'} {g} {g'} {zs} {zs'} {due} {due'} {l} {l'} {A} ec eg ez ed el w =
+    subst (λ (x : ℕ). Sought x g' zs' due' l' A) ec
+    (subst (λ (x : Bool). Sought c x zs' due' l' A) eg
+    (subst (λ (x : List ℕ). Sought c g x due' l' A) ez (subst (λ (x : ℕ). Sought c g zs x l' A) ed (subst (λ (x : ℕ). Sought c g zs due x A) el w))))
 
 -- nothing is certain behind a change that is not sure
 unsure-any : {g : Bool} {xs zs F A : List ℕ} → Sure false xs zs F A → Sure g xs zs F A
@@ -143,8 +143,8 @@ module _ (a : Air) (w : Orderly a) (hears : ℕ → Bool) (t : ℕ) (m : List �
         turns = λ id hid. turns-as (sym (ready-next id ∙ ap (λ (b : Bool). cond b (crossed id) (readyTo a hears id t)) c)) (sym (alone-next false c)) (sym (rounds-next id ∙ ap (λ (b : Bool). cond b 0 (roundsTo a hears id t)) c))
             (ap (λ (x : ℕ). a .config x id) (sym on))
             (sym (ap (λ (b : Bool). cond b (later (oldIn id (a .carries t)) (lastOld a id t)) 0) (same-eq _ _ (ap (λ (x : ℕ). a .config x id) (sym on))))) refl (k .turns id hid);
-        came = λ id hid. came-as (sym (new-next id ∙ ap (λ (b : Bool). cond b 0 (newRoundsTo a hears id t)) c)) (sym (came-next id false c)) (ap (λ (x : ℕ). a .config (suc x) id) (sym on))
-            (sym (ap (λ (b : Bool). cond b 0 (later (newIn id (a .carries t)) (lastNew a id t))) c)) refl (k .came id hid);
+        sought = λ id hid. sought-as (sym (new-next id ∙ ap (λ (b : Bool). cond b 0 (newRoundsTo a hears id t)) c)) (sym (came-next id false c)) (ap (λ (x : ℕ). a .config (suc x) id) (sym on))
+            (sym (ap (λ (b : Bool). cond b 0 (later (newIn id (a .carries t)) (lastNew a id t))) c)) refl (k .sought id hid);
       }
 
   -- nothing is announced in the first frame of a configuration
@@ -214,9 +214,9 @@ module _ (a : Air) (w : Orderly a) (hears : ℕ → Bool) (t : ℕ) (m : List �
           right-gone a hears (suc t) now id hid m (k .size) lk next u _ _ _ _ u (k .next id hid) (n .0) (n .1)
           (sym (ap (λ (v : Word). overChange v (readyTo a hears id t) a hears id t) z) ∙ ok)
       by there z ok =
-          right-round a hears (suc t) now id hid m (k .size) lk next u (newRoundsTo a hears id t) (cameTo a hears id t) (later (newIn id (a .carries t)) (lastNew a id t))
-          (cond (eqb (newIn id (a .carries t)) 0) (linksNew a id t) (linkOf (a .carries t))) (k .came id hid)
-          (ap (λ (b : Bool). cameBefore a hears id t || b) (sym (ap (λ (v : Word). overChange v (readyTo a hears id t) a hears id t) z) ∙ ok) ∙ or-true (cameBefore a hears id t))
+          right-round a hears (suc t) now id hid m (k .size) lk next u (newRoundsTo a hears id t) (later (newIn id (a .carries t)) (lastNew a id t))
+          (cond (eqb (newIn id (a .carries t)) 0) (linksNew a id t) (linkOf (a .carries t))) (came-by (k .sought id hid))
+          (sym (ap (λ (v : Word). overChange v (readyTo a hears id t) a hears id t) z) ∙ ok)
 
   pub near-change : change (timed a) (suc t) ≡ true → Before a hears (suc t) (changedFrom ids 0 u m) true
   unfolding lastOld lastNew newBefore goneBefore begun
@@ -245,7 +245,7 @@ module _ (a : Air) (w : Orderly a) (hears : ℕ → Bool) (t : ℕ) (m : List �
           round = rounding.unbegun (rounds-next id ∙ ap (λ (b : Bool). cond b 0 (roundsTo a hears id t)) c);
           only = λ z. absurd (subst T (sym z ∙ alone-next true c) tt);
         };
-        came = λ id hid. none-came (new-next id ∙ ap (λ (b : Bool). cond b 0 (newRoundsTo a hears id t)) c) (came-next id true c) (change-both c on id hid u refl .1);
+        sought = λ id hid. none-sought (new-next id ∙ ap (λ (b : Bool). cond b 0 (newRoundsTo a hears id t)) c) (came-next id true c) (change-both c on id hid u refl .1);
       }
 
   -- ---- a change of which the last frame before was missed
@@ -305,7 +305,7 @@ module _ (a : Air) (w : Orderly a) (hears : ℕ → Bool) (t : ℕ) (m : List �
         round = rounding.unbegun (lost .rounds id);
         only = λ z. absurd (subst T (sym (sym (lost .alone) ∙ z)) tt);
       };
-      came = λ id hid. none-came (lost .announced id) (not-round id) (subst Empty (sym (at id 1 hid (lit< tt))) (spoiled-empty _ (far-both id hid .1)));
+      sought = λ id hid. none-sought (lost .announced id) (not-round id) (subst Empty (sym (at id 1 hid (lit< tt))) (spoiled-empty _ (far-both id hid .1)));
     }
 
 -- ---- nothing was heard before
@@ -427,5 +427,5 @@ first-before a hears t quiet = record {
         let em = blank-structure id 0 hid (lit< tt) in
         rounding.open-yet (first-at a hears t quiet .rounds id) (open-none (inForce a t id) (structureAt id 0 (blank mapSize)) (em .fields) (em .whole));
   };
-  came = λ id hid. none-came (first-at a hears t quiet .announced id) (first-at a hears t quiet .round id) (blank-structure id 1 hid (lit< tt));
+  sought = λ id hid. none-sought (first-at a hears t quiet .announced id) (first-at a hears t quiet .round id) (blank-structure id 1 hid (lit< tt));
 }

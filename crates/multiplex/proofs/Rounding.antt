@@ -6,9 +6,10 @@
 --   Alone b xs due l F      the same where nothing was heard before this configuration: right exactly from the second beginning on
 --   Turns                   all of it; turns-old: a present field; turns-plain: any other; third-right, second-right,
 --                           second-open
---   Came c g zs due l A     of the announced one: not begun; after one beginning a run from the first field on; or, once it came round, all of it
---   came-new, came-plain, came-gap     a field of it; any other; frames are missed
---   came-full, came-open    it is whole exactly where it came round
+--   Came c zs due l A       of the announced one, by c beginnings: after one a run from the first field on, or all of it; came-full
+--   Sought c g zs due l A   the same exactly: not begun; a run from the first field on; or, once it came round (g), all of it
+--   sought-new, sought-plain, sought-gap     a field of it; any other; frames are missed
+--   sought-full, sought-open     it is whole exactly where it came round
 --   right-gap               frames are missed
 --   same-all, same-is       lists that are tested to be the same
 --   right-sure, right-over  a change
@@ -271,11 +272,28 @@ module _ (xs : List ℕ) (k : Linked xs) (i : ℕ) (hi : i < length xs) (l : ℕ
 
 -- ---- the announced structure
 
--- c beginnings in a row, g: it came round in this configuration
-pub data Came (c : ℕ) (g : Bool) (zs : List ℕ) (due l : ℕ) (A : List ℕ) : Type 0 where
-  unbegun : c ≡ 0 → g ≡ false → Open zs A → Came c g zs due l A
-  again : c ≡ 1 → g ≡ false → 0 < due → due ≤ length zs → Holds A due zs 0 l → Came c g zs due l A
-  full : g ≡ true → (m : ℕ) → m ≤ 1 → 0 < length zs → Lasts A due → Holds A (length zs) zs 1 m → Came c g zs due l A
+pub data Came (c : ℕ) (zs : List ℕ) (due l : ℕ) (A : List ℕ) : Type 0 where
+  unbegun : c ≡ 0 → Came c zs due l A
+  again : c ≡ 1 → 0 < due → due ≤ length zs → Holds A due zs 0 l → Came c zs due l A
+  full : (m : ℕ) → m ≤ 1 → 0 < length zs → Lasts A due → Holds A (length zs) zs 1 m → Came c zs due l A
+
+-- two beginnings were heard
+pub came-full : (c : ℕ) (zs : List ℕ) (due l : ℕ) (A : List ℕ) → Came c zs due l A → leb 2 c ≡ true
+    → (0 < length zs) × ((m : ℕ) × ((m ≤ 1) × Holds A (length zs) zs 1 m))
+came-full c zs due l A (unbegun z) e = absurd (omega (arith, z, leb-true 2 c e))
+came-full c zs due l A (again z p q h) e = absurd (omega (arith, z, leb-true 2 c e))
+came-full c zs due l A (full m hm pos la h) e = (pos, (m, (hm, h)))
+
+-- g: it came round in this configuration
+pub data Sought (c : ℕ) (g : Bool) (zs : List ℕ) (due l : ℕ) (A : List ℕ) : Type 0 where
+  unbegun : c ≡ 0 → g ≡ false → Open zs A → Sought c g zs due l A
+  again : c ≡ 1 → g ≡ false → 0 < due → due ≤ length zs → Holds A due zs 0 l → Sought c g zs due l A
+  full : g ≡ true → (m : ℕ) → m ≤ 1 → 0 < length zs → Lasts A due → Holds A (length zs) zs 1 m → Sought c g zs due l A
+
+pub came-by : {c : ℕ} {g : Bool} {zs : List ℕ} {due l : ℕ} {A : List ℕ} → Sought c g zs due l A → Came c zs due l A
+came-by (unbegun z e o) = unbegun z
+came-by (again z e p q h) = again z p q h
+came-by (full e m hm pos la h) = full m hm pos la h
 
 -- once it came round
 stays-round : (g b : Bool) → g ≡ true → (g || b) ≡ true
@@ -284,35 +302,35 @@ stays-round g b e = ap (λ (x : Bool). x || b) e
 not-round : (g : Bool) (c : ℕ) → g ≡ false → c < 2 → (g || leb 2 c) ≡ false
 not-round g c e h = ap (λ (x : Bool). x || leb 2 c) e ∙ lt-leb 2 c h
 
-pub came-plain : (c : ℕ) (g : Bool) (zs : List ℕ) (due l : ℕ) (A : List ℕ) → Came c g zs due l A → Came (c + 0) (g || leb 2 (c + 0)) zs due l A
-came-plain c g zs due l A (unbegun z e o) = unbegun (plain c ∙ z) (not-round g (c + 0) e (omega (arith, z))) o
+pub sought-plain : (c : ℕ) (g : Bool) (zs : List ℕ) (due l : ℕ) (A : List ℕ) → Sought c g zs due l A → Sought (c + 0) (g || leb 2 (c + 0)) zs due l A
+sought-plain c g zs due l A (unbegun z e o) = unbegun (plain c ∙ z) (not-round g (c + 0) e (omega (arith, z))) o
   where
     plain : (n : ℕ) → n + 0 ≡ n
     plain n = omega arith
-came-plain c g zs due l A (again z e p q h) = again (plain c ∙ z) (not-round g (c + 0) e (omega (arith, z))) p q h
+sought-plain c g zs due l A (again z e p q h) = again (plain c ∙ z) (not-round g (c + 0) e (omega (arith, z))) p q h
   where
     plain : (n : ℕ) → n + 0 ≡ n
     plain n = omega arith
-came-plain c g zs due l A (full e m hm pos la h) = full (stays-round g (leb 2 (c + 0)) e) m hm pos la h
+sought-plain c g zs due l A (full e m hm pos la h) = full (stays-round g (leb 2 (c + 0)) e) m hm pos la h
 
 -- it came round, exactly where it is whole
-pub came-full : (c : ℕ) (g : Bool) (zs : List ℕ) (due l : ℕ) (A : List ℕ) → Came c g zs due l A → g ≡ true
+pub sought-full : (c : ℕ) (g : Bool) (zs : List ℕ) (due l : ℕ) (A : List ℕ) → Sought c g zs due l A → g ≡ true
     → (0 < length zs) × ((m : ℕ) × ((m ≤ 1) × Holds A (length zs) zs 1 m))
-came-full c g zs due l A (unbegun z f o) e = clash (sym e ∙ f)
-came-full c g zs due l A (again z f p q h) e = clash (sym e ∙ f)
-came-full c g zs due l A (full f m hm pos la h) e = (pos, (m, (hm, h)))
+sought-full c g zs due l A (unbegun z f o) e = clash (sym e ∙ f)
+sought-full c g zs due l A (again z f p q h) e = clash (sym e ∙ f)
+sought-full c g zs due l A (full f m hm pos la h) e = (pos, (m, (hm, h)))
 
-pub came-open : (c : ℕ) (g : Bool) (zs : List ℕ) (due l : ℕ) (A : List ℕ) → Came c g zs due l A → g ≡ false → headOf A .whole ≡ 0
-came-open c g zs due l A (unbegun z f o) e = o .whole
-came-open c g zs due l A (again z f p q h) e = h .whole
-came-open c g zs due l A (full f m hm pos la h) e = clash (sym f ∙ e)
+pub sought-open : (c : ℕ) (g : Bool) (zs : List ℕ) (due l : ℕ) (A : List ℕ) → Sought c g zs due l A → g ≡ false → headOf A .whole ≡ 0
+sought-open c g zs due l A (unbegun z f o) e = o .whole
+sought-open c g zs due l A (again z f p q h) e = h .whole
+sought-open c g zs due l A (full f m hm pos la h) e = clash (sym f ∙ e)
 
 -- frames are missed
-pub came-gap : (c c' : ℕ) (g : Bool) (zs : List ℕ) (due l due' l' : ℕ) (A : List ℕ) → Linked zs → length A ≡ structureSize → c' ≡ 0 → Came c g zs due l A
-    → Came c' g zs due' l' (spoiled A)
-came-gap c c' g zs due l due' l' A k la z (unbegun y e o) = unbegun z e (open-spoiled zs (linked-fields zs k) A la (o .whole))
-came-gap c c' g zs due l due' l' A k la z (again y e p q h) = unbegun z e (open-spoiled zs (linked-fields zs k) A la (h .whole))
-came-gap c c' g zs due l due' l' A k la z (full e m hm pos last h) = full e m hm pos (inl (spoiled-last A la)) (whole-kept A zs (length zs) m h)
+pub sought-gap : (c c' : ℕ) (g : Bool) (zs : List ℕ) (due l due' l' : ℕ) (A : List ℕ) → Linked zs → length A ≡ structureSize → c' ≡ 0 → Sought c g zs due l A
+    → Sought c' g zs due' l' (spoiled A)
+sought-gap c c' g zs due l due' l' A k la z (unbegun y e o) = unbegun z e (open-spoiled zs (linked-fields zs k) A la (o .whole))
+sought-gap c c' g zs due l due' l' A k la z (again y e p q h) = unbegun z e (open-spoiled zs (linked-fields zs k) A la (h .whole))
+sought-gap c c' g zs due l due' l' A k la z (full e m hm pos last h) = full e m hm pos (inl (spoiled-last A la)) (whole-kept A zs (length zs) m h)
 
 module _ (zs : List ℕ) (k : Linked zs) (i : ℕ) (hi : i < length zs) (l : ℕ) (hl : l ≤ 1) (due links : ℕ)
     (order : (j : ℕ) → due ≡ suc j → (i ≡ turn (length zs) j) × (i ≡ suc j → l ≡ links)) where
@@ -324,7 +342,7 @@ module _ (zs : List ℕ) (k : Linked zs) (i : ℕ) (hi : i < length zs) (l : ℕ
 
   -- the first field, or another, where the list was not begun
   first-took : (c : ℕ) (r : Bool) (A : List ℕ) → c ≡ 0 → r ≡ false → length A ≡ structureSize → Open zs A → Took (gathered A x l) zs (suc i) l → Dec (i ≡ 0)
-      → Came (c + first (suc i)) (r || leb 2 (c + first (suc i))) zs (suc i) l (gathered A x l)
+      → Sought (c + first (suc i)) (r || leb 2 (c + first (suc i))) zs (suc i) l (gathered A x l)
   first-took c r A z e la o (wholly h last) d = absurd (open-unwhole zs g i hi l A la o l h)
   first-took c r A z e la o (partly j n p q d h) (yes y) =
       let one : c + first (suc i) ≡ 1 = ap₂ _+_ z (first-one i y) in
@@ -350,27 +368,27 @@ module _ (zs : List ℕ) (k : Linked zs) (i : ℕ) (hi : i < length zs) (l : ℕ
     )
     next-took A w (knowing.full m hm pos la h) = absurd (omega (arith, w, h .whole))
 
-    came-by : (c : ℕ) (r : Bool) (A : List ℕ) → Next a hears n e id due count links gone u A → Came c r zs due links A → Dec (i ≡ 0)
-        → Came (c + first (suc i)) (r || leb 2 (c + first (suc i))) zs (suc i) l (gathered A x l)
-    came-by c r A nx (unbegun z e o) d =
+    sought-by : (c : ℕ) (r : Bool) (A : List ℕ) → Next a hears n e id due count links gone u A → Sought c r zs due links A → Dec (i ≡ 0)
+        → Sought (c + first (suc i)) (r || leb 2 (c + first (suc i))) zs (suc i) l (gathered A x l)
+    sought-by c r A nx (unbegun z e o) d =
         let y = next-took A (o .whole) nx in
         first-took c r A z e (y .1) o (y .0) d
-    came-by c r A nx (again z e p le h) (yes q) =
+    sought-by c r A nx (again z e p le h) (yes q) =
         let at = ends-at zs k i hi l hl due links order p q in
         full (ap (λ (v : ℕ). r || leb 2 v) (ap₂ _+_ z (first-one i q)) ∙ or-true r) l hl (omega (arith, hi))
         (inr (completes-last zs g i hi l A due links p h at q)) (first-completes zs g i hi l A due links p h at q)
-    came-by c r A nx (again z e p le h) (no q) =
+    sought-by c r A nx (again z e p le h) (no q) =
         let at = goes-at zs k i hi l hl due links order p q in
         let one : c + first (suc i) ≡ 1 = ap₂ _+_ z (first-none i q) in
         again one (not-round r (c + first (suc i)) e (omega (arith, one))) (omega arith) (omega (arith, hi))
         (first-joins zs g i hi l A due links p h at (same-links zs k i hi l hl due links order p at))
-    came-by c r A nx (full e m hm pos la h) d =
+    sought-by c r A nx (full e m hm pos la h) d =
         let y = whole-next zs g i hi l hl A due m h la (follows zs k i hi l hl due links order) in
         full (stays-round r (leb 2 (c + first (suc i))) e) m hm pos (inr (y .1)) (y .0)
 
-    pub came-new : (c : ℕ) (r : Bool) (A : List ℕ) → Next a hears n e id due count links gone u A → Came c r zs due links A
-        → Came (c + first (suc i)) (r || leb 2 (c + first (suc i))) zs (suc i) l (gathered A x l)
-    came-new c r A nx w = came-by c r A nx w (ℕ-discrete i 0)
+    pub sought-new : (c : ℕ) (r : Bool) (A : List ℕ) → Next a hears n e id due count links gone u A → Sought c r zs due links A
+        → Sought (c + first (suc i)) (r || leb 2 (c + first (suc i))) zs (suc i) l (gathered A x l)
+    sought-new c r A nx w = sought-by c r A nx w (ℕ-discrete i 0)
 
 -- ---- a change
 
@@ -469,7 +487,7 @@ module _ (a : Air) (hears : ℕ → Bool) (n e id : ℕ) (hid : id < ids) (m : L
   right-gone b dn count links gone u (sure i pos le c x hl late h) f d z = absurd (omega (arith, pos, f, h .fields))
   right-gone b dn count links gone u (knowing.full l hl pos last h) f d z = absurd (omega (arith, pos, f, h .fields))
 
-  pub right-round : (b : Bool) (c : ℕ) (g : Bool) (dn l : ℕ) → Came c g zs dn l A → g ≡ true → Right zs next (then b)
-  right-round b c g dn l w e =
-      let y = came-full c g zs dn l A w e in
+  pub right-round : (b : Bool) (c dn l : ℕ) → Came c zs dn l A → leb 2 c ≡ true → Right zs next (then b)
+  right-round b c dn l w e =
+      let y = came-full c zs dn l A w e in
       comes-right b (y .1 .0) 1 (y .1 .1 .0) (y .0) (y .1 .1 .1) (inr refl)
