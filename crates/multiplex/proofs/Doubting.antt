@@ -7,8 +7,8 @@
 --
 -- Assumes nothing.
 use mathlib.Core.Path.{_≡_, refl, sym, ap, ap₂, _∙_, subst}
-use mathlib.Core.Bool.{Bool, true, false, cond, _&&_, _||_, or-true}
-use mathlib.Core.List.{List, []}
+use mathlib.Core.Bool.{Bool, true, false, cond, _&&_, _||_}
+use mathlib.Core.List.{List}
 use mathlib.Core.Logic.{_⊎_, inl, inr}
 use Prim.Native.Nat.{ℕ, suc, _+_, _≤_, _<_}
 use native.Mathlib.Omega.{arith}
@@ -26,7 +26,7 @@ use Rattle.map.specs.declared.Shown.{Shown}
 use Rattle.multiplex.specs.Broadcast.{countAt, change, epoch}
 use Rattle.multiplex.specs.Heard.{ours}
 use Rattle.multiplex.specs.Air.{Air, timed, newIn, later, lastNew, linkOf, linksNew, newTo, goneTo, inForce, coming, Said, nothing, described, deleted, Orderly}
-use Rattle.multiplex.specs.Sound.{kept, there, comingTo, presentTo}
+use Rattle.multiplex.specs.Sound.{there, comingTo, presentTo}
 use Rattle.multiplex.specs.Finding.{roundsTo, newRoundsTo, whollyBefore, aloneBefore}
 use Rattle.multiplex.specs.Doubting.{cameTo, Doubts}
 use Rattle.multiplex.proofs.Counting.{heard-all}
@@ -34,7 +34,7 @@ use Rattle.multiplex.proofs.Knowing.{Next, none, delete, piece, sure, f
 use Rattle.multiplex.proofs.Rounding.{Right, second-right, second-open, sought-full, sought-open}
 use Rattle.multiplex.proofs.Rounding as rounding
 use Rattle.multiplex.proofs.Listening.{Known}
-use Rattle.multiplex.proofs.Seeing.{present, Seen, shown-is, head-force, seen-force, head-coming, seen-coming}
+use Rattle.multiplex.proofs.Seeing.{present, shown-is, head-force, seen-force, head-coming, seen-coming}
 use Rattle.multiplex.proofs.Asked.{changing-now}
 use Rattle.multiplex.proofs.Telling.{Kept, kept-at}
 

@@ -14,7 +14,7 @@ use Prim.Native.Nat.{ℕ, zero, suc, _+_, _-_, _<_}
 use native.Mathlib.Omega.{arith}
 use native.Mathlib.Decide.{ℕ-discrete}
 use borrow.Author.Tests.{eq-eqb, ne-eqb}
-use lib.Dec.{leb, ltb, eqb, lit<}
+use lib.Dec.{ltb, eqb, lit<}
 use lib.ListN.{length, getD}
 use Rattle.bits.proofs.Search.{clash}
 use Rattle.field.specs.Field.{panning}
@@ -32,7 +32,7 @@ use Rattle.multiplex.specs.Sound.{inRow, announces, lists, denies, Word,
 use Rattle.multiplex.specs.Finding.{first, found, aloneBefore, roundsOf, roundsBefore, roundsTo, newRoundsBefore, newRoundsTo, whollyBefore, readyBefore, readyTo}
 use Rattle.multiplex.specs.Doubting.{cameBefore, cameTo}
 use Rattle.multiplex.specs.Admitting.{absentBy, absentBefore, absentTo}
-use Rattle.multiplex.proofs.Rounding.{Turns, turns-plain, turns-gone, turns-old, Sought, unbegun, sought-plain, sought-new}
+use Rattle.multiplex.proofs.Rounding.{Turns, turns-plain, turns-gone, turns-old, rounded, Sought, unbegun, sought-plain, sought-new}
 use Rattle.multiplex.proofs.Words.{Words, Sure, sure-as, words-as, words-force, words-dropped, words-told, words-ends, some-old, some-new}
 use Rattle.multiplex.proofs.Knowing.{Front, some, Next, delete, deletion-deleting, front-on, front-old, next-on, next-new}
 
@@ -129,9 +129,9 @@ none-round a hears id zero z = refl
 none-round a hears id (suc t) z = go (change (timed a) (suc t)) z (none-round a hears id t)
   where
     go : (b : Bool) → cond b 0 (newBefore a id t + one (newIn id (a .carries t))) ≡ 0 → (newBefore a id t ≡ 0 → cameBefore a hears id t ≡ false)
-        → cond b false (cameBefore a hears id t || leb 2 (newRoundsBefore a hears id (suc t))) ≡ false
+        → cond b false (rounded (cameBefore a hears id t) (newRoundsBefore a hears id (suc t))) ≡ false
     go true e r = refl
-    go false e r = ap₂ (λ (x : Bool) (n : ℕ). x || leb 2 n) (r (omega (arith, e))) (none-begun a hears id (suc t) z)
+    go false e r = ap₂ rounded (r (omega (arith, e))) (none-begun a hears id (suc t) z)
 
 -- a frame that carries none of its fields
 turns-none : (ready alone : Bool) (b : ℕ) (xs : List ℕ) (due l : ℕ) (F : List ℕ) (n v : ℕ) → n ≡ 0 → Turns ready alone b xs due l F
@@ -141,10 +141,10 @@ turns-none ready alone b xs due l F n v z w =
     subst (λ (k : ℕ). Turns (ready || found alone (b + first k)) alone (b + first k) xs (later k due) (cond (eqb k 0) l v) F) (sym z) (turns-plain ready alone b xs due l F w)
 
 sought-none : (c : ℕ) (g : Bool) (zs : List ℕ) (due l : ℕ) (A : List ℕ) (n v : ℕ) → n ≡ 0 → Sought c g zs due l A
-    → Sought (c + first n) (g || leb 2 (c + first n)) zs (later n due) (cond (eqb n 0) l v) A
+    → Sought (c + first n) (rounded g (c + first n)) zs (later n due) (cond (eqb n 0) l v) A
 unfolding first later
 sought-none c g zs due l A n v z w =
-    subst (λ (k : ℕ). Sought (c + first k) (g || leb 2 (c + first k)) zs (later k due) (cond (eqb k 0) l v) A) (sym z) (sought-plain c g zs due l A w)
+    subst (λ (k : ℕ). Sought (c + first k) (rounded g (c + first k)) zs (later k due) (cond (eqb k 0) l v) A) (sym z) (sought-plain c g zs due l A w)
 
 absence-certainly : certainly (headOf absence) ≡ false
 unfolding certainly
@@ -194,7 +194,7 @@ module _ (a : Air) (w : Orderly a) (hears : ℕ → Bool) (t : ℕ) (m : List �
 
   abbrev SoughtAt : Carries → ℕ → List ℕ → Type 0
   SoughtAt c id A =
-      Sought (newRoundsBefore a hears id t + first (newIn id c)) (cameBefore a hears id t || leb 2 (newRoundsBefore a hears id t + first (newIn id c))) (coming a t id) (later (newIn id c) (lastNew a id t))
+      Sought (newRoundsBefore a hears id t + first (newIn id c)) (rounded (cameBefore a hears id t) (newRoundsBefore a hears id t + first (newIn id c))) (coming a t id) (later (newIn id c) (lastNew a id t))
       (cond (eqb (newIn id c) 0) (linksNew a id t) (linkOf c)) A
 
   -- what is held when the field is taken in, but for the frames that were heard
@@ -323,9 +323,9 @@ module _ (a : Air) (w : Orderly a) (hears : ℕ → Bool) (t : ℕ) (m : List �
       sought-here : (hk : k < ids) → SoughtAt (new k i l) k (gather k 1 (getD (coming a t k) i 0) l)
       sought-here hk =
           let yes-k : suc i ≡ newIn k (new k i l) = sym (ap (λ (b : Bool). cond b (suc i) 0) (eq-eqb k k refl)) in
-          subst (λ (x : ℕ). Sought (newRoundsBefore a hears k t + first x) (cameBefore a hears k t || leb 2 (newRoundsBefore a hears k t + first x)) (coming a t k) (later x (lastNew a k t)) (cond (eqb x 0) (linksNew a k t) l) (gather k 1 (getD (coming a t k) i 0) l))
+          subst (λ (x : ℕ). Sought (newRoundsBefore a hears k t + first x) (rounded (cameBefore a hears k t) (newRoundsBefore a hears k t + first x)) (coming a t k) (later x (lastNew a k t)) (cond (eqb x 0) (linksNew a k t) l) (gather k 1 (getD (coming a t k) i 0) l))
           yes-k
-          (subst (λ (b : Bool). Sought (newRoundsBefore a hears k t + first (suc i)) (cameBefore a hears k t || leb 2 (newRoundsBefore a hears k t + first (suc i))) (coming a t k) (suc i) (cond b (linksNew a k t) l) (gather k 1 (getD (coming a t k) i 0) l))
+          (subst (λ (b : Bool). Sought (newRoundsBefore a hears k t + first (suc i)) (rounded (cameBefore a hears k t) (newRoundsBefore a hears k t + first (suc i))) (coming a t k) (suc i) (cond b (linksNew a k t) l) (gather k 1 (getD (coming a t k) i 0) l))
           (sym (ne-eqb (suc i) 0 (λ z. omega (arith, z))))
           (sought-new (coming a t k) (w .linked (suc now) k hk) i (law .1 .0) l (omega (arith, law .1 .1 .0)) (lastNew a k t) (linksNew a k t) (law .1 .1 .1 .0)
           a hears t now k (newBefore a k t) (goneBefore a k t) u refl (newRoundsBefore a hears k t) (cameBefore a hears k t) (structureAt k 1 m) (h .next k hk) (h .sought k hk)))
@@ -483,8 +483,8 @@ module _ (a : Air) (w : Orderly a) (hears : ℕ → Bool) (t : ℕ) (m : List �
       plain : (x : ℕ) → x ≡ 0 → x + 0 ≡ 0
       plain x e = omega (arith, e)
 
-      not-round : (cameBefore a hears k t || leb 2 (newRoundsBefore a hears k t + 0)) ≡ false
-      not-round = ap₂ (λ (x : Bool) (n : ℕ). x || leb 2 (n + 0)) (none-round a hears k t z) (none-begun a hears k t z)
+      not-round : rounded (cameBefore a hears k t) (newRoundsBefore a hears k t + 0) ≡ false
+      not-round = ap₂ (λ (x : Bool) (n : ℕ). rounded x (n + 0)) (none-round a hears k t z) (none-begun a hears k t z)
 
       all-gone : (goneBefore a k t || eqb k k) ≡ true
       all-gone = ap (λ (b : Bool). goneBefore a k t || b) (eq-eqb k k refl) ∙ or-true (goneBefore a k t)

@@ -16,7 +16,7 @@ use Prim.Native.Nat.{ℕ, zero, suc, _+_, _-_, _<_}
 use native.Mathlib.Omega.{arith}
 use lib.ListN.{length}
 use native.Mathlib.Decide.{ℕ-discrete}
-use lib.Dec.{T, leb, lit<}
+use lib.Dec.{T, lit<}
 use Rattle.bits.proofs.Search.{clash}
 use Rattle.structure.specs.Structure.{structureSize, spoiled}
 use Rattle.structure.proofs.Gathering.{Empty}
@@ -34,7 +34,7 @@ use Rattle.multiplex.specs.Sound.{anyBefore, unheard, presentIn, comingB
 use Rattle.multiplex.proofs.Distances.{epoch-step, epoch-mono}
 use Rattle.multiplex.proofs.Knowing.{Front, some, all, Next, none, delete, piece, sure, full, Silent, front-gap, next-gap}
 use Rattle.multiplex.proofs.Words.{Sure, sure-as, sure-gap, words-as, words-gap, Goes, goes-to}
-use Rattle.multiplex.proofs.Rounding.{Right, Sought, sought-gap, right-gap}
+use Rattle.multiplex.proofs.Rounding.{Right, rounded, Sought, sought-gap, right-gap}
 use Rattle.multiplex.proofs.Rounding as rounding
 use Rattle.multiplex.proofs.Listening.{Before}
 
@@ -129,11 +129,11 @@ round-kept a hears id t n l gap =
   where
     go : (v : ℕ) → t < v → hears v ≡ false → (epoch (timed a) v ≡ epoch (timed a) (suc t) → cameBefore a hears id v ≡ cameBefore a hears id (suc t))
         → epoch (timed a) (suc v) ≡ epoch (timed a) (suc t) → (b : Bool) → change (timed a) (suc v) ≡ b
-        → cond (change (timed a) (suc v)) false (cameBefore a hears id v || leb 2 (newRoundsBefore a hears id (suc v))) ≡ cameBefore a hears id (suc t)
+        → cond (change (timed a) (suc v)) false (rounded (cameBefore a hears id v) (newRoundsBefore a hears id (suc v))) ≡ cameBefore a hears id (suc t)
     go v lo off r on true c = absurd (omega (arith, on, epoch-step (timed a) v true c, epoch-mono (timed a) (suc t) v (omega (arith, lo))))
     go v lo off r on false c =
-        ap (λ (b : Bool). cond b false (cameBefore a hears id v || leb 2 (newRoundsBefore a hears id (suc v)))) c
-        ∙ ap (λ (n : ℕ). cameBefore a hears id v || leb 2 n) (off-cond (cond (change (timed a) (suc v)) 0 (newRoundsTo a hears id v)) 0 (hears v) off)
+        ap (λ (b : Bool). cond b false (rounded (cameBefore a hears id v) (newRoundsBefore a hears id (suc v)))) c
+        ∙ ap (rounded (cameBefore a hears id v)) (off-cond (cond (change (timed a) (suc v)) 0 (newRoundsTo a hears id v)) 0 (hears v) off)
         ∙ or-false (cameBefore a hears id v) ∙ r (sym (epoch-step (timed a) v false c) ∙ on)
 
 -- and nothing did behind a change among them
@@ -144,11 +144,11 @@ round-over a hears id t n l gap =
     (λ v lo hi off r h. go v off r h (change (timed a) (suc v)) refl)
   where
     go : (v : ℕ) → hears v ≡ false → (epoch (timed a) (suc t) < epoch (timed a) v → cameBefore a hears id v ≡ false) → epoch (timed a) (suc t) < epoch (timed a) (suc v)
-        → (b : Bool) → change (timed a) (suc v) ≡ b → cond (change (timed a) (suc v)) false (cameBefore a hears id v || leb 2 (newRoundsBefore a hears id (suc v))) ≡ false
-    go v off r h true c = ap (λ (b : Bool). cond b false (cameBefore a hears id v || leb 2 (newRoundsBefore a hears id (suc v)))) c
+        → (b : Bool) → change (timed a) (suc v) ≡ b → cond (change (timed a) (suc v)) false (rounded (cameBefore a hears id v) (newRoundsBefore a hears id (suc v))) ≡ false
+    go v off r h true c = ap (λ (b : Bool). cond b false (rounded (cameBefore a hears id v) (newRoundsBefore a hears id (suc v)))) c
     go v off r h false c =
-        ap (λ (b : Bool). cond b false (cameBefore a hears id v || leb 2 (newRoundsBefore a hears id (suc v)))) c
-        ∙ ap₂ (λ (x : Bool) (n : ℕ). x || leb 2 n) (r (omega (arith, h, epoch-step (timed a) v false c)))
+        ap (λ (b : Bool). cond b false (rounded (cameBefore a hears id v) (newRoundsBefore a hears id (suc v)))) c
+        ∙ ap₂ rounded (r (omega (arith, h, epoch-step (timed a) v false c)))
         (off-cond (cond (change (timed a) (suc v)) 0 (newRoundsTo a hears id v)) 0 (hears v) off)
 
 any-heard : (hears : ℕ → Bool) (t v : ℕ) → t < v → hears t ≡ true → anyBefore hears v ≡ true

@@ -13,7 +13,7 @@ use native.Mathlib.Omega.{arith}
 use borrow.Author.Tests.{eqb-true}
 use lib.ListN.{length, getD}
 use Rattle.bits.proofs.Search.{and-left, and-right}
-use lib.Dec.{T, leb, eqb, lit<, lit≤}
+use lib.Dec.{T, eqb, lit<, lit≤}
 use Rattle.bits.specs.Bits.{blank}
 use Rattle.bits.proofs.Storing.{blank-length}
 use Rattle.runs.proofs.Parts.{blank-at, part-blank}
@@ -35,7 +35,7 @@ use Rattle.multiplex.specs.Sound.{anyBefore, Word, unheard, absent, ther
 use Rattle.multiplex.proofs.Distances.{epoch-step, epoch-mono}
 use Rattle.multiplex.proofs.Knowing.{Front, some, Next, none, sure, Past, Settled, stays-so, told, ends, front-gap, front-unsure, front-sure}
 use Rattle.multiplex.proofs.Words.{Words, Sure, sure-as, sure-gap, sure-change, words-as, words-gap, words-change, unheard-there, absent-unheard, Goes, goes-to}
-use Rattle.multiplex.proofs.Rounding.{Right, Turns, Sought, came-by, none-is, right-sure, right-kept, right-gone, right-round, same-all}
+use Rattle.multiplex.proofs.Rounding.{Right, Turns, rounded, Sought, came-by, none-is, right-sure, right-kept, right-gone, right-round, same-all}
 use Rattle.multiplex.proofs.Rounding as rounding
 use Rattle.multiplex.proofs.Listening.{Known, Before, front-as, next-as}
 use Rattle.multiplex.proofs.Missing.{Gap, front-later, silent-new, none-sought, round-over, Lost, off-cond, heardReady, ready-kept, lost-at, starts, none-yet}
@@ -113,10 +113,10 @@ module _ (a : Air) (w : Orderly a) (hears : ℕ → Bool) (t : ℕ) (m : List �
   came-next : (id : ℕ) (b : Bool) → change (timed a) (suc t) ≡ b → cameBefore a hears id (suc t) ≡ cond b false (cameTo a hears id t)
   unfolding cameBefore
   came-next id b c =
-      ap (λ (n : ℕ). cond (change (timed a) (suc t)) false (cameBefore a hears id t || leb 2 n)) (new-next id)
-      ∙ ap (λ (x : Bool). cond x false (cameBefore a hears id t || leb 2 (cond x 0 (newRoundsTo a hears id t)))) c ∙ go b
+      ap (λ (n : ℕ). cond (change (timed a) (suc t)) false (rounded (cameBefore a hears id t) n)) (new-next id)
+      ∙ ap (λ (x : Bool). cond x false (rounded (cameBefore a hears id t) (cond x 0 (newRoundsTo a hears id t)))) c ∙ go b
     where
-      go : (b : Bool) → cond b false (cameBefore a hears id t || leb 2 (cond b 0 (newRoundsTo a hears id t))) ≡ cond b false (cameTo a hears id t)
+      go : (b : Bool) → cond b false (rounded (cameBefore a hears id t) (cond b 0 (newRoundsTo a hears id t))) ≡ cond b false (cameTo a hears id t)
       go true = refl
       go false = refl
 
@@ -382,7 +382,7 @@ first-at a hears (suc n) q =
       rounds = λ id. off-cond (cond (change (timed a) (suc n)) 0 (roundsTo a hears id n)) 0 (hears n) off;
       announced = λ id. off-cond (cond (change (timed a) (suc n)) 0 (newRoundsTo a hears id n)) 0 (hears n) off;
       round = λ id.
-          ap₂ (λ (x : Bool) (y : ℕ). cond (change (timed a) (suc n)) false (x || leb 2 y)) (before .round id)
+          ap₂ (λ (x : Bool) (y : ℕ). cond (change (timed a) (suc n)) false (rounded x y)) (before .round id)
           (off-cond (cond (change (timed a) (suc n)) 0 (newRoundsTo a hears id n)) 0 (hears n) off)
           ∙ neither (change (timed a) (suc n));
     }

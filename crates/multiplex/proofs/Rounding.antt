@@ -22,7 +22,7 @@ use mathlib.Core.Logic.{_⊎_, inl, inr}
 use Prim.Native.Nat.{ℕ, zero, suc, _+_, _≤_, _<_}
 use native.Mathlib.Omega.{arith}
 use native.Mathlib.Decide.{ℕ-discrete}
-use borrow.Author.Tests.{eq-eqb, ne-eqb, eqb-true, leb-true, le-leb, lt-leb}
+use borrow.Author.Tests.{eq-eqb, ne-eqb, eqb-true, leb-true, leb-false, le-leb, lt-leb}
 use lib.Dec.{leb, ltb, eqb, lit<}
 use lib.ListN.{length, getD, drop}
 use Rattle.bits.proofs.Search.{and-left, and-right, clash}
@@ -82,7 +82,7 @@ second-right b xs due l F (nothing z em) e = absent z em
 pub second-open : (b : ℕ) (xs : List ℕ) (due l : ℕ) (F : List ℕ) → Alone b xs due l F → leb 2 b ≡ false → headOf F .whole ≡ 0
 second-open b xs due l F (open-yet z o) e = o .whole
 second-open b xs due l F (running z p q h) e = h .whole
-second-open b xs due l F (rightly g r) e = clash (sym g ∙ e)
+second-open b xs due l F (rightly g r) e = absurd (omega (arith, leb-true 2 b g, leb-false 2 b e))
 second-open b xs due l F (nothing z em) e = em .whole
 
 either : (ready alone : Bool) (b : ℕ) (xs : List ℕ) (due l : ℕ) (F : List ℕ) → (ready ≡ true → Right xs due F) → Round b xs due l F → (alone ≡ true → Alone b xs due l F)
@@ -284,6 +284,10 @@ came-full c zs due l A (unbegun z) e = absurd (omega (arith, z, leb-true 2 c e))
 came-full c zs due l A (again z p q h) e = absurd (omega (arith, z, leb-true 2 c e))
 came-full c zs due l A (full m hm pos la h) e = (pos, (m, (hm, h)))
 
+-- it came round before, or does so now
+abbrev pub rounded : Bool → ℕ → Bool
+rounded g c = g || leb 2 c
+
 -- g: it came round in this configuration
 pub data Sought (c : ℕ) (g : Bool) (zs : List ℕ) (due l : ℕ) (A : List ℕ) : Type 0 where
   unbegun : c ≡ 0 → g ≡ false → Open zs A → Sought c g zs due l A
@@ -296,13 +300,13 @@ came-by (again z e p q h) = again z p q h
 came-by (full e m hm pos la h) = full m hm pos la h
 
 -- once it came round
-stays-round : (g b : Bool) → g ≡ true → (g || b) ≡ true
-stays-round g b e = ap (λ (x : Bool). x || b) e
+stays-round : (g : Bool) (c : ℕ) → g ≡ true → rounded g c ≡ true
+stays-round g c e = ap (λ (x : Bool). rounded x c) e
 
-not-round : (g : Bool) (c : ℕ) → g ≡ false → c < 2 → (g || leb 2 c) ≡ false
-not-round g c e h = ap (λ (x : Bool). x || leb 2 c) e ∙ lt-leb 2 c h
+not-round : (g : Bool) (c : ℕ) → g ≡ false → c < 2 → rounded g c ≡ false
+not-round g c e h = ap (λ (x : Bool). rounded x c) e ∙ lt-leb 2 c (omega (arith, h))
 
-pub sought-plain : (c : ℕ) (g : Bool) (zs : List ℕ) (due l : ℕ) (A : List ℕ) → Sought c g zs due l A → Sought (c + 0) (g || leb 2 (c + 0)) zs due l A
+pub sought-plain : (c : ℕ) (g : Bool) (zs : List ℕ) (due l : ℕ) (A : List ℕ) → Sought c g zs due l A → Sought (c + 0) (rounded g (c + 0)) zs due l A
 sought-plain c g zs due l A (unbegun z e o) = unbegun (plain c ∙ z) (not-round g (c + 0) e (omega (arith, z))) o
   where
     plain : (n : ℕ) → n + 0 ≡ n
@@ -311,7 +315,7 @@ sought-plain c g zs due l A (again z e p q h) = again (plain c ∙ z) (not-round
   where
     plain : (n : ℕ) → n + 0 ≡ n
     plain n = omega arith
-sought-plain c g zs due l A (full e m hm pos la h) = full (stays-round g (leb 2 (c + 0)) e) m hm pos la h
+sought-plain c g zs due l A (full e m hm pos la h) = full (stays-round g (c + 0) e) m hm pos la h
 
 -- it came round, exactly where it is whole
 pub sought-full : (c : ℕ) (g : Bool) (zs : List ℕ) (due l : ℕ) (A : List ℕ) → Sought c g zs due l A → g ≡ true
@@ -342,7 +346,7 @@ module _ (zs : List ℕ) (k : Linked zs) (i : ℕ) (hi : i < length zs) (l : ℕ
 
   -- the first field, or another, where the list was not begun
   first-took : (c : ℕ) (r : Bool) (A : List ℕ) → c ≡ 0 → r ≡ false → length A ≡ structureSize → Open zs A → Took (gathered A x l) zs (suc i) l → Dec (i ≡ 0)
-      → Sought (c + first (suc i)) (r || leb 2 (c + first (suc i))) zs (suc i) l (gathered A x l)
+      → Sought (c + first (suc i)) (rounded r (c + first (suc i))) zs (suc i) l (gathered A x l)
   first-took c r A z e la o (wholly h last) d = absurd (open-unwhole zs g i hi l A la o l h)
   first-took c r A z e la o (partly j n p q d h) (yes y) =
       let one : c + first (suc i) ≡ 1 = ap₂ _+_ z (first-one i y) in
@@ -369,13 +373,13 @@ module _ (zs : List ℕ) (k : Linked zs) (i : ℕ) (hi : i < length zs) (l : ℕ
     next-took A w (knowing.full m hm pos la h) = absurd (omega (arith, w, h .whole))
 
     sought-by : (c : ℕ) (r : Bool) (A : List ℕ) → Next a hears n e id due count links gone u A → Sought c r zs due links A → Dec (i ≡ 0)
-        → Sought (c + first (suc i)) (r || leb 2 (c + first (suc i))) zs (suc i) l (gathered A x l)
+        → Sought (c + first (suc i)) (rounded r (c + first (suc i))) zs (suc i) l (gathered A x l)
     sought-by c r A nx (unbegun z e o) d =
         let y = next-took A (o .whole) nx in
         first-took c r A z e (y .1) o (y .0) d
     sought-by c r A nx (again z e p le h) (yes q) =
         let at = ends-at zs k i hi l hl due links order p q in
-        full (ap (λ (v : ℕ). r || leb 2 v) (ap₂ _+_ z (first-one i q)) ∙ or-true r) l hl (omega (arith, hi))
+        full (ap (rounded r) (ap₂ _+_ z (first-one i q)) ∙ or-true r) l hl (omega (arith, hi))
         (inr (completes-last zs g i hi l A due links p h at q)) (first-completes zs g i hi l A due links p h at q)
     sought-by c r A nx (again z e p le h) (no q) =
         let at = goes-at zs k i hi l hl due links order p q in
@@ -384,10 +388,10 @@ module _ (zs : List ℕ) (k : Linked zs) (i : ℕ) (hi : i < length zs) (l : ℕ
         (first-joins zs g i hi l A due links p h at (same-links zs k i hi l hl due links order p at))
     sought-by c r A nx (full e m hm pos la h) d =
         let y = whole-next zs g i hi l hl A due m h la (follows zs k i hi l hl due links order) in
-        full (stays-round r (leb 2 (c + first (suc i))) e) m hm pos (inr (y .1)) (y .0)
+        full (stays-round r (c + first (suc i)) e) m hm pos (inr (y .1)) (y .0)
 
     pub sought-new : (c : ℕ) (r : Bool) (A : List ℕ) → Next a hears n e id due count links gone u A → Sought c r zs due links A
-        → Sought (c + first (suc i)) (r || leb 2 (c + first (suc i))) zs (suc i) l (gathered A x l)
+        → Sought (c + first (suc i)) (rounded r (c + first (suc i))) zs (suc i) l (gathered A x l)
     sought-new c r A nx w = sought-by c r A nx w (ℕ-discrete i 0)
 
 -- ---- a change

@@ -12,21 +12,21 @@
 use mathlib.Core.Path.{_≡_, refl, sym, ap, _∙_, subst}
 use mathlib.Core.Bool.{Bool, true, false, true≢false, cond, _&&_}
 use mathlib.Core.List.{List}
-use Prim.Native.Nat.{ℕ, suc, _+_, _-_, _%_, _^_, _≤_, _<_}
+use Prim.Native.Nat.{ℕ, _+_, _-_, _%_, _^_, _<_}
 use native.Mathlib.Omega.{arith}
 use native.Mathlib.Decide.{decLt}
-use borrow.Author.Tests.{le-ltb, ltb-true}
+use borrow.Author.Tests.{ltb-true}
 use lib.Dec.{leb, ltb, eqb}
 use lib.ListN.{length, getD}
 use Rattle.bits.proofs.Search.{and-left}
-use Rattle.field.specs.Field.{key, deletes}
-use Rattle.structure.specs.Structure.{most, structureSize, allOnes, headOf, withHead, nth, stored, isNext, goesOn, turnOf, gatheringHead, completedHead, lateOf, turned, gathered, spoiled}
+use Rattle.field.specs.Field.{deletes}
+use Rattle.structure.specs.Structure.{most, structureSize, allOnes, headOf, withHead, nth, isNext, goesOn, turnOf, gatheringHead, completedHead, lateOf, turned, gathered, spoiled}
 use Rattle.structure.specs.declared.Structure.{Structure}
 use Rattle.structure.specs.declared.Turn.{Turn}
 use Rattle.structure.specs.declared.Turn.the-variants.{Begins, Joins, Overflows, Completes, Known}
-use Rattle.structure.proofs.Gathering.{Holds, head-stored, head-nth, nth-head, nth-other, with-head-length, beginning-head, beginning-first}
+use Rattle.structure.proofs.Gathering.{Holds, nth-head, nth-other, with-head-length, beginning-head, beginning-first}
 use Rattle.structure.proofs.Kept.{spoiled-none}
-use Rattle.structure.proofs.Runs.{Fields, apart, spoils, Took, partly, wholly}
+use Rattle.structure.proofs.Runs.{Fields, apart, spoils}
 
 -- ---- one more field
 
