@@ -4,9 +4,8 @@
 --   Round b xs due l F      by b beginnings: nothing is known; it is right; after one, something unfinished or another list that agrees so far; after
 --                           two, a run from the first field on
 --   Alone b xs due l F      the same where nothing was heard before this configuration: right exactly from the second beginning on
---   Turns                   all of it; turns-old: a present field; turns-plain: any other; third-right, second-right,
---                           second-open
---   Came c zs due l A       of the announced one, by c beginnings: after one a run from the first field on, or all of it; came-full
+--   Turns                   all of it; turns-old: a present field; turns-plain: any other; third-right, second-right, second-open
+--   Came c zs due l A       of the announced one, by c beginnings: after one a run from the first field on, or all of it; came-full, came-by
 --   Sought c g zs due l A   the same exactly: not begun; a run from the first field on; or, once it came round (g), all of it
 --   sought-new, sought-plain, sought-gap     a field of it; any other; frames are missed
 --   sought-full, sought-open     it is whole exactly where it came round
@@ -317,7 +316,7 @@ sought-plain c g zs due l A (again z e p q h) = again (plain c ∙ z) (not-round
     plain n = omega arith
 sought-plain c g zs due l A (full e m hm pos la h) = full (stays-round g (c + 0) e) m hm pos la h
 
--- it came round, exactly where it is whole
+-- it is whole exactly where it came round
 pub sought-full : (c : ℕ) (g : Bool) (zs : List ℕ) (due l : ℕ) (A : List ℕ) → Sought c g zs due l A → g ≡ true
     → (0 < length zs) × ((m : ℕ) × ((m ≤ 1) × Holds A (length zs) zs 1 m))
 sought-full c g zs due l A (unbegun z f o) e = clash (sym e ∙ f)
