@@ -29,7 +29,7 @@ use Rattle.multiplex.proofs.Counting.{heard-all}
 use Rattle.multiplex.proofs.Distances.{epoch-step}
 use Rattle.multiplex.proofs.Knowing.{Deleting, Next, none, delete, piece, sure, Settled, stays-so, told, ends}
 use Rattle.multiplex.proofs.Knowing as knowing
-use Rattle.multiplex.proofs.Rounding.{Right, came-full, same-is, none-is}
+use Rattle.multiplex.proofs.Rounding.{Right, came-full, came-by, same-is, none-is}
 use Rattle.multiplex.proofs.Rounding as rounding
 use Rattle.multiplex.proofs.Listening.{Known}
 use Rattle.multiplex.proofs.Seeing.{Force, Seen, seen-force, seen-coming, seen-deleted}
@@ -160,7 +160,7 @@ module _ (a : Air) (w : Orderly a) (hears : ℕ → Bool) (t : ℕ) (m : List �
         by (sure i pos le x d hl la y) n = absurd (omega (arith, pos, n .0, y .fields))
         by (knowing.full l hl pos la y) n = absurd (omega (arith, pos, n .0, y .fields))
     run-over there z ok =
-        let y = came-full (newRoundsTo a hears id t) zs _ _ A (h .came id hid) ok in
+        let y = came-full (newRoundsTo a hears id t) zs _ _ A (came-by (h .sought id hid)) ok in
         listed-seen 1 (y .1 .0) (y .0) (y .1 .1 .1) (inr refl)
 
     run-change : cond (whollyBefore a hears t) (readyTo a hears id t || news a id t) (overChange (comingTo a hears id t) (readyTo a hears id t) a hears id t) ≡ true

@@ -13,6 +13,7 @@ pub mod Accepting
 pub mod Telling
 pub mod Finding
 pub mod Certain
+pub mod Doubting
 pub mod Keeping
 pub mod Steady
 pub mod Unsure

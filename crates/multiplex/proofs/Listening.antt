@@ -21,6 +21,7 @@ use Rattle.field.specs.Field.{panning}
 use Rattle.structure.specs.Structure.{structureSize, headOf, gathered, absence, deletion, certainly}
 use Rattle.structure.proofs.Kept.{gathered-length, absence-length, absence-empty, deletion-length}
 use Rattle.structure.proofs.Runs.{empty}
+use Rattle.structure.proofs.Firsts.{open-none}
 use Rattle.frames.specs.declared.Frames.{Frames}
 use Rattle.map.specs.Map.{ids, mapSize, structureAt, withStructure, framesOf, withFrames}
 use Rattle.map.specs.Calls.{putIn, takenIn}
@@ -29,8 +30,9 @@ use Rattle.multiplex.specs.Broadcast.{countAt, change, epoch, begun}
 use Rattle.multiplex.specs.Air.{Carries, new, old, gone, vectors, Air, timed, carriedAs, fieldOn, newIn, oldIn, goneIn, later, lastOld, lastNew, linkOf, linksOld, linksNew, one, newBefore, newTo, goneBefore, goneTo, inForce, coming, InTurn, Orderly}
 use Rattle.multiplex.specs.Sound.{inRow, announces, lists, denies, Word, unheard, absent, there, over, presentIn, comingIn, comingBefore, comingTo, presentBefore, presentTo}
 use Rattle.multiplex.specs.Finding.{first, found, aloneBefore, roundsOf, roundsBefore, roundsTo, newRoundsBefore, newRoundsTo, whollyBefore, readyBefore, readyTo}
+use Rattle.multiplex.specs.Doubting.{cameBefore, cameTo}
 use Rattle.multiplex.specs.Admitting.{absentBy, absentBefore, absentTo}
-use Rattle.multiplex.proofs.Rounding.{Turns, turns-plain, turns-gone, turns-old, Came, unbegun, came-plain, came-new}
+use Rattle.multiplex.proofs.Rounding.{Turns, turns-plain, turns-gone, turns-old, rounded, Sought, unbegun, sought-plain, sought-new}
 use Rattle.multiplex.proofs.Words.{Words, Sure, sure-as, words-as, words-force, words-dropped, words-told, words-ends, some-old, some-new}
 use Rattle.multiplex.proofs.Knowing.{Front, some, Next, delete, deletion-deleting, front-on, front-old, next-on, next-new}
 
@@ -64,7 +66,7 @@ pub record Known (a : Air) (hears : ℕ → Bool) (t : ℕ) (m : List ℕ) (u : 
   pub sure : (id : ℕ) → id < ids → Sure (absentTo a hears id t) (inForce a t id) (coming a t id) (structureAt id 0 m) (structureAt id 1 m)
   pub wholly : u ≡ whollyBefore a hears t
   pub turns : (id : ℕ) → id < ids → Turns (readyTo a hears id t) (aloneBefore a hears t) (roundsTo a hears id t) (inForce a t id) (oldLast a id t) (oldLink a id t) (structureAt id 0 m)
-  pub came : (id : ℕ) → id < ids → Came (newRoundsTo a hears id t) (coming a t id) (newLast a id t) (linkLast a id t) (structureAt id 1 m)
+  pub sought : (id : ℕ) → id < ids → Sought (newRoundsTo a hears id t) (cameTo a hears id t) (coming a t id) (newLast a id t) (linkLast a id t) (structureAt id 1 m)
 
 pub record Before (a : Air) (hears : ℕ → Bool) (t : ℕ) (m : List ℕ) (u : Bool) : Type 0 where
   pub size : length m ≡ mapSize
@@ -77,7 +79,7 @@ pub record Before (a : Air) (hears : ℕ → Bool) (t : ℕ) (m : List ℕ) (u :
   pub wholly : u ≡ whollyBefore a hears t
   pub turns : (id : ℕ) → id < ids
       → Turns (readyBefore a hears id t) (aloneBefore a hears t) (roundsBefore a hears id t) (inForce a t id) (lastOld a id t) (linksOld a id t) (structureAt id 0 m)
-  pub came : (id : ℕ) → id < ids → Came (newRoundsBefore a hears id t) (coming a t id) (lastNew a id t) (linksNew a id t) (structureAt id 1 m)
+  pub sought : (id : ℕ) → id < ids → Sought (newRoundsBefore a hears id t) (cameBefore a hears id t) (coming a t id) (lastNew a id t) (linksNew a id t) (structureAt id 1 m)
 
 pub front-as : (a : Air) (hears : ℕ → Bool) (n e id due : ℕ) (s : List ℕ) (e' due' : ℕ) → e ≡ e' → due ≡ due'
     → Front a hears n e id due s → Front a hears n e' id due' s
@@ -120,6 +122,17 @@ none-begun a hears id (suc t) z = go (hears t) (change (timed a) (suc t)) (newIn
         none-first = refl
     go true false (suc n) z r = absurd (omega (arith, z, ap (λ (b : Bool). newBefore a id t + cond b 0 1) (ne-eqb (suc n) 0 (λ q. omega (arith, q)))))
 
+-- nor come round
+none-round : (a : Air) (hears : ℕ → Bool) (id t : ℕ) → newBefore a id t ≡ 0 → cameBefore a hears id t ≡ false
+unfolding newBefore cameBefore
+none-round a hears id zero z = refl
+none-round a hears id (suc t) z = go (change (timed a) (suc t)) z (none-round a hears id t)
+  where
+    go : (b : Bool) → cond b 0 (newBefore a id t + one (newIn id (a .carries t))) ≡ 0 → (newBefore a id t ≡ 0 → cameBefore a hears id t ≡ false)
+        → cond b false (rounded (cameBefore a hears id t) (newRoundsBefore a hears id (suc t))) ≡ false
+    go true e r = refl
+    go false e r = ap₂ rounded (r (omega (arith, e))) (none-begun a hears id (suc t) z)
+
 -- a frame that carries none of its fields
 turns-none : (ready alone : Bool) (b : ℕ) (xs : List ℕ) (due l : ℕ) (F : List ℕ) (n v : ℕ) → n ≡ 0 → Turns ready alone b xs due l F
     → Turns (ready || found alone (b + first n)) alone (b + first n) xs (later n due) (cond (eqb n 0) l v) F
@@ -127,10 +140,11 @@ unfolding first later
 turns-none ready alone b xs due l F n v z w =
     subst (λ (k : ℕ). Turns (ready || found alone (b + first k)) alone (b + first k) xs (later k due) (cond (eqb k 0) l v) F) (sym z) (turns-plain ready alone b xs due l F w)
 
-came-none : (c : ℕ) (zs : List ℕ) (due l : ℕ) (A : List ℕ) (n v : ℕ) → n ≡ 0 → Came c zs due l A → Came (c + first n) zs (later n due) (cond (eqb n 0) l v) A
+sought-none : (c : ℕ) (g : Bool) (zs : List ℕ) (due l : ℕ) (A : List ℕ) (n v : ℕ) → n ≡ 0 → Sought c g zs due l A
+    → Sought (c + first n) (rounded g (c + first n)) zs (later n due) (cond (eqb n 0) l v) A
 unfolding first later
-came-none c zs due l A n v z w =
-    subst (λ (k : ℕ). Came (c + first k) zs (later k due) (cond (eqb k 0) l v) A) (sym z) (came-plain c zs due l A w)
+sought-none c g zs due l A n v z w =
+    subst (λ (k : ℕ). Sought (c + first k) (rounded g (c + first k)) zs (later k due) (cond (eqb k 0) l v) A) (sym z) (sought-plain c g zs due l A w)
 
 absence-certainly : certainly (headOf absence) ≡ false
 unfolding certainly
@@ -178,9 +192,9 @@ module _ (a : Air) (w : Orderly a) (hears : ℕ → Bool) (t : ℕ) (m : List �
       Turns (readyBefore a hears id t || found (aloneBefore a hears t) (roundsBefore a hears id t + first (oldIn id c))) (aloneBefore a hears t) (roundsBefore a hears id t + first (oldIn id c))
       (inForce a t id) (later (oldIn id c) (lastOld a id t)) (cond (eqb (oldIn id c) 0) (linksOld a id t) (linkOf c)) F
 
-  abbrev CameAt : Carries → ℕ → List ℕ → Type 0
-  CameAt c id A =
-      Came (newRoundsBefore a hears id t + first (newIn id c)) (coming a t id) (later (newIn id c) (lastNew a id t))
+  abbrev SoughtAt : Carries → ℕ → List ℕ → Type 0
+  SoughtAt c id A =
+      Sought (newRoundsBefore a hears id t + first (newIn id c)) (rounded (cameBefore a hears id t) (newRoundsBefore a hears id t + first (newIn id c))) (coming a t id) (later (newIn id c) (lastNew a id t))
       (cond (eqb (newIn id c) 0) (linksNew a id t) (linkOf c)) A
 
   -- what is held when the field is taken in, but for the frames that were heard
@@ -193,7 +207,7 @@ module _ (a : Air) (w : Orderly a) (hears : ℕ → Bool) (t : ℕ) (m : List �
     pub words : (id : ℕ) → id < ids → WordsAt c id (structureAt id 0 x) (structureAt id 1 x)
     pub sure : (id : ℕ) → id < ids → Sure (absentBy (presentIn id c) (absentBefore a hears id t)) (inForce a t id) (coming a t id) (structureAt id 0 x) (structureAt id 1 x)
     pub turns : (id : ℕ) → id < ids → TurnsAt c id (structureAt id 0 x)
-    pub came : (id : ℕ) → id < ids → CameAt c id (structureAt id 1 x)
+    pub sought : (id : ℕ) → id < ids → SoughtAt c id (structureAt id 1 x)
 
   -- the announced structure of one component, by its bytes
   abbrev AtIs : Carries → ℕ → List ℕ → Type 0
@@ -269,10 +283,10 @@ module _ (a : Air) (w : Orderly a) (hears : ℕ → Bool) (t : ℕ) (m : List �
       (turns-none (readyBefore a hears id t) (aloneBefore a hears t) (roundsBefore a hears id t) (inForce a t id) (lastOld a id t) (linksOld a id t) (structureAt id 0 m)
       (oldIn id c) (linkOf c) z (h .turns id hid))
 
-  came-off : (c : Carries) (id : ℕ) → id < ids → (A : List ℕ) → newIn id c ≡ 0 → structureAt id 1 m ≡ A → CameAt c id A
-  came-off c id hid A z is =
-      subst (CameAt c id) is
-      (came-none (newRoundsBefore a hears id t) (coming a t id) (lastNew a id t) (linksNew a id t) (structureAt id 1 m) (newIn id c) (linkOf c) z (h .came id hid))
+  sought-off : (c : Carries) (id : ℕ) → id < ids → (A : List ℕ) → newIn id c ≡ 0 → structureAt id 1 m ≡ A → SoughtAt c id A
+  sought-off c id hid A z is =
+      subst (SoughtAt c id) is
+      (sought-none (newRoundsBefore a hears id t) (cameBefore a hears id t) (coming a t id) (lastNew a id t) (linksNew a id t) (structureAt id 1 m) (newIn id c) (linkOf c) z (h .sought id hid))
 
   abbrev gather : ℕ → ℕ → ℕ → ℕ → List ℕ
   gather k v t l = gathered (structureAt k v m) t l
@@ -301,20 +315,20 @@ module _ (a : Air) (w : Orderly a) (hears : ℕ → Bool) (t : ℕ) (m : List �
             (λ e. words-off k 1 hk (lit< tt) s ls (new k i l) id hid e refl (ap (λ (b : Bool). cond b there unheard) (ne-eqb k id (λ q. e (sym q)))));
         sure = sure-coming k hk s ls (new k i l) (λ id. refl) (λ _. omega (arith, law .1 .0));
         turns = λ id hid. turns-off (new k i l) id hid _ refl (sym (put-off k 1 hk (lit< tt) s ls id 0 (lit< tt) (λ p q. omega (arith, q))));
-        came = λ id hid. pick id k
-            (λ e. subst (λ (j : ℕ). CameAt (new k i l) j (structureAt j 1 (withStructure k 1 s m))) (sym e) (subst (CameAt (new k i l) k) (sym (put-at k 1 hk (lit< tt) s ls)) (came-here hk)))
-            (λ e. came-off (new k i l) id hid _ (ap (λ (b : Bool). cond b (suc i) 0) (ne-eqb k id (λ q. e (sym q)))) (sym (put-off k 1 hk (lit< tt) s ls id 1 (lit< tt) (λ p q. e p))));
+        sought = λ id hid. pick id k
+            (λ e. subst (λ (j : ℕ). SoughtAt (new k i l) j (structureAt j 1 (withStructure k 1 s m))) (sym e) (subst (SoughtAt (new k i l) k) (sym (put-at k 1 hk (lit< tt) s ls)) (sought-here hk)))
+            (λ e. sought-off (new k i l) id hid _ (ap (λ (b : Bool). cond b (suc i) 0) (ne-eqb k id (λ q. e (sym q)))) (sym (put-off k 1 hk (lit< tt) s ls id 1 (lit< tt) (λ p q. e p))));
       }
     where
-      came-here : (hk : k < ids) → CameAt (new k i l) k (gather k 1 (getD (coming a t k) i 0) l)
-      came-here hk =
+      sought-here : (hk : k < ids) → SoughtAt (new k i l) k (gather k 1 (getD (coming a t k) i 0) l)
+      sought-here hk =
           let yes-k : suc i ≡ newIn k (new k i l) = sym (ap (λ (b : Bool). cond b (suc i) 0) (eq-eqb k k refl)) in
-          subst (λ (x : ℕ). Came (newRoundsBefore a hears k t + first x) (coming a t k) (later x (lastNew a k t)) (cond (eqb x 0) (linksNew a k t) l) (gather k 1 (getD (coming a t k) i 0) l))
+          subst (λ (x : ℕ). Sought (newRoundsBefore a hears k t + first x) (rounded (cameBefore a hears k t) (newRoundsBefore a hears k t + first x)) (coming a t k) (later x (lastNew a k t)) (cond (eqb x 0) (linksNew a k t) l) (gather k 1 (getD (coming a t k) i 0) l))
           yes-k
-          (subst (λ (b : Bool). Came (newRoundsBefore a hears k t + first (suc i)) (coming a t k) (suc i) (cond b (linksNew a k t) l) (gather k 1 (getD (coming a t k) i 0) l))
+          (subst (λ (b : Bool). Sought (newRoundsBefore a hears k t + first (suc i)) (rounded (cameBefore a hears k t) (newRoundsBefore a hears k t + first (suc i))) (coming a t k) (suc i) (cond b (linksNew a k t) l) (gather k 1 (getD (coming a t k) i 0) l))
           (sym (ne-eqb (suc i) 0 (λ z. omega (arith, z))))
-          (came-new (coming a t k) (w .linked (suc now) k hk) i (law .1 .0) l (omega (arith, law .1 .1 .0)) (lastNew a k t) (linksNew a k t) (law .1 .1 .1 .0)
-          a hears t now k (newBefore a k t) (goneBefore a k t) u refl (newRoundsBefore a hears k t) (structureAt k 1 m) (h .next k hk) (h .came k hk)))
+          (sought-new (coming a t k) (w .linked (suc now) k hk) i (law .1 .0) l (omega (arith, law .1 .1 .0)) (lastNew a k t) (linksNew a k t) (law .1 .1 .1 .0)
+          a hears t now k (newBefore a k t) (goneBefore a k t) u refl (newRoundsBefore a hears k t) (cameBefore a hears k t) (structureAt k 1 m) (h .next k hk) (h .sought k hk)))
 
       heard-new : (hk : k < ids) → length (gather k 1 (getD (coming a t k) i 0) l) ≡ structureSize
           → WordsAt (new k i l) k (structureAt k 0 (withStructure k 1 (gather k 1 (getD (coming a t k) i 0) l) m))
@@ -372,7 +386,7 @@ module _ (a : Air) (w : Orderly a) (hears : ℕ → Bool) (t : ℕ) (m : List �
         turns = λ id hid. pick id k
             (λ e. subst (λ (j : ℕ). TurnsAt (old k i l) j (structureAt j 0 (withStructure k 0 s m))) (sym e) (subst (TurnsAt (old k i l) k) (sym (put-at k 0 hk (lit< tt) s ls)) (turns-here hk)))
             (λ e. turns-off (old k i l) id hid _ (ap (λ (b : Bool). cond b (suc i) 0) (ne-eqb k id (λ q. e (sym q)))) (sym (put-off k 0 hk (lit< tt) s ls id 0 (lit< tt) (λ p q. e p))));
-        came = λ id hid. came-off (old k i l) id hid _ refl (sym (put-off k 0 hk (lit< tt) s ls id 1 (lit< tt) (λ p q. omega (arith, q))));
+        sought = λ id hid. sought-off (old k i l) id hid _ refl (sym (put-off k 0 hk (lit< tt) s ls id 1 (lit< tt) (λ p q. omega (arith, q))));
       }
     where
       turns-here : (hk : k < ids) → TurnsAt (old k i l) k (gather k 0 (getD (inForce a t k) i 0) l)
@@ -433,7 +447,7 @@ module _ (a : Air) (w : Orderly a) (hears : ℕ → Bool) (t : ℕ) (m : List �
             (subst (TurnsAt (gone 0 k tdms l) k) (sym (put-at k 0 hk (lit< tt) _ ls))
             (turns-gone (readyBefore a hears k t) (aloneBefore a hears t) (roundsBefore a hears k t) (inForce a t k) (lastOld a k t) (linksOld a k t) absence none absence-empty)))
             (λ e. turns-off (gone 0 k tdms l) id hid _ refl (sym (put-off k 0 hk (lit< tt) _ ls id 0 (lit< tt) (λ p q. e p))));
-        came = λ id hid. came-off (gone 0 k tdms l) id hid _ refl (sym (put-off k 0 hk (lit< tt) _ ls id 1 (lit< tt) (λ p q. omega (arith, q))));
+        sought = λ id hid. sought-off (gone 0 k tdms l) id hid _ refl (sym (put-off k 0 hk (lit< tt) _ ls id 1 (lit< tt) (λ p q. omega (arith, q))));
       }
 
   taken-ends : (k tdms l : ℕ) → a .carries t ≡ gone 1 k tdms l → k < ids → newBefore a k t ≡ 0 → Taken (gone 1 k tdms l) (withStructure k 1 deletion m)
@@ -458,14 +472,19 @@ module _ (a : Air) (w : Orderly a) (hears : ℕ → Bool) (t : ℕ) (m : List �
             (λ e. words-off k 1 hk (lit< tt) _ deletion-length (gone 1 k tdms l) id hid e refl (ap (λ (b : Bool). cond b absent unheard) (ne-eqb k id (λ q. e (sym q)))));
         sure = sure-coming k hk deletion deletion-length (gone 1 k tdms l) (λ id. refl) (λ p. absurd (omega (arith, p, deletion-deleting .fields)));
         turns = λ id hid. turns-off (gone 1 k tdms l) id hid _ refl (sym (put-off k 1 hk (lit< tt) _ deletion-length id 0 (lit< tt) (λ p q. omega (arith, q))));
-        came = λ id hid. pick id k
-            (λ e. subst (λ (j : ℕ). CameAt (gone 1 k tdms l) j (structureAt j 1 (withStructure k 1 deletion m))) (sym e)
-            (unbegun (plain (newRoundsBefore a hears k t) (none-begun a hears k t z))))
-            (λ e. came-off (gone 1 k tdms l) id hid _ refl (sym (put-off k 1 hk (lit< tt) _ deletion-length id 1 (lit< tt) (λ p q. e p))));
+        sought = λ id hid. pick id k
+            (λ e. subst (λ (j : ℕ). SoughtAt (gone 1 k tdms l) j (structureAt j 1 (withStructure k 1 deletion m))) (sym e)
+            (subst (SoughtAt (gone 1 k tdms l) k) (sym (put-at k 1 hk (lit< tt) _ deletion-length))
+            (unbegun (plain (newRoundsBefore a hears k t) (none-begun a hears k t z)) not-round
+            (open-none (coming a t k) deletion (deletion-deleting .fields) (deletion-deleting .whole)))))
+            (λ e. sought-off (gone 1 k tdms l) id hid _ refl (sym (put-off k 1 hk (lit< tt) _ deletion-length id 1 (lit< tt) (λ p q. e p))));
       }
     where
       plain : (x : ℕ) → x ≡ 0 → x + 0 ≡ 0
       plain x e = omega (arith, e)
+
+      not-round : rounded (cameBefore a hears k t) (newRoundsBefore a hears k t + 0) ≡ false
+      not-round = ap₂ (λ (x : Bool) (n : ℕ). rounded x (n + 0)) (none-round a hears k t z) (none-begun a hears k t z)
 
       all-gone : (goneBefore a k t || eqb k k) ≡ true
       all-gone = ap (λ (b : Bool). goneBefore a k t || b) (eq-eqb k k refl) ∙ or-true (goneBefore a k t)
@@ -479,7 +498,7 @@ module _ (a : Air) (w : Orderly a) (hears : ℕ → Bool) (t : ℕ) (m : List �
     words = h .words;
     sure = λ id hid. sure-by (vectors flag tdms l) id _ _ refl (h .sure id hid);
     turns = λ id hid. turns-off (vectors flag tdms l) id hid _ refl refl;
-    came = λ id hid. came-off (vectors flag tdms l) id hid _ refl refl;
+    sought = λ id hid. sought-off (vectors flag tdms l) id hid _ refl refl;
   }
 
   -- whatever the frame carries
@@ -532,5 +551,5 @@ module _ (a : Air) (w : Orderly a) (hears : ℕ → Bool) (t : ℕ) (m : List �
         sure = λ id hid. sure-heard heard id (sure-as (sym (structures-kept x (k .size) f id 0 hid (lit< tt))) (sym (structures-kept x (k .size) f id 1 hid (lit< tt))) (k .sure id hid));
         wholly = h .wholly;
         turns = λ id hid. subst (TurnsAt (a .carries t) id) (sym (structures-kept x (k .size) f id 0 hid (lit< tt))) (k .turns id hid);
-        came = λ id hid. subst (CameAt (a .carries t) id) (sym (structures-kept x (k .size) f id 1 hid (lit< tt))) (k .came id hid);
+        sought = λ id hid. subst (SoughtAt (a .carries t) id) (sym (structures-kept x (k .size) f id 1 hid (lit< tt))) (k .sought id hid);
       }

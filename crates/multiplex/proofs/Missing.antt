@@ -3,12 +3,13 @@
 --   Gap hears t n     none was heard between frame t and frame n
 --   front-later, next-later, silent-new     what is held of a component, by the frames before n instead of those before t + 1
 --   Lost, lost-at     what is counted behind missed frames
---   ready-kept, absent-kept    it stays right, and stays heard to be absent, up to the next change
+--   ready-kept, absent-kept, round-kept    it stays right, stays heard to be absent, and what came round stays so, up to the next change
+--   round-over        behind it nothing came round
 --   starts, none-yet  the first frame of a configuration
 --   gap-before        no change falls among them
 --
 -- Assumes nothing.
-use mathlib.Core.Path.{_≡_, refl, sym, ap, _∙_, subst}
+use mathlib.Core.Path.{_≡_, refl, sym, ap, ap₂, _∙_, subst}
 use mathlib.Core.Bool.{Bool, true, false, cond, not, _&&_, _||_, or-false, or-true}
 use mathlib.Core.List.{List}
 use Prim.Native.Nat.{ℕ, zero, suc, _+_, _-_, _<_}
@@ -18,19 +19,23 @@ use native.Mathlib.Decide.{ℕ-discrete}
 use lib.Dec.{T, lit<}
 use Rattle.bits.proofs.Search.{clash}
 use Rattle.structure.specs.Structure.{structureSize, spoiled}
+use Rattle.structure.proofs.Gathering.{Empty}
+use Rattle.structure.proofs.Firsts.{open-none}
 use Rattle.map.specs.Map.{ids, structureAt, eachFrom, spoiledBoth}
 use Rattle.map.proofs.Places.{structure-length}
 use Rattle.map.proofs.Changing.{gap-length, gap-structure}
 use Rattle.multiplex.specs.Broadcast.{change, epoch, begun}
 use Rattle.multiplex.specs.Broadcast as broadcast
-use Rattle.multiplex.specs.Air.{Air, timed, newIn, later, lastOld, lastNew, linksNew, newBefore, newTo, goneBefore, goneTo, inForce}
+use Rattle.multiplex.specs.Air.{Air, timed, newIn, later, lastOld, lastNew, linksNew, newBefore, newTo, goneBefore, goneTo, inForce, coming, Orderly}
 use Rattle.multiplex.specs.Finding.{aloneBefore, roundsOf, roundsBefore, roundsTo, newRoundsBefore, newRoundsTo, whollyBefore, news, overChange, readyBefore, readyTo}
+use Rattle.multiplex.specs.Doubting.{cameBefore}
 use Rattle.multiplex.specs.Admitting.{isAbsent, absentBy, absentBefore, absentTo}
 use Rattle.multiplex.specs.Sound.{anyBefore, unheard, presentIn, comingBefore, comingTo, presentBefore}
 use Rattle.multiplex.proofs.Distances.{epoch-step, epoch-mono}
 use Rattle.multiplex.proofs.Knowing.{Front, some, all, Next, none, delete, piece, sure, full, Silent, front-gap, next-gap}
 use Rattle.multiplex.proofs.Words.{Sure, sure-as, sure-gap, words-as, words-gap, Goes, goes-to}
-use Rattle.multiplex.proofs.Rounding.{Right, unbegun, Came, right-gap}
+use Rattle.multiplex.proofs.Rounding.{Right, rounded, Sought, sought-gap, right-gap}
+use Rattle.multiplex.proofs.Rounding as rounding
 use Rattle.multiplex.proofs.Listening.{Before}
 
 -- none was heard between frame t and frame n
@@ -58,8 +63,8 @@ module _ (a : Air) (hears : ℕ → Bool) (t n : ℕ) (gap : Gap hears t n) wher
 
 -- ---- what is counted
 
-pub none-came : {c : ℕ} {zs : List ℕ} {due l : ℕ} {A : List ℕ} → c ≡ 0 → Came c zs due l A
-none-came z = unbegun z
+pub none-sought : {c : ℕ} {g : Bool} {zs : List ℕ} {due l : ℕ} {A : List ℕ} → c ≡ 0 → g ≡ false → Empty A → Sought c g zs due l A
+none-sought {c} {g} {zs} {due} {l} {A} z e em = rounding.unbegun z e (open-none zs A (em .fields) (em .whole))
 
 -- behind frames that were missed nothing is counted
 pub record Lost (a : Air) (hears : ℕ → Bool) (n : ℕ) : Type 0 where
@@ -113,6 +118,38 @@ absent-kept a hears id t n l gap =
         ap (λ (b : Bool). cond b (hears v && (whollyBefore a hears v && isAbsent (comingTo a hears id v))) (absentTo a hears id v)) c
         ∙ ap (λ (b : Bool). absentBy (cond b (presentIn id (a .carries v)) unheard) (absentBefore a hears id v)) off
         ∙ r (sym (epoch-step (timed a) v false c) ∙ on)
+
+-- what came round stays so, over frames that were missed within a configuration
+round-kept : (a : Air) (hears : ℕ → Bool) (id t n : ℕ) → t < n → Gap hears t n → epoch (timed a) n ≡ epoch (timed a) (suc t)
+    → cameBefore a hears id n ≡ cameBefore a hears id (suc t)
+unfolding cameBefore roundsOf
+round-kept a hears id t n l gap =
+    missed-ind (λ (n : ℕ). epoch (timed a) n ≡ epoch (timed a) (suc t) → cameBefore a hears id n ≡ cameBefore a hears id (suc t)) hears t n l gap (λ on. refl)
+    (λ v lo hi off r on. go v lo off r on (change (timed a) (suc v)) refl)
+  where
+    go : (v : ℕ) → t < v → hears v ≡ false → (epoch (timed a) v ≡ epoch (timed a) (suc t) → cameBefore a hears id v ≡ cameBefore a hears id (suc t))
+        → epoch (timed a) (suc v) ≡ epoch (timed a) (suc t) → (b : Bool) → change (timed a) (suc v) ≡ b
+        → cond (change (timed a) (suc v)) false (rounded (cameBefore a hears id v) (newRoundsBefore a hears id (suc v))) ≡ cameBefore a hears id (suc t)
+    go v lo off r on true c = absurd (omega (arith, on, epoch-step (timed a) v true c, epoch-mono (timed a) (suc t) v (omega (arith, lo))))
+    go v lo off r on false c =
+        ap (λ (b : Bool). cond b false (rounded (cameBefore a hears id v) (newRoundsBefore a hears id (suc v)))) c
+        ∙ ap (rounded (cameBefore a hears id v)) (off-cond (cond (change (timed a) (suc v)) 0 (newRoundsTo a hears id v)) 0 (hears v) off)
+        ∙ or-false (cameBefore a hears id v) ∙ r (sym (epoch-step (timed a) v false c) ∙ on)
+
+-- and nothing did behind a change among them
+pub round-over : (a : Air) (hears : ℕ → Bool) (id t n : ℕ) → t < n → Gap hears t n → epoch (timed a) (suc t) < epoch (timed a) n → cameBefore a hears id n ≡ false
+unfolding cameBefore roundsOf
+round-over a hears id t n l gap =
+    missed-ind (λ (n : ℕ). epoch (timed a) (suc t) < epoch (timed a) n → cameBefore a hears id n ≡ false) hears t n l gap (λ h. absurd (omega (arith, h)))
+    (λ v lo hi off r h. go v off r h (change (timed a) (suc v)) refl)
+  where
+    go : (v : ℕ) → hears v ≡ false → (epoch (timed a) (suc t) < epoch (timed a) v → cameBefore a hears id v ≡ false) → epoch (timed a) (suc t) < epoch (timed a) (suc v)
+        → (b : Bool) → change (timed a) (suc v) ≡ b → cond (change (timed a) (suc v)) false (rounded (cameBefore a hears id v) (newRoundsBefore a hears id (suc v))) ≡ false
+    go v off r h true c = ap (λ (b : Bool). cond b false (rounded (cameBefore a hears id v) (newRoundsBefore a hears id (suc v)))) c
+    go v off r h false c =
+        ap (λ (b : Bool). cond b false (rounded (cameBefore a hears id v) (newRoundsBefore a hears id (suc v)))) c
+        ∙ ap₂ rounded (r (omega (arith, h, epoch-step (timed a) v false c)))
+        (off-cond (cond (change (timed a) (suc v)) 0 (newRoundsTo a hears id v)) 0 (hears v) off)
 
 any-heard : (hears : ℕ → Bool) (t v : ℕ) → t < v → hears t ≡ true → anyBefore hears v ≡ true
 unfolding anyBefore
@@ -173,7 +210,7 @@ none-yet a (suc n) id c = (
 
 -- ---- frames are missed within a configuration
 
-module _ (a : Air) (hears : ℕ → Bool) (t n : ℕ) (missed : suc t < n) (gap : Gap hears t n) (heard : hears t ≡ true) (on : epoch (timed a) n ≡ epoch (timed a) (suc t))
+module _ (a : Air) (w : Orderly a) (hears : ℕ → Bool) (t n : ℕ) (missed : suc t < n) (gap : Gap hears t n) (heard : hears t ≡ true) (on : epoch (timed a) n ≡ epoch (timed a) (suc t))
     (m : List ℕ) (u : Bool) (k : Before a hears (suc t) m u) where
   abbrev spoilt : List ℕ
   spoilt = eachFrom ids 0 spoiledBoth m
@@ -228,6 +265,15 @@ module _ (a : Air) (hears : ℕ → Bool) (t n : ℕ) (missed : suc t < n) (gap 
       (subst (Right (a .config then id) (lastOld a id n)) (sym (held id 0 hid (lit< tt)))
       (right-gap _ (lastOld a id (suc t)) _ _ (k .turns id hid .rightly (ready-kept a hears id t n (omega (arith, missed)) gap heard z .1))))
 
+  gap-sought : (id : ℕ) → id < ids → Sought (newRoundsBefore a hears id n) (cameBefore a hears id n) (coming a n id) (lastNew a id n) (linksNew a id n) (structureAt id 1 spoilt)
+  gap-sought id hid =
+      subst (λ (x : ℕ). Sought (newRoundsBefore a hears id n) (cameBefore a hears id n) (a .config (suc x) id) (lastNew a id n) (linksNew a id n) (structureAt id 1 spoilt)) (sym on)
+      (subst (λ (g : Bool). Sought (newRoundsBefore a hears id n) g (a .config (suc then) id) (lastNew a id n) (linksNew a id n) (structureAt id 1 spoilt))
+      (sym (round-kept a hears id t n (omega (arith, missed)) gap on))
+      (subst (Sought (newRoundsBefore a hears id n) (cameBefore a hears id (suc t)) (a .config (suc then) id) (lastNew a id n) (linksNew a id n)) (sym (held id 1 hid (lit< tt)))
+      (sought-gap (newRoundsBefore a hears id (suc t)) (newRoundsBefore a hears id n) (cameBefore a hears id (suc t)) (a .config (suc then) id) _ _ (lastNew a id n) (linksNew a id n)
+      (structureAt id 1 m) (w .linked (suc then) id hid) (long id 1 hid (lit< tt)) (nothing-counted .announced id) (k .sought id hid))))
+
   pub gap-before : Before a hears n spoilt (change (timed a) n)
   gap-before = record {
     size = gap-length m (k .size);
@@ -251,8 +297,8 @@ module _ (a : Air) (hears : ℕ → Bool) (t n : ℕ) (missed : suc t < n) (gap 
     wholly = sym (nothing-counted .wholly);
     turns = λ id hid. record {
       rightly = gap-right id hid;
-      round = unbegun (nothing-counted .rounds id);
+      round = rounding.unbegun (nothing-counted .rounds id);
       only = λ z. clash (sym z ∙ nothing-counted .alone);
     };
-    came = λ id hid. none-came (nothing-counted .announced id);
+    sought = gap-sought;
   }

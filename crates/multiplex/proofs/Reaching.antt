@@ -21,6 +21,7 @@ use Rattle.structure.specs.Structure.{structureSize, headOf, certainly, spoiled
 use Rattle.structure.specs.declared.Structure.{Structure}
 use Rattle.structure.proofs.Gathering.{Empty}
 use Rattle.structure.proofs.Runs.{empty, spoiled-empty}
+use Rattle.structure.proofs.Firsts.{open-none}
 use Rattle.map.specs.Map.{ids, mapSize, blockSize, structureAt, eachFrom, changedFrom, spoiledBoth}
 use Rattle.map.proofs.Places.{structure-length}
 use Rattle.map.proofs.Changing.{blank-empty, gap-length, gap-structure, from-length}
@@ -28,15 +29,16 @@ use Rattle.multiplex.specs.Broadcast.{change, epoch, begun, Linked}
 use Rattle.multiplex.specs.Broadcast as broadcast
 use Rattle.multiplex.specs.Air.{Air, timed, newIn, oldIn, later, same, lastOld, lastNew, linkOf, linksOld, linksNew, newBefore, newTo, goneBefore, goneTo, inForce, coming, Said, nothing, described, deleted, Orderly}
 use Rattle.multiplex.specs.Finding.{aloneBefore, roundsOf, roundsBefore, roundsTo, newRoundsBefore, newRoundsTo, whollyBefore, news, overChange, readyBefore, readyTo}
+use Rattle.multiplex.specs.Doubting.{cameBefore, cameTo}
 use Rattle.multiplex.specs.Admitting.{isAbsent, absentBefore, absentTo}
 use Rattle.multiplex.specs.Sound.{anyBefore, Word, unheard, absent, there, over, presentIn, comingIn, comingBefore, comingTo, presentBefore, presentTo}
 use Rattle.multiplex.proofs.Distances.{epoch-step, epoch-mono}
 use Rattle.multiplex.proofs.Knowing.{Front, some, Next, none, sure, Past, Settled, stays-so, told, ends, front-gap, front-unsure, front-sure}
 use Rattle.multiplex.proofs.Words.{Words, Sure, sure-as, sure-gap, sure-change, words-as, words-gap, words-change, unheard-there, absent-unheard, Goes, goes-to}
-use Rattle.multiplex.proofs.Rounding.{Right, Turns, unbegun, Came, none-is, right-sure, right-kept, right-gone, right-round, same-all}
+use Rattle.multiplex.proofs.Rounding.{Right, Turns, rounded, Sought, came-by, none-is, right-sure, right-kept, right-gone, right-round, same-all}
 use Rattle.multiplex.proofs.Rounding as rounding
 use Rattle.multiplex.proofs.Listening.{Known, Before, front-as, next-as}
-use Rattle.multiplex.proofs.Missing.{Gap, front-later, silent-new, none-came, Lost, off-cond, heardReady, ready-kept, lost-at, starts, none-yet}
+use Rattle.multiplex.proofs.Missing.{Gap, front-later, silent-new, none-sought, round-over, Lost, off-cond, heardReady, ready-kept, lost-at, starts, none-yet}
 
 pub same-eq : (xs ys : List ℕ) → xs ≡ ys → same xs ys ≡ true
 same-eq xs ys e = ap (same xs) (sym e) ∙ same-all xs
@@ -50,10 +52,11 @@ turns-as {r} {r'} {o} {o'} {b} {b'} {xs} {xs'} {due} {due'} {l} {l'} {F} er eo e
     (subst (λ (x : ℕ). Turns r o x xs' due' l' F) eb
     (subst (λ (x : List ℕ). Turns r o b x due' l' F) ex (subst (λ (x : ℕ). Turns r o b xs x l' F) ed (subst (λ (x : ℕ). Turns r o b xs due x F) el w)))))
 
-came-as : {c c' : ℕ} {zs zs' : List ℕ} {due due' l l' : ℕ} {A : List ℕ} → c ≡ c' → zs ≡ zs' → due ≡ due' → l ≡ l' → Came c zs due l A → Came c' zs' due' l' A
-came-as {c} {c'} {zs} {zs'} {due} {due'} {l} {l'} {A} ec ez ed el w =
-    subst (λ (x : ℕ). Came x zs' due' l' A) ec
-    (subst (λ (x : List ℕ). Came c x due' l' A) ez (subst (λ (x : ℕ). Came c zs x l' A) ed (subst (λ (x : ℕ). Came c zs due x A) el w)))
+sought-as : {c c' : ℕ} {g g' : Bool} {zs zs' : List ℕ} {due due' l l' : ℕ} {A : List ℕ} → c ≡ c' → g ≡ g' → zs ≡ zs' → due ≡ due' → l ≡ l' → Sought c g zs due l A → Sought c' g' zs' due' l' A
+sought-as {c} {c'} {g} {g'} {zs} {zs'} {due} {due'} {l} {l'} {A} ec eg ez ed el w =
+    subst (λ (x : ℕ). Sought x g' zs' due' l' A) ec
+    (subst (λ (x : Bool). Sought c x zs' due' l' A) eg
+    (subst (λ (x : List ℕ). Sought c g x due' l' A) ez (subst (λ (x : ℕ). Sought c g zs x l' A) ed (subst (λ (x : ℕ). Sought c g zs due x A) el w))))
 
 -- nothing is certain behind a change that is not sure
 unsure-any : {g : Bool} {xs zs F A : List ℕ} → Sure false xs zs F A → Sure g xs zs F A
@@ -107,6 +110,16 @@ module _ (a : Air) (w : Orderly a) (hears : ℕ → Bool) (t : ℕ) (m : List �
   unfolding roundsOf
   new-next id = ap (λ (x : Bool). cond x (cond (change (timed a) (suc t)) 0 (newRoundsTo a hears id t)) 0) (k .heard)
 
+  came-next : (id : ℕ) (b : Bool) → change (timed a) (suc t) ≡ b → cameBefore a hears id (suc t) ≡ cond b false (cameTo a hears id t)
+  unfolding cameBefore
+  came-next id b c =
+      ap (λ (n : ℕ). cond (change (timed a) (suc t)) false (rounded (cameBefore a hears id t) n)) (new-next id)
+      ∙ ap (λ (x : Bool). cond x false (rounded (cameBefore a hears id t) (cond x 0 (newRoundsTo a hears id t)))) c ∙ go b
+    where
+      go : (b : Bool) → cond b false (rounded (cameBefore a hears id t) (cond b 0 (newRoundsTo a hears id t))) ≡ cond b false (cameTo a hears id t)
+      go true = refl
+      go false = refl
+
   pub near-same : change (timed a) (suc t) ≡ false → Before a hears (suc t) m u
   unfolding lastOld lastNew linksOld linksNew newBefore goneBefore begun
   near-same c =
@@ -130,8 +143,8 @@ module _ (a : Air) (w : Orderly a) (hears : ℕ → Bool) (t : ℕ) (m : List �
         turns = λ id hid. turns-as (sym (ready-next id ∙ ap (λ (b : Bool). cond b (crossed id) (readyTo a hears id t)) c)) (sym (alone-next false c)) (sym (rounds-next id ∙ ap (λ (b : Bool). cond b 0 (roundsTo a hears id t)) c))
             (ap (λ (x : ℕ). a .config x id) (sym on))
             (sym (ap (λ (b : Bool). cond b (later (oldIn id (a .carries t)) (lastOld a id t)) 0) (same-eq _ _ (ap (λ (x : ℕ). a .config x id) (sym on))))) refl (k .turns id hid);
-        came = λ id hid. came-as (sym (new-next id ∙ ap (λ (b : Bool). cond b 0 (newRoundsTo a hears id t)) c)) (ap (λ (x : ℕ). a .config (suc x) id) (sym on))
-            (sym (ap (λ (b : Bool). cond b 0 (later (newIn id (a .carries t)) (lastNew a id t))) c)) refl (k .came id hid);
+        sought = λ id hid. sought-as (sym (new-next id ∙ ap (λ (b : Bool). cond b 0 (newRoundsTo a hears id t)) c)) (sym (came-next id false c)) (ap (λ (x : ℕ). a .config (suc x) id) (sym on))
+            (sym (ap (λ (b : Bool). cond b 0 (later (newIn id (a .carries t)) (lastNew a id t))) c)) refl (k .sought id hid);
       }
 
   -- nothing is announced in the first frame of a configuration
@@ -202,7 +215,7 @@ module _ (a : Air) (w : Orderly a) (hears : ℕ → Bool) (t : ℕ) (m : List �
           (sym (ap (λ (v : Word). overChange v (readyTo a hears id t) a hears id t) z) ∙ ok)
       by there z ok =
           right-round a hears (suc t) now id hid m (k .size) lk next u (newRoundsTo a hears id t) (later (newIn id (a .carries t)) (lastNew a id t))
-          (cond (eqb (newIn id (a .carries t)) 0) (linksNew a id t) (linkOf (a .carries t))) (k .came id hid)
+          (cond (eqb (newIn id (a .carries t)) 0) (linksNew a id t) (linkOf (a .carries t))) (came-by (k .sought id hid))
           (sym (ap (λ (v : Word). overChange v (readyTo a hears id t) a hears id t) z) ∙ ok)
 
   pub near-change : change (timed a) (suc t) ≡ true → Before a hears (suc t) (changedFrom ids 0 u m) true
@@ -229,10 +242,10 @@ module _ (a : Air) (w : Orderly a) (hears : ℕ → Bool) (t : ℕ) (m : List �
         turns = λ id hid. record {
           rightly = λ e. subst (λ (x : ℕ). Right (a .config x id) (lastOld a id (suc t)) (structureAt id 0 (changedFrom ids 0 u m))) (sym on)
               (right-change c id hid u refl (sym (ready-next id ∙ ap (λ (b : Bool). cond b (crossed id) (readyTo a hears id t)) c) ∙ e));
-          round = unbegun (rounds-next id ∙ ap (λ (b : Bool). cond b 0 (roundsTo a hears id t)) c);
+          round = rounding.unbegun (rounds-next id ∙ ap (λ (b : Bool). cond b 0 (roundsTo a hears id t)) c);
           only = λ z. absurd (subst T (sym z ∙ alone-next true c) tt);
         };
-        came = λ id hid. none-came (new-next id ∙ ap (λ (b : Bool). cond b 0 (newRoundsTo a hears id t)) c);
+        sought = λ id hid. none-sought (new-next id ∙ ap (λ (b : Bool). cond b 0 (newRoundsTo a hears id t)) c) (came-next id true c) (change-both c on id hid u refl .1);
       }
 
   -- ---- a change of which the last frame before was missed
@@ -273,6 +286,9 @@ module _ (a : Air) (w : Orderly a) (hears : ℕ → Bool) (t : ℕ) (m : List �
         (sure-gap false _ _ _ _ (structure-length behind lb id 0 hid (lit< tt)) (structure-length behind lb id 1 hid (lit< tt))
         (sure-change false m (k .size) id hid _ _ (k .words id hid) (absentTo a hears id t) _ _ _ (k .sure id hid))))
 
+    not-round : (id : ℕ) → cameBefore a hears id n ≡ false
+    not-round id = round-over a hears id t n (omega (arith, missed)) gap (omega (arith, on, epoch-step (timed a) t false late))
+
     pub far-change : Before a hears n gaps (change (timed a) n)
     far-change = record {
       size = gap-length behind lb;
@@ -286,10 +302,10 @@ module _ (a : Air) (w : Orderly a) (hears : ℕ → Bool) (t : ℕ) (m : List �
       wholly = sym (lost .wholly);
       turns = λ id hid. record {
         rightly = λ z. absurd (omega (arith, on, ready-kept a hears id t n (omega (arith, missed)) gap (k .heard) z .0, epoch-step (timed a) t false late));
-        round = unbegun (lost .rounds id);
+        round = rounding.unbegun (lost .rounds id);
         only = λ z. absurd (subst T (sym (sym (lost .alone) ∙ z)) tt);
       };
-      came = λ id hid. none-came (lost .announced id);
+      sought = λ id hid. none-sought (lost .announced id) (not-round id) (subst Empty (sym (at id 1 hid (lit< tt))) (spoiled-empty _ (far-both id hid .1)));
     }
 
 -- ---- nothing was heard before
@@ -340,6 +356,7 @@ record First (a : Air) (hears : ℕ → Bool) (n : ℕ) : Type 0 where
   ready : (id : ℕ) → readyBefore a hears id n ≡ not (broadcast.some (inForce a n id))
   rounds : (id : ℕ) → roundsBefore a hears id n ≡ 0
   announced : (id : ℕ) → newRoundsBefore a hears id n ≡ 0
+  round : (id : ℕ) → cameBefore a hears id n ≡ false
 
 none-heard : (hears : ℕ → Bool) (n : ℕ) → ((v : ℕ) → v < n → hears v ≡ true → ⊥) → anyBefore hears n ≡ false
 unfolding anyBefore
@@ -352,19 +369,28 @@ none-heard hears (suc n) q =
     off false e = e
 
 first-at : (a : Air) (hears : ℕ → Bool) (n : ℕ) → ((v : ℕ) → v < n → hears v ≡ true → ⊥) → First a hears n
-unfolding whollyBefore readyBefore roundsOf
-first-at a hears zero q = record { wholly = refl; ready = λ id. refl; rounds = λ id. refl; announced = λ id. refl }
+unfolding whollyBefore readyBefore roundsOf cameBefore
+first-at a hears zero q = record { wholly = refl; ready = λ id. refl; rounds = λ id. refl; announced = λ id. refl; round = λ id. refl }
 first-at a hears (suc n) q =
     let off : hears n ≡ false = off-at (hears n) refl in
     let any : anyBefore hears n ≡ false = none-heard hears n (λ v hv. q v (omega (arith, hv))) in
+    let before = first-at a hears n (λ v hv. q v (omega (arith, hv))) in
     record {
       wholly = ap (λ (b : Bool). change (timed a) (suc n) || (b && whollyBefore a hears n)) off ∙ or-false (change (timed a) (suc n));
       ready = λ id. off-cond (heardReady a hears id n) (cond (anyBefore hears n) (not (change (timed a) (suc n)) && readyBefore a hears id n) (not (broadcast.some (inForce a (suc n) id)))) (hears n) off
           ∙ ap (λ (b : Bool). cond b (not (change (timed a) (suc n)) && readyBefore a hears id n) (not (broadcast.some (inForce a (suc n) id)))) any;
       rounds = λ id. off-cond (cond (change (timed a) (suc n)) 0 (roundsTo a hears id n)) 0 (hears n) off;
       announced = λ id. off-cond (cond (change (timed a) (suc n)) 0 (newRoundsTo a hears id n)) 0 (hears n) off;
+      round = λ id.
+          ap₂ (λ (x : Bool) (y : ℕ). cond (change (timed a) (suc n)) false (rounded x y)) (before .round id)
+          (off-cond (cond (change (timed a) (suc n)) 0 (newRoundsTo a hears id n)) 0 (hears n) off)
+          ∙ neither (change (timed a) (suc n));
     }
   where
+    neither : (b : Bool) → cond b false false ≡ false
+    neither true = refl
+    neither false = refl
+
     off-at : (b : Bool) → hears n ≡ b → hears n ≡ false
     off-at true e = absurd (q n (omega arith) e)
     off-at false e = e
@@ -396,8 +422,10 @@ first-before a hears t quiet = record {
   wholly = sym (first-at a hears t quiet .wholly);
   turns = λ id hid. record {
     rightly = λ z. rounding.absent (none-is (inForce a t id) (sym (first-at a hears t quiet .ready id) ∙ z)) (blank-structure id 0 hid (lit< tt));
-    round = unbegun (first-at a hears t quiet .rounds id);
-    only = λ z. rounding.open-yet (first-at a hears t quiet .rounds id) (blank-structure id 0 hid (lit< tt) .whole);
+    round = rounding.unbegun (first-at a hears t quiet .rounds id);
+    only = λ z.
+        let em = blank-structure id 0 hid (lit< tt) in
+        rounding.open-yet (first-at a hears t quiet .rounds id) (open-none (inForce a t id) (structureAt id 0 (blank mapSize)) (em .fields) (em .whole));
   };
-  came = λ id hid. none-came (first-at a hears t quiet .announced id);
+  sought = λ id hid. none-sought (first-at a hears t quiet .announced id) (first-at a hears t quiet .round id) (blank-structure id 1 hid (lit< tt));
 }

@@ -3,23 +3,25 @@
 --   Right xs due F          the structure in force, rightly held
 --   Round b xs due l F      by b beginnings: nothing is known; it is right; after one, something unfinished or another list that agrees so far; after
 --                           two, a run from the first field on
---   Alone b xs due l F      the same where nothing was heard before this configuration
---   Turns                   all of it; turns-old: a present field; turns-plain: any other; third-right, second-right
---   Came c zs due l A       of the announced one: after one beginning a run from the first field on, or all of it
---   came-new, came-plain, came-full
+--   Alone b xs due l F      the same where nothing was heard before this configuration: right exactly from the second beginning on
+--   Turns                   all of it; turns-old: a present field; turns-plain: any other; third-right, second-right, second-open
+--   Came c zs due l A       of the announced one, by c beginnings: after one a run from the first field on, or all of it; came-full, came-by
+--   Sought c g zs due l A   the same exactly: not begun; a run from the first field on; or, once it came round (g), all of it
+--   sought-new, sought-plain, sought-gap     a field of it; any other; frames are missed
+--   sought-full, sought-open     it is whole exactly where it came round
 --   right-gap               frames are missed
 --   same-all, same-is       lists that are tested to be the same
 --   right-sure, right-over  a change
 --
 -- Assumes nothing.
 use mathlib.Core.Path.{_≡_, refl, sym, ap, ap₂, _∙_, subst}
-use mathlib.Core.Bool.{Bool, true, false, cond, not, _&&_, _||_}
+use mathlib.Core.Bool.{Bool, true, false, cond, not, _&&_, _||_, or-true}
 use mathlib.Core.List.{List, [], _∷_}
 use mathlib.Core.Logic.{_⊎_, inl, inr}
 use Prim.Native.Nat.{ℕ, zero, suc, _+_, _≤_, _<_}
 use native.Mathlib.Omega.{arith}
 use native.Mathlib.Decide.{ℕ-discrete}
-use borrow.Author.Tests.{eq-eqb, ne-eqb, eqb-true, leb-true}
+use borrow.Author.Tests.{eq-eqb, ne-eqb, eqb-true, leb-true, leb-false, le-leb, lt-leb}
 use lib.Dec.{leb, ltb, eqb, lit<}
 use lib.ListN.{length, getD, drop}
 use Rattle.bits.proofs.Search.{and-left, and-right, clash}
@@ -28,13 +30,14 @@ use Rattle.structure.proofs.Gathering.{Holds, Empty, alike-holds, alike-empty, 
 use Rattle.structure.proofs.Kept.{spoiled-last}
 use Rattle.structure.proofs.Runs.{Fields, Lasts, Part, spoiled-empty, Took, partly, wholly, part-takes, open-takes, whole-next, Listed, placed, next-listed, begins-run}
 use Rattle.structure.proofs.Rounds.{first-joins, first-completes, completes-last, Wrong, wrong-begins, wrong-goes, wrong-ends}
+use Rattle.structure.proofs.Firsts.{Open, open-spoiled, open-unwhole, open-goes}
 use Rattle.map.specs.Map.{ids, mapSize, structureAt, stayed, changedFrom}
 use Rattle.map.proofs.Places.{structure-length}
 use Rattle.map.proofs.Changing.{stayed-alike, stayed-last, settled-empty, settled-holds, settled-last, stays, comes-in, goes-out}
 use Rattle.multiplex.specs.Broadcast.{some, Linked}
 use Rattle.multiplex.specs.Air.{Air, turn, same}
 use Rattle.multiplex.specs.Finding.{first, found}
-use Rattle.multiplex.proofs.Knowing.{linked-fields, Front, all, Next, none, delete, piece, sure, whole-kept, Settled, stays-so, told, ends}
+use Rattle.multiplex.proofs.Knowing.{linked-fields, Front, all, Next, none, delete, piece, sure, part-head, whole-kept, Settled, stays-so, told, ends}
 use Rattle.multiplex.proofs.Knowing as knowing
 
 pub data Right (xs : List ℕ) (due : ℕ) (F : List ℕ) : Type 0 where
@@ -50,9 +53,10 @@ pub data Round (b : ℕ) (xs : List ℕ) (due l : ℕ) (F : List ℕ) : Type 0 w
 
 -- the same in the configuration of the start: no other list can be held
 pub data Alone (b : ℕ) (xs : List ℕ) (due l : ℕ) (F : List ℕ) : Type 0 where
-  open-yet : b ≡ 0 → headOf F .whole ≡ 0 → Alone b xs due l F
+  open-yet : b ≡ 0 → Open xs F → Alone b xs due l F
   running : b ≡ 1 → 0 < due → due ≤ length xs → Holds F due xs 0 l → Alone b xs due l F
-  rightly : Right xs due F → Alone b xs due l F
+  rightly : leb 2 b ≡ true → Right xs due F → Alone b xs due l F
+  nothing : xs ≡ [] → Empty F → Alone b xs due l F
 
 pub record Turns (ready alone : Bool) (b : ℕ) (xs : List ℕ) (due l : ℕ) (F : List ℕ) : Type 0 where
   pub rightly : ready ≡ true → Right xs due F
@@ -68,10 +72,17 @@ third-right b xs due l F (wrong z p q w) e = absurd (omega (arith, z, leb-true 3
 third-right b xs due l F (again z p q h) e = absurd (omega (arith, z, leb-true 3 b e))
 
 -- the second, in the configuration of the start
-second-right : (b : ℕ) (xs : List ℕ) (due l : ℕ) (F : List ℕ) → Alone b xs due l F → leb 2 b ≡ true → Right xs due F
+pub second-right : (b : ℕ) (xs : List ℕ) (due l : ℕ) (F : List ℕ) → Alone b xs due l F → leb 2 b ≡ true → Right xs due F
 second-right b xs due l F (open-yet z w) e = absurd (omega (arith, z, leb-true 2 b e))
 second-right b xs due l F (running z p q h) e = absurd (omega (arith, z, leb-true 2 b e))
-second-right b xs due l F (rightly r) e = r
+second-right b xs due l F (rightly g r) e = r
+second-right b xs due l F (nothing z em) e = absent z em
+
+pub second-open : (b : ℕ) (xs : List ℕ) (due l : ℕ) (F : List ℕ) → Alone b xs due l F → leb 2 b ≡ false → headOf F .whole ≡ 0
+second-open b xs due l F (open-yet z o) e = o .whole
+second-open b xs due l F (running z p q h) e = h .whole
+second-open b xs due l F (rightly g r) e = absurd (omega (arith, leb-true 2 b g, leb-false 2 b e))
+second-open b xs due l F (nothing z em) e = em .whole
 
 either : (ready alone : Bool) (b : ℕ) (xs : List ℕ) (due l : ℕ) (F : List ℕ) → (ready ≡ true → Right xs due F) → Round b xs due l F → (alone ≡ true → Alone b xs due l F)
     → Turns (ready || found alone b) alone b xs due l F
@@ -98,7 +109,7 @@ turns-plain ready alone b xs due l F w =
 
 -- all ones: it is not there
 pub turns-gone : (ready alone : Bool) (b : ℕ) (xs : List ℕ) (due l : ℕ) (F : List ℕ) → xs ≡ [] → Empty F → Turns (ready || found alone (b + 0)) alone (b + 0) xs due l F
-turns-gone ready alone b xs due l F z e = record { rightly = λ _. absent z e; round = right (absent z e); only = λ _. rightly (absent z e) }
+turns-gone ready alone b xs due l F z e = record { rightly = λ _. absent z e; round = right (absent z e); only = λ _. nothing z e }
 
 -- ---- a present field
 
@@ -232,22 +243,25 @@ module _ (xs : List ℕ) (k : Linked xs) (i : ℕ) (hi : i < length xs) (l : ℕ
         (first-joins xs f i hi l F due links p h (goes-at p q) (same-links p (goes-at p q)))
 
     -- in the configuration of the start
-    alone-took : (s : List ℕ) → Took s xs (suc i) l → Dec (i ≡ 0) → Alone (0 + first (suc i)) xs (suc i) l s
-    alone-took s (wholly h la) d = rightly (present l hl (omega (arith, hi)) la h)
-    alone-took s (partly j n p q d h) (yes z) =
-        running (ap (λ (x : ℕ). 0 + x) (first-one i z)) (omega arith) (omega (arith, hi)) (one-held s j n z p d h)
-    alone-took s (partly j n p q d h) (no z) = open-yet (ap (λ (x : ℕ). 0 + x) (first-none i z)) (h .whole)
+    alone-took : (F : List ℕ) → length F ≡ structureSize → Open xs F → Took (gathered F t l) xs (suc i) l → Dec (i ≡ 0)
+        → Alone (0 + first (suc i)) xs (suc i) l (gathered F t l)
+    alone-took F lf o (wholly h la) d = absurd (open-unwhole xs f i hi l F lf o l h)
+    alone-took F lf o (partly j n p q d h) (yes z) =
+        running (ap (λ (x : ℕ). 0 + x) (first-one i z)) (omega arith) (omega (arith, hi)) (one-held (gathered F t l) j n z p d h)
+    alone-took F lf o (partly j n p q d h) (no z) = open-yet (ap (λ (x : ℕ). 0 + x) (first-none i z)) (open-goes xs f i hi l F lf o (h .whole) z)
 
     alone-old : (b : ℕ) (F : List ℕ) → Front a hears n e id due F → Alone b xs due links F → Dec (i ≡ 0) → Alone (b + first (suc i)) xs (suc i) l (gathered F t l)
-    alone-old b F fr (open-yet z w) d =
+    alone-old b F fr (open-yet z o) d =
+        let p = part-of F fr (o .whole) in
         subst (λ (x : ℕ). Alone (x + first (suc i)) xs (suc i) l (gathered F t l)) (sym z)
-        (alone-took (gathered F t l) (part-takes xs f i hi l hl F due follows (part-of F fr w)) d)
+        (alone-took F (part-head F xs due p .1 .1) o (part-takes xs f i hi l hl F due follows p) d)
     alone-old b F fr (running z p r h) (yes q) =
-        rightly (present l hl (omega (arith, hi)) (inr (completes-last xs f i hi l F due links p h (ends-at p q) q)) (first-completes xs f i hi l F due links p h (ends-at p q) q))
+        rightly (ap (leb 2) (ap₂ _+_ z (first-one i q))) (present l hl (omega (arith, hi)) (inr (completes-last xs f i hi l F due links p h (ends-at p q) q)) (first-completes xs f i hi l F due links p h (ends-at p q) q))
     alone-old b F fr (running z p r h) (no q) =
         running (ap₂ _+_ z (first-none i q)) (omega arith) (omega (arith, hi))
         (first-joins xs f i hi l F due links p h (goes-at p q) (same-links p (goes-at p q)))
-    alone-old b F fr (rightly r) d = rightly (right-old F r)
+    alone-old b F fr (rightly g r) d = rightly (le-leb 2 (b + first (suc i)) (omega (arith, leb-true 2 b g))) (right-old F r)
+    alone-old b F fr (nothing z em) d = absurd (omega (arith, hi, ap length z))
 
     pub turns-old : (ready alone : Bool) (b : ℕ) (F : List ℕ) → Front a hears n e id due F → Turns ready alone b xs due links F
         → Turns (ready || found alone (b + first (suc i))) alone (b + first (suc i)) xs (suc i) l (gathered F t l)
@@ -262,18 +276,64 @@ pub data Came (c : ℕ) (zs : List ℕ) (due l : ℕ) (A : List ℕ) : Type 0 wh
   again : c ≡ 1 → 0 < due → due ≤ length zs → Holds A due zs 0 l → Came c zs due l A
   full : (m : ℕ) → m ≤ 1 → 0 < length zs → Lasts A due → Holds A (length zs) zs 1 m → Came c zs due l A
 
-pub came-plain : (c : ℕ) (zs : List ℕ) (due l : ℕ) (A : List ℕ) → Came c zs due l A → Came (c + 0) zs due l A
-came-plain c zs due l A w = subst (λ (n : ℕ). Came n zs due l A) (plain c) w
-  where
-    plain : (n : ℕ) → n ≡ n + 0
-    plain n = omega arith
-
--- it came round
+-- two beginnings were heard
 pub came-full : (c : ℕ) (zs : List ℕ) (due l : ℕ) (A : List ℕ) → Came c zs due l A → leb 2 c ≡ true
     → (0 < length zs) × ((m : ℕ) × ((m ≤ 1) × Holds A (length zs) zs 1 m))
 came-full c zs due l A (unbegun z) e = absurd (omega (arith, z, leb-true 2 c e))
 came-full c zs due l A (again z p q h) e = absurd (omega (arith, z, leb-true 2 c e))
 came-full c zs due l A (full m hm pos la h) e = (pos, (m, (hm, h)))
+
+-- it came round before, or does so now
+abbrev pub rounded : Bool → ℕ → Bool
+rounded g c = g || leb 2 c
+
+-- g: it came round in this configuration
+pub data Sought (c : ℕ) (g : Bool) (zs : List ℕ) (due l : ℕ) (A : List ℕ) : Type 0 where
+  unbegun : c ≡ 0 → g ≡ false → Open zs A → Sought c g zs due l A
+  again : c ≡ 1 → g ≡ false → 0 < due → due ≤ length zs → Holds A due zs 0 l → Sought c g zs due l A
+  full : g ≡ true → (m : ℕ) → m ≤ 1 → 0 < length zs → Lasts A due → Holds A (length zs) zs 1 m → Sought c g zs due l A
+
+pub came-by : {c : ℕ} {g : Bool} {zs : List ℕ} {due l : ℕ} {A : List ℕ} → Sought c g zs due l A → Came c zs due l A
+came-by (unbegun z e o) = unbegun z
+came-by (again z e p q h) = again z p q h
+came-by (full e m hm pos la h) = full m hm pos la h
+
+-- once it came round
+stays-round : (g : Bool) (c : ℕ) → g ≡ true → rounded g c ≡ true
+stays-round g c e = ap (λ (x : Bool). rounded x c) e
+
+not-round : (g : Bool) (c : ℕ) → g ≡ false → c < 2 → rounded g c ≡ false
+not-round g c e h = ap (λ (x : Bool). rounded x c) e ∙ lt-leb 2 c (omega (arith, h))
+
+pub sought-plain : (c : ℕ) (g : Bool) (zs : List ℕ) (due l : ℕ) (A : List ℕ) → Sought c g zs due l A → Sought (c + 0) (rounded g (c + 0)) zs due l A
+sought-plain c g zs due l A (unbegun z e o) = unbegun (plain c ∙ z) (not-round g (c + 0) e (omega (arith, z))) o
+  where
+    plain : (n : ℕ) → n + 0 ≡ n
+    plain n = omega arith
+sought-plain c g zs due l A (again z e p q h) = again (plain c ∙ z) (not-round g (c + 0) e (omega (arith, z))) p q h
+  where
+    plain : (n : ℕ) → n + 0 ≡ n
+    plain n = omega arith
+sought-plain c g zs due l A (full e m hm pos la h) = full (stays-round g (c + 0) e) m hm pos la h
+
+-- it is whole exactly where it came round
+pub sought-full : (c : ℕ) (g : Bool) (zs : List ℕ) (due l : ℕ) (A : List ℕ) → Sought c g zs due l A → g ≡ true
+    → (0 < length zs) × ((m : ℕ) × ((m ≤ 1) × Holds A (length zs) zs 1 m))
+sought-full c g zs due l A (unbegun z f o) e = clash (sym e ∙ f)
+sought-full c g zs due l A (again z f p q h) e = clash (sym e ∙ f)
+sought-full c g zs due l A (full f m hm pos la h) e = (pos, (m, (hm, h)))
+
+pub sought-open : (c : ℕ) (g : Bool) (zs : List ℕ) (due l : ℕ) (A : List ℕ) → Sought c g zs due l A → g ≡ false → headOf A .whole ≡ 0
+sought-open c g zs due l A (unbegun z f o) e = o .whole
+sought-open c g zs due l A (again z f p q h) e = h .whole
+sought-open c g zs due l A (full f m hm pos la h) e = clash (sym f ∙ e)
+
+-- frames are missed
+pub sought-gap : (c c' : ℕ) (g : Bool) (zs : List ℕ) (due l due' l' : ℕ) (A : List ℕ) → Linked zs → length A ≡ structureSize → c' ≡ 0 → Sought c g zs due l A
+    → Sought c' g zs due' l' (spoiled A)
+sought-gap c c' g zs due l due' l' A k la z (unbegun y e o) = unbegun z e (open-spoiled zs (linked-fields zs k) A la (o .whole))
+sought-gap c c' g zs due l due' l' A k la z (again y e p q h) = unbegun z e (open-spoiled zs (linked-fields zs k) A la (h .whole))
+sought-gap c c' g zs due l due' l' A k la z (full e m hm pos last h) = full e m hm pos (inl (spoiled-last A la)) (whole-kept A zs (length zs) m h)
 
 module _ (zs : List ℕ) (k : Linked zs) (i : ℕ) (hi : i < length zs) (l : ℕ) (hl : l ≤ 1) (due links : ℕ)
     (order : (j : ℕ) → due ≡ suc j → (i ≡ turn (length zs) j) × (i ≡ suc j → l ≡ links)) where
@@ -283,41 +343,55 @@ module _ (zs : List ℕ) (k : Linked zs) (i : ℕ) (hi : i < length zs) (l : ℕ
   g : Fields zs
   g = linked-fields zs k
 
-  -- the first field, whatever there was
-  first-took : (s : List ℕ) → i ≡ 0 → Took s zs (suc i) l → Came 1 zs (suc i) l s
-  first-took s z (partly j n p q d h) = again refl (omega arith) (omega (arith, hi)) (one-held zs k i hi l hl due links order s j n z p d h)
-  first-took s z (wholly h la) = full l hl (omega (arith, hi)) la h
+  -- the first field, or another, where the list was not begun
+  first-took : (c : ℕ) (r : Bool) (A : List ℕ) → c ≡ 0 → r ≡ false → length A ≡ structureSize → Open zs A → Took (gathered A x l) zs (suc i) l → Dec (i ≡ 0)
+      → Sought (c + first (suc i)) (rounded r (c + first (suc i))) zs (suc i) l (gathered A x l)
+  first-took c r A z e la o (wholly h last) d = absurd (open-unwhole zs g i hi l A la o l h)
+  first-took c r A z e la o (partly j n p q d h) (yes y) =
+      let one : c + first (suc i) ≡ 1 = ap₂ _+_ z (first-one i y) in
+      again one (not-round r (c + first (suc i)) e (omega (arith, one))) (omega arith) (omega (arith, hi))
+      (one-held zs k i hi l hl due links order (gathered A x l) j n y p d h)
+  first-took c r A z e la o (partly j n p q d h) (no y) =
+      let nil : c + first (suc i) ≡ 0 = ap₂ _+_ z (first-none i y) in
+      unbegun nil (not-round r (c + first (suc i)) e (omega (arith, nil))) (open-goes zs g i hi l A la o (h .whole) y)
 
   module _ (a : Air) (hears : ℕ → Bool) (n e id count : ℕ) (gone u : Bool) (is : a .config (suc e) id ≡ zs) where
-    begins-one-new : (A : List ℕ) → i ≡ 0 → Next a hears n e id due count links gone u A → Came 1 zs (suc i) l (gathered A x l)
-    begins-one-new A z (none em c q) = first-took (gathered A x l) z (open-takes zs g i hi l hl A (em .fields) (em .whole))
-    begins-one-new A z (delete d c) = first-took (gathered A x l) z (open-takes zs g i hi l hl A (d .fields) (d .whole))
-    begins-one-new A z (piece w p q) =
-        first-took (gathered A x l) z (part-takes zs g i hi l hl A due (follows zs k i hi l hl due links order) (subst (λ (y : List ℕ). Part A y due) is q))
-    begins-one-new A z (sure c pos le ec d hk la h) =
-        first-took (gathered A x l) z (part-takes zs g i hi l hl A due (follows zs k i hi l hl due links order)
-        (subst (λ (y : List ℕ). Part A y due) is (knowing.from-first A (a .config (suc e) id) c links due hk pos le d h)))
-    begins-one-new A z (knowing.full m hm pos la h) =
-        let y = whole-next zs g i hi l hl A due m (subst (λ (v : List ℕ). Holds A (length v) v 1 m) is h) la (follows zs k i hi l hl due links order) in
-        full m hm (omega (arith, hi)) (inr (y .1)) (y .0)
+    -- whatever is announced of it
+    next-took : (A : List ℕ) → headOf A .whole ≡ 0 → Next a hears n e id due count links gone u A → Took (gathered A x l) zs (suc i) l × (length A ≡ structureSize)
+    next-took A w (none em c q) = (open-takes zs g i hi l hl A (em .fields) (em .whole), em .size)
+    next-took A w (delete d c) = (open-takes zs g i hi l hl A (d .fields) (d .whole), d .size)
+    next-took A w (piece v p q) = (
+      part-takes zs g i hi l hl A due (follows zs k i hi l hl due links order) (subst (λ (y : List ℕ). Part A y due) is q),
+      part-head A (a .config (suc e) id) due q .1 .1,
+    )
+    next-took A w (sure c pos le ec d hk la h) = (
+      part-takes zs g i hi l hl A due (follows zs k i hi l hl due links order)
+          (subst (λ (y : List ℕ). Part A y due) is (knowing.from-first A (a .config (suc e) id) c links due hk pos le d h)),
+      h .size,
+    )
+    next-took A w (knowing.full m hm pos la h) = absurd (omega (arith, w, h .whole))
 
-    came-by : (c : ℕ) (A : List ℕ) → Next a hears n e id due count links gone u A → Came c zs due links A → Dec (i ≡ 0) → Came (c + first (suc i)) zs (suc i) l (gathered A x l)
-    came-by c A nx (unbegun z) (yes q) =
-        subst (λ (y : ℕ). Came y zs (suc i) l (gathered A x l)) (sym (ap₂ _+_ z (first-one i q))) (begins-one-new A q nx)
-    came-by c A nx (unbegun z) (no q) = unbegun (ap₂ _+_ z (first-none i q))
-    came-by c A nx (again z p r h) (yes q) =
+    sought-by : (c : ℕ) (r : Bool) (A : List ℕ) → Next a hears n e id due count links gone u A → Sought c r zs due links A → Dec (i ≡ 0)
+        → Sought (c + first (suc i)) (rounded r (c + first (suc i))) zs (suc i) l (gathered A x l)
+    sought-by c r A nx (unbegun z e o) d =
+        let y = next-took A (o .whole) nx in
+        first-took c r A z e (y .1) o (y .0) d
+    sought-by c r A nx (again z e p le h) (yes q) =
         let at = ends-at zs k i hi l hl due links order p q in
-        full l hl (omega (arith, hi)) (inr (completes-last zs g i hi l A due links p h at q)) (first-completes zs g i hi l A due links p h at q)
-    came-by c A nx (again z p r h) (no q) =
+        full (ap (rounded r) (ap₂ _+_ z (first-one i q)) ∙ or-true r) l hl (omega (arith, hi))
+        (inr (completes-last zs g i hi l A due links p h at q)) (first-completes zs g i hi l A due links p h at q)
+    sought-by c r A nx (again z e p le h) (no q) =
         let at = goes-at zs k i hi l hl due links order p q in
-        again (ap₂ _+_ z (first-none i q)) (omega arith) (omega (arith, hi))
+        let one : c + first (suc i) ≡ 1 = ap₂ _+_ z (first-none i q) in
+        again one (not-round r (c + first (suc i)) e (omega (arith, one))) (omega arith) (omega (arith, hi))
         (first-joins zs g i hi l A due links p h at (same-links zs k i hi l hl due links order p at))
-    came-by c A nx (full m hm pos la h) d =
+    sought-by c r A nx (full e m hm pos la h) d =
         let y = whole-next zs g i hi l hl A due m h la (follows zs k i hi l hl due links order) in
-        full m hm pos (inr (y .1)) (y .0)
+        full (stays-round r (c + first (suc i)) e) m hm pos (inr (y .1)) (y .0)
 
-    pub came-new : (c : ℕ) (A : List ℕ) → Next a hears n e id due count links gone u A → Came c zs due links A → Came (c + first (suc i)) zs (suc i) l (gathered A x l)
-    came-new c A nx w = came-by c A nx w (ℕ-discrete i 0)
+    pub sought-new : (c : ℕ) (r : Bool) (A : List ℕ) → Next a hears n e id due count links gone u A → Sought c r zs due links A
+        → Sought (c + first (suc i)) (rounded r (c + first (suc i))) zs (suc i) l (gathered A x l)
+    sought-new c r A nx w = sought-by c r A nx w (ℕ-discrete i 0)
 
 -- ---- a change
 

@@ -226,11 +226,11 @@ module _ (a : Air) (w : Orderly a) (hears : ℕ → Bool) (T g : ℕ) (pos : 0 <
       go s true q (inl e) = absurd (omega (arith, e, epoch-step (timed a) T true q, epoch-mono (timed a) (suc T) t (omega (arith, missed))))
       go s true q (inr e) =
           take-known a w hears t m not-refused heard _ (change (timed a) t)
-          (gap-before a hears T t missed gap (k .heard) (e ∙ sym (epoch-step (timed a) T true q)) _ true (near-change a w hears T m u k q))
+          (gap-before a w hears T t missed gap (k .heard) (e ∙ sym (epoch-step (timed a) T true q)) _ true (near-change a w hears T m u k q))
           (up-to true true u (changed-by e) s (heard-is true q ∙ and-true u)) fresh (frames-far h s)
       go s false q (inl e) =
           take-known a w hears t m not-refused heard _ (change (timed a) t)
-          (gap-before a hears T t missed gap (k .heard) (e ∙ sym (epoch-step (timed a) T false q)) m u (near-same a w hears T m u k q))
+          (gap-before a w hears T t missed gap (k .heard) (e ∙ sym (epoch-step (timed a) T false q)) m u (near-same a w hears T m u k q))
           (up-to false true false (same-yet e) s (heard-is false q ∙ and-false u)) fresh (frames-far h s)
       go s false q (inr e) =
           take-known a w hears t m not-refused heard _ (change (timed a) t) (far-change a w hears T m u k t missed gap e q)

@@ -3,3 +3,4 @@ pub mod Kept
 pub mod Runs
 pub mod Turns
 pub mod Rounds
+pub mod Firsts
