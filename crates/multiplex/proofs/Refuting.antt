@@ -9,12 +9,13 @@
 --   deaf-said-not, deaf-when-not       frame 0 announces a change
 --   hidden, deaf-known-not             a component that is there and not heard of: "there is none" has no reason behind frame 0
 --   doubting-not           behind 255 frames it says still that it does not know
+--   deaf-46-not, mute-46-not    of an announced structure: the one does not say 46 when it was heard once, the other does when it came round
 --
 -- Assumes nothing.
 use mathlib.Core.Path.{_≡_, refl, sym, ap, ap₂, _∙_, subst}
-use mathlib.Core.Bool.{Bool, true, false, cond}
+use mathlib.Core.Bool.{Bool, true, false, cond, _&&_, _||_}
 use mathlib.Core.List.{List}
-use Prim.Native.Nat.{ℕ, zero, suc, _≤_}
+use Prim.Native.Nat.{ℕ, zero, suc, _≤_, _<_}
 use native.Mathlib.Omega.{arith}
 use borrow.Author.Tests.{ne-eqb}
 use lib.Dec.{T, eqb, lit<, lit≤}
@@ -30,9 +31,10 @@ use Rattle.multiplex.specs.Heard.{ours}
 use Rattle.multiplex.specs.Example.{structures, pick, told, example}
 use Rattle.multiplex.specs.Empty.{deaf, doubting, mute, refusing, firstOnly, late}
 use Rattle.multiplex.specs.Air.{vectors, Air, timed, inForce, fieldOn, oldIn, newIn, goneIn, InTurn, Orderly}
-use Rattle.multiplex.specs.Sound.{kept, missedBefore, inRow, Listener, Word, unheard, over, presentIn, comingIn, comingBefore, presentBefore, wordFor, NeverWrong}
+use Rattle.multiplex.specs.Sound.{kept, missedBefore, inRow, Listener, Word, unheard, there, over, presentIn, comingIn, comingBefore, comingTo, presentBefore, wordFor, NeverWrong}
 use Rattle.multiplex.specs.Finding.{first, found, aloneBefore, roundsOf, whollyBefore, overChange, readyBefore, readyTo, every, Finds, ShowsInForce}
 use Rattle.multiplex.specs.Announcing.{heardNews, Announces}
+use Rattle.multiplex.specs.Doubting.{cameBefore, cameTo, Doubts}
 use Rattle.multiplex.specs.Admitting.{absentBy, absentBefore, absentBehind, absentFor, Reason, gone, long, Admits}
 use Rattle.multiplex.proofs.Soundness.{State, silent, since-one, state-at}
 use Rattle.multiplex.proofs.Steady.{lists, steady, steady-orderly}
@@ -211,3 +213,40 @@ mute-doubts-not n =
 pub doubting-not : Admits doubting → ⊥
 unfolding doubting inRow
 doubting-not n = omega (arith, n .enough hidden hidden-orderly every near-every 254 7 0 refl (lit< tt) (lit≤ tt))
+
+-- ---- 46, exactly
+
+-- in frame 0 a field of component 7's coming structure was heard once; up to frame 4 it came round
+epochs : epoch (timed example) 0 < epoch (timed example) 5
+unfolding epoch change countAt example
+epochs = lit< tt
+
+epochs-4 : epoch (timed example) 4 < epoch (timed example) 5
+unfolding epoch change countAt example
+epochs-4 = lit< tt
+
+heard-once : comingTo example every 7 0 ≡ there
+unfolding comingBefore comingIn over example told pick
+heard-once = refl
+
+heard-round : comingTo example every 7 4 ≡ there
+unfolding comingBefore comingIn over example told pick change countAt
+heard-round = refl
+
+not-yet : (cameTo example every 7 0 || (whollyBefore example every 0 && change (timed example) 1)) ≡ false
+unfolding cameBefore roundsOf first newIn whollyBefore example told pick change countAt
+not-yet = refl
+
+came-round : (cameTo example every 7 4 || (whollyBefore example every 4 && change (timed example) 5)) ≡ true
+unfolding cameBefore roundsOf first newIn whollyBefore example told pick change countAt
+came-round = refl
+
+pub deaf-46-not : Doubts deaf → ⊥
+unfolding deaf
+deaf-46-not d =
+    omega (arith, d .coming example example-orderly every near-every 0 5 7 refl (lit≤ tt) (lit≤ tt) (lit< tt) epochs heard-once ∙ ap (λ (b : Bool). cond b 0 46) not-yet)
+
+pub mute-46-not : Doubts mute → ⊥
+unfolding mute
+mute-46-not d =
+    omega (arith, d .coming example example-orderly every near-every 4 5 7 refl (lit≤ tt) (lit≤ tt) (lit< tt) epochs-4 heard-round ∙ ap (λ (b : Bool). cond b 0 46) came-round)
