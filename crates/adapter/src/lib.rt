@@ -6,7 +6,6 @@ ghost use mathlib.Core.List.{[]};
 ghost use lib.ListN.{length};
 ghost use Rattle.bits.specs.Rows.{refusal, done};
 ghost use Rattle.bare.specs.Bare.{headerRead};
-ghost use Rattle.golay.specs.Code.{Lent};
 ghost use Rattle.image.specs.Image.{headerOf};
 ghost use Rattle.slot.specs.Slot.{slotSize, headOf};
 ghost use Rattle.table.specs.State.{stateSize};
@@ -29,8 +28,7 @@ pub fn packet(state: &mut [u8], image: &[u8]) -> u8
     answered(state, image).number
 }
 
-// The same with what 31 and 32 carry. The table of patterns is set up once at most, for a damaged header and for the words
-// after it.
+// The same with what 31 and 32 carry.
 pub fn answered(state: &mut [u8], image: &[u8]) -> Answer
     ensures { λ r. ⌜ r ≡ packetAnswered (now (state .entry)) (now (image .entry)) ⌝ }
     ensures { λ _. ⌜ now (state .exit) ≡ packetAfter (now (state .entry)) (now (image .entry)) ⌝ }
@@ -39,15 +37,8 @@ pub fn answered(state: &mut [u8], image: &[u8]) -> Answer
     if number != 0 {
         return refused(number);
     }
-    let checks = lookup::checks();
-    let n = image::header(image);
-    if bare::code::remainder(&checks, n) == 0 {
-        let none = [0u32; 1];
-        return arrived(state, &none[..0], bare::header_of(n, n), image);
-    }
-    let patterns = lookup::patterns();
-    let word = bare::code::corrected(&checks, &patterns, n);
-    arrived(state, &patterns, bare::header_of(n, word), image)
+    let header = bare::read_header(image::header(image));
+    arrived(state, header, image)
 }
 
 // The rows that need no slot: 20, 34, 21.
@@ -77,9 +68,8 @@ fn refused(number: u8) -> Answer
 }
 
 // 27, or what the slot of the address answers.
-fn arrived(state: &mut [u8], patterns: &[u32], header: Header, image: &[u8]) -> Answer
+fn arrived(state: &mut [u8], header: Header, image: &[u8]) -> Answer
     requires { ⌜ length (now state) ≡ stateSize ⌝ }
-    requires { ⌜ Lent (now patterns) ⌝ }
     requires { ⌜ header ≡ headerRead (headerOf (now image)) ⌝ }
     requires { ⌜ length (now image) ≡ 94 ⌝ }
     ensures { λ r. ⌜ r ≡ answeredBy (refusal (placeRow (now (state .entry)) (now (image .entry)))) (slotAnswered (now (state .entry)) (now (image .entry))) ⌝ }
@@ -92,19 +82,18 @@ fn arrived(state: &mut [u8], patterns: &[u32], header: Header, image: &[u8]) -> 
         return refused(27);
     }
     let at = k * Slot::SIZE;
-    served(&mut state[at..at + Slot::SIZE], patterns, header, image)
+    served(&mut state[at..at + Slot::SIZE], header, image)
 }
 
 // What the slot of its address answers to an image: the one function on its bytes and what the image is received as.
-fn served(slot: &mut [u8], patterns: &[u32], header: Header, image: &[u8]) -> Answer
+fn served(slot: &mut [u8], header: Header, image: &[u8]) -> Answer
     requires { ⌜ length (now slot) ≡ slotSize ⌝ }
-    requires { ⌜ Lent (now patterns) ⌝ }
     requires { ⌜ header ≡ headerRead (headerOf (now image)) ⌝ }
     requires { ⌜ length (now image) ≡ 94 ⌝ }
     ensures { λ r. ⌜ r ≡ taken (readingAt (now (slot .entry)) (now (image .entry))) (headOf (now (slot .entry))) ⌝ }
     ensures { λ _. ⌜ now (slot .exit) ≡ takenAfter (readingAt (now (slot .entry)) (now (image .entry))) (now (slot .entry)) ⌝ }
 {
     let head = Slot::load(slot);
-    let reading = packet::received_by(patterns, header, head.wish.protection == 1, image);
+    let reading = packet::received_by(header, head.wish.protection == 1, image);
     group::taken(slot, head, reading)
 }

@@ -38,14 +38,12 @@ pub struct Written {
 }
 
 impl Header {
-    // How many headers, addresses, indices (4.3.6.1) and remainders there are.
+    // How many headers, addresses and indices there are (4.3.6.1).
     pub const NUMBERS: u32 = 8388608;
 
     pub const ADDRESSES: u32 = 1024;
 
     pub const INDICES: u32 = 4;
-
-    pub const REMAINDERS: usize = 2048;
 }
 
 impl Word {
@@ -91,7 +89,7 @@ pub fn read_header(n: u32) -> Header
 }
 
 // The header that 23 bits are read as, once the nearest word is known.
-pub fn header_of(n: u32, word: u32) -> Header
+fn header_of(n: u32, word: u32) -> Header
     requires { ⌜ n < 2 ^ 23 ⌝ }
     requires { ⌜ word ≡ word23 (nearest word23 n) ⌝ }
     ensures { λ r. ⌜ r ≡ headerRead n ⌝ }

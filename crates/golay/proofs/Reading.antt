@@ -5,7 +5,6 @@
 --   nearest23-lt         each number of 23 bits has a nearest word: the code is perfect
 --   nearest24-*          the nearest word of 24 bits, from that of the first 23
 --   clean-*              what has no remainder, what has the right check bits
---   lent-*               a lent table of patterns, or none
 --
 -- Assumes nothing.
 use mathlib.Core.Path.{_≡_, sym, ap, _∙_, subst}
@@ -14,13 +13,11 @@ use native.Mathlib.Omega.{arith}
 use native.Mathlib.Nat.{mod-lt, le-trans}
 use lib.Dec.{lit<}
 use lib.Bits.{bitXor, xor-self}
-use mathlib.Core.List.{List}
-use mathlib.Core.Logic.{inl, inr}
-use lib.ListN.{length, getD}
+use lib.ListN.{getD}
 use lib.Pow.{low}
 use Rattle.bits.specs.Bits.{flips}
 use Rattle.bits.proofs.Flips.{flips-comm, flips-of, flips-low, flips-same}
-use Rattle.golay.specs.Code.{remainder, word23, word24, check, nearest, Pattern, Patterns, Lent}
+use Rattle.golay.specs.Code.{remainder, word23, word24, check, nearest, Pattern}
 use Rattle.golay.proofs.Adding.{check-parts}
 use Rattle.golay.proofs.Division.{remainder-parts, remainder-small, remainder-xor}
 use Rattle.golay.proofs.Nearest.{nearest-is, nearest-none}
@@ -99,18 +96,3 @@ module _ (n : ℕ) where
 -- a number with the check bits of its information is that information's word
 pub clean-word : (n : ℕ) → check (n % 4096) ≡ n / 4096 → word24 (n % 4096) ≡ n
 clean-word n e = sym (check-word24 (n % 4096) (omega arith)) ∙ omega (arith, e)
-
--- ---- a lent table
-
-pub lent-full : (t : List ℕ) → Lent t → length t ≡ 2048 → Patterns t
-unfolding Lent
-lent-full t (inl e) l = absurd (omega arith)
-lent-full t (inr p) l = p
-
-pub lent-none : (t : List ℕ) → length t ≡ 0 → Lent t
-unfolding Lent
-lent-none t e = inl e
-
-pub lent-table : (t : List ℕ) → Patterns t → Lent t
-unfolding Lent
-lent-table t p = inr p

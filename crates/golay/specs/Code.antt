@@ -13,7 +13,6 @@
 use mathlib.Core.Path.{_≡_}
 use Prim.Native.Nat.{ℕ, zero, suc, _+_, _-_, _*_, _/_, _%_, _^_, _≤_, _<_}
 use mathlib.Core.List.{List, [], _∷_}
-use mathlib.Core.Logic.{_⊎_}
 use lib.Dec.{leb}
 use lib.Bits.{bitXor}
 use lib.ListN.{length, getD}
@@ -88,10 +87,6 @@ pub record Pattern (r e : ℕ) : Type 0 where
 pub record Patterns (t : List ℕ) : Type 0 where
   pub size : length t ≡ 2048
   pub each : (r : ℕ) → r < 2048 → Pattern r (getD t r 0)
-
--- A lent table of patterns, or none: it is set up by the first who needs it, and lent on.
-unfoldable pub Lent : List ℕ → Type 0
-Lent t = (length t ≡ 0) ⊎ Patterns t
 
 -- The rule of the table of check bits: an information's are those of its six low bits and of its six high bits, added.
 pub record Checks (t : List ℕ) : Type 0 where

@@ -1,5 +1,5 @@
 // The two tables of the codes. A constant array is set up anew by each function that names it, so only `patterns` and
-// `checks` do, once a call, and everything below is lent them; what it asks of a table is the table's rule.
+// `checks` do. A reader calls them once and lends the tables to what it is made of, which asks of a table only its rule.
 ghost use Rattle.golay.specs.Code.{Patterns, Checks};
 
 // The 2,048 error patterns, one for each remainder (document 01, section 1): entry r is the one number of 23 bits with

@@ -3,7 +3,6 @@ ghost use mathlib.Core.Path.{_≡_};
 ghost use Prim.Native.Nat.{_<_, _≤_};
 ghost use lib.ListN.{length};
 ghost use Rattle.bare.specs.Bare.{headerRead};
-ghost use Rattle.golay.specs.Code.{Lent};
 ghost use Rattle.image.specs.Image.{headerOf};
 ghost use Rattle.words.specs.Protected.{dataRead};
 ghost use Rattle.packet.specs.Received.{received, written, refusedAs, partAs, dataAs};
@@ -23,27 +22,19 @@ pub struct Reading {
 }
 
 // What an image is read as. 20: not 94 bytes; 28: type unreadable; 29: type 3F or C7; 30: type F8; 31: a protected word
-// can't be read. The tables are set up once at most.
+// can't be read.
 pub fn received(protected: bool, image: &[u8]) -> Reading
     ensures { λ r. ⌜ r ≡ received protected (now (image .entry)) ⌝ }
 {
     if image.len() != Packet::IMAGE {
         return refused(20, 0);
     }
-    let checks = lookup::checks();
-    let n = image::header(image);
-    if bare::code::remainder(&checks, n) == 0 {
-        let none = [0u32; 1];
-        return received_by(&none[..0], bare::header_of(n, n), protected, image);
-    }
-    let patterns = lookup::patterns();
-    let word = bare::code::corrected(&checks, &patterns, n);
-    received_by(&patterns, bare::header_of(n, word), protected, image)
+    let header = bare::read_header(image::header(image));
+    received_by(header, protected, image)
 }
 
-// The same once the header is read: its table of patterns is lent on, or an empty one.
-pub fn received_by(patterns: &[u32], header: Header, protected: bool, image: &[u8]) -> Reading
-    requires { ⌜ Lent (now patterns) ⌝ }
+// The same once the header is read.
+pub fn received_by(header: Header, protected: bool, image: &[u8]) -> Reading
     requires { ⌜ header ≡ headerRead (headerOf (now image)) ⌝ }
     requires { ⌜ length (now image) ≡ 94 ⌝ }
     ensures { λ r. ⌜ r ≡ received protected (now (image .entry)) ⌝ }
@@ -64,7 +55,7 @@ pub fn received_by(patterns: &[u32], header: Header, protected: bool, image: &[u
         return refused(Faults::TYPE_SCRAMBLED, 0);
     }
     if protected {
-        unprotected(patterns, header.index, &bytes[1..91])
+        unprotected(header.index, &bytes[1..91])
     } else {
         part(header.index, &bytes[1..91])
     }
@@ -102,12 +93,11 @@ fn part(index: u8, from: &[u8]) -> Reading
 }
 
 // The packet of 90 protected bytes, or 31.
-fn unprotected(patterns: &[u32], index: u8, useful: &[u8]) -> Reading
-    requires { ⌜ Lent (now patterns) ⌝ }
+fn unprotected(index: u8, useful: &[u8]) -> Reading
     requires { ⌜ length (now useful) ≡ 90 ⌝ }
     ensures { λ r. ⌜ r ≡ dataAs index (dataRead (now (useful .entry))) ⌝ }
 {
-    let data = words::unprotect(patterns, useful);
+    let data = words::unprotect(useful);
     let place = data.place;
     if place < Data::ALL {
         return refused(Faults::WORD_UNREADABLE, place);

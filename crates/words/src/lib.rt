@@ -4,9 +4,8 @@ ghost use mathlib.Core.List.{map};
 ghost use Prim.Native.Nat.{ℕ, _<_};
 ghost use lib.ListN.{length, getD};
 ghost use Rattle.bits.specs.Bits.{sent, taken};
-ghost use Rattle.golay.specs.Code.{word24, Checks, Patterns, Lent};
+ghost use Rattle.golay.specs.Code.{word24, Checks, Patterns};
 ghost use Rattle.words.specs.Protected.{protected, wordsOf, dataOf, dataRead, wordsRead, Passed};
-use bare::Header;
 use bare::Word;
 
 // What 90 protected bytes are read as: the place of the first word that cannot be read, 30 where all can; the flips of
@@ -43,10 +42,8 @@ impl Data {
     pub const ALL: u8 = 30;
 }
 
-// What 90 protected bytes are read as. Where every word is right, no table of patterns is set up; otherwise one is, unless
-// the caller lends it.
-pub fn unprotect(patterns: &[u32], useful: &[u8]) -> Data
-    requires { ⌜ Lent (now patterns) ⌝ }
+// What 90 protected bytes are read as. Where every word is right, no table of patterns is set up.
+pub fn unprotect(useful: &[u8]) -> Data
     requires { ⌜ length (now useful) ≡ 90 ⌝ }
     ensures { λ r. ⌜ r ≡ dataRead (now (useful .entry)) ⌝ }
 {
@@ -60,11 +57,8 @@ pub fn unprotect(patterns: &[u32], useful: &[u8]) -> Data
             bytes: gathered(informations),
         };
     }
-    if patterns.len() == Header::REMAINDERS {
-        return corrected(&checks, patterns, useful);
-    }
-    let own = lookup::patterns();
-    corrected(&checks, &own, useful)
+    let patterns = lookup::patterns();
+    corrected(&checks, &patterns, useful)
 }
 
 // The same where some word may be damaged, by the table of patterns.

@@ -11,7 +11,7 @@ use Rattle.adapter.proofs.arrived.Statement.{statement}
 use Rattle.adapter.proofs.arrived.Tie as tie
 
 abbrev start : tie.After-find → tie.Start
-start c = c .before .before .before .before .before .before
+start c = c .before .before .before .before .before
 
 abbrev served : tie.After-slice-known2 → tie.After-served
 served c = c .before .before
@@ -21,7 +21,7 @@ found c = c .before .before
 
 address : (c : tie.After-find) → start c .args .header .address ≡ addressOf (start c .args .image .now)
 unfolding addressOf
-address c = ap (λ (h : Header). h .address) (start c .pre .1 .1 .0)
+address c = ap (λ (h : Header). h .address) (start c .pre .1 .0)
 
 place : (c : tie.Else1) → c .before .find .result < slots
 place c = place-lt _ (start (c .before) .args .image .now) _ _ (address (c .before)) (c .before .find .ensures) (c .if1 .left)

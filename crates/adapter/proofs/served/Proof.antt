@@ -10,7 +10,7 @@ use Rattle.adapter.proofs.served.Statement.{statement}
 use Rattle.adapter.proofs.served.Tie as tie
 
 abbrev start : tie.After-load → tie.Start
-start c = c .before .before .before .before .before
+start c = c .before .before .before .before
 
 abbrev loaded : tie.After-received-by → tie.After-load
 loaded c = c .before .before

@@ -1,17 +1,45 @@
 -- `packet::received_by` meets its contract: the rows 28, 29, 29, 30, then the data.
 -- Assumes nothing.
-use Rattle.packet.proofs.Answers.{isData}
-use mathlib.Core.Path.{sym, ap, ap₂, _∙_}
+use mathlib.Core.Path.{_≡_, sym, ap, ap₂, _∙_}
 use mathlib.Core.List.{List}
 use mathlib.Core.Bool.{Bool}
-use Prim.Native.Nat.{ℕ}
+use Prim.Native.Nat.{ℕ, _<_}
 use Rattle.bare.specs.declared.Header.{Header}
 use Rattle.words.specs.Protected.{dataRead}
-use Rattle.packet.specs.Received.{received, partAs, dataAs}
-use Rattle.packet.proofs.Answers.{answer-unreadable, answer-control, answer-reserved, answer-scrambled, answer-plain, answer-protected, type-found, type-missed, useful-part}
+use Rattle.packet.specs.Received.{received, typeOf, partAs, dataAs}
+use Rattle.packet.proofs.Answers.{IsData, isData, answer-unreadable, answer-control, answer-reserved, answer-scrambled, answer-plain, answer-protected, type-found, type-missed, useful-part}
 use borrow.Author.Needs.{needs}
 use Rattle.packet.proofs.received_by.Statement.{statement}
 use Rattle.packet.proofs.received_by.Tie as tie
+
+-- ---- the points: the bytes made, the type read, then found
+
+abbrev start : tie.After-bytes → tie.Start
+start c = c .before .before
+
+abbrev image : tie.After-bytes → List ℕ
+image c = start c .args .image .now
+
+abbrev kind : tie.Else1 → tie.After-read-type
+kind c = c .before .before
+
+abbrev made : tie.Else1 → tie.After-bytes
+made c = kind c .before
+
+abbrev third : tie.Else4 → tie.Else2
+third c = c .before .before
+
+-- ---- what is known there
+
+found : (c : tie.Else1) → (typeOf (image (made c)) < 256) × (kind c .read-type .result .value ≡ typeOf (image (made c)))
+found c = type-found _ _ _ (made c .bytes .ensures) (kind c .read-type .ensures) (c .if1 .left)
+
+is-data : (c : tie.Else4) → IsData (image (made (third c .before)))
+is-data c =
+    let first = third c .before in
+    isData _ _ (start (made first) .pre .1) (found first .0) (found first .1) (third c .if2 .left) (c .before .if3 .left) (c .if4 .left)
+
+-- ---- the answers
 
 bytes-requires : tie.Need-bytes-requires
 bytes-requires c κs = search needs
@@ -26,31 +54,42 @@ refused-requires : tie.Need-refused-requires
 refused-requires c κs = search needs
 
 returns : tie.Need-returns
-returns c = c .refused .ensures ∙ sym (answer-unreadable (c .before .before .before .before .before .before .before .args .protected) (c .before .before .before .before .before .before .before .args .image .now) (c .before .before .before .before .before .before .before .pre .1 .1) (type-missed (c .before .before .before .before .before .before .before .args .image .now) (c .before .before .before .before .bytes .result) (c .before .before .before .read-type .result) (c .before .before .before .before .bytes .ensures) (c .before .before .before .read-type .ensures) (c .before .if1 .taken)))
+returns c =
+    let test = c .before in
+    let read = test .before .before in
+    let at = read .before in
+    c .refused .ensures
+    ∙ sym (answer-unreadable (start at .args .protected) (image at) (start at .pre .1) (type-missed _ _ _ (at .bytes .ensures) (read .read-type .ensures) (test .if1 .taken)))
 
 refused-requires-2 : tie.Need-refused-requires-2
 refused-requires-2 c κs = search needs
 
 returns-2 : tie.Need-returns-2
-returns-2 c = let s = c .before .before .before .before .before .before .before .before .args .image .now in
-    let found = type-found s (c .before .before .before .before .before .bytes .result) (c .before .before .before .before .read-type .result) (c .before .before .before .before .before .bytes .ensures) (c .before .before .before .before .read-type .ensures) (c .before .before .if1 .left) in
-    c .refused2 .ensures ∙ sym (answer-control (c .before .before .before .before .before .before .before .before .args .protected) s (c .before .before .before .before .before .before .before .before .pre .1 .1) (sym (found .1) ∙ c .before .if2 .taken))
+returns-2 c =
+    let test = c .before in
+    let first = test .before in
+    let at = made first in
+    c .refused2 .ensures ∙ sym (answer-control (start at .args .protected) (image at) (start at .pre .1) (sym (found first .1) ∙ test .if2 .taken))
 
 refused-requires-3 : tie.Need-refused-requires-3
 refused-requires-3 c κs = search needs
 
 returns-3 : tie.Need-returns-3
-returns-3 c = let s = c .before .before .before .before .before .before .before .before .before .args .image .now in
-    let found = type-found s (c .before .before .before .before .before .before .bytes .result) (c .before .before .before .before .before .read-type .result) (c .before .before .before .before .before .before .bytes .ensures) (c .before .before .before .before .before .read-type .ensures) (c .before .before .before .if1 .left) in
-    c .refused3 .ensures ∙ sym (answer-reserved (c .before .before .before .before .before .before .before .before .before .args .protected) s (c .before .before .before .before .before .before .before .before .before .pre .1 .1) (sym (found .1) ∙ c .before .if3 .taken))
+returns-3 c =
+    let test = c .before in
+    let first = test .before .before in
+    let at = made first in
+    c .refused3 .ensures ∙ sym (answer-reserved (start at .args .protected) (image at) (start at .pre .1) (sym (found first .1) ∙ test .if3 .taken))
 
 refused-requires-4 : tie.Need-refused-requires-4
 refused-requires-4 c κs = search needs
 
 returns-4 : tie.Need-returns-4
-returns-4 c = let s = c .before .before .before .before .before .before .before .before .before .before .args .image .now in
-    let found = type-found s (c .before .before .before .before .before .before .before .bytes .result) (c .before .before .before .before .before .before .read-type .result) (c .before .before .before .before .before .before .before .bytes .ensures) (c .before .before .before .before .before .before .read-type .ensures) (c .before .before .before .before .if1 .left) in
-    c .refused4 .ensures ∙ sym (answer-scrambled (c .before .before .before .before .before .before .before .before .before .before .args .protected) s (c .before .before .before .before .before .before .before .before .before .before .pre .1 .1) (sym (found .1) ∙ c .before .if4 .taken))
+returns-4 c =
+    let test = c .before in
+    let first = test .before .before .before in
+    let at = made first in
+    c .refused4 .ensures ∙ sym (answer-scrambled (start at .args .protected) (image at) (start at .pre .1) (sym (found first .1) ∙ test .if4 .taken))
 
 sub-unprotected : tie.Need-sub-unprotected
 sub-unprotected c = search needs
@@ -77,20 +116,20 @@ part-requires : tie.Need-part-requires
 part-requires c κs = search needs
 
 returns-5 : tie.Need-returns-5
-returns-5 c = let s = c .before .before .before .before .before .before .before .before .before .before .before .before .before .args .image .now in
-    let found = type-found s (c .before .before .before .before .before .before .before .before .before .before .bytes .result) (c .before .before .before .before .before .before .before .before .before .read-type .result) (c .before .before .before .before .before .before .before .before .before .before .bytes .ensures) (c .before .before .before .before .before .before .before .before .before .read-type .ensures) (c .before .before .before .before .before .before .before .if1 .left) in
-    let d = isData s (c .before .before .before .before .before .before .before .before .before .read-type .result .value) (c .before .before .before .before .before .before .before .before .before .before .before .before .before .pre .1 .1) (found .0) (found .1) (c .before .before .before .before .before .before .if2 .left) (c .before .before .before .before .before .if3 .left) (c .before .before .before .before .if4 .left) in
+returns-5 c =
+    let test = c .before .before .before in
+    let at = made (third (test .before) .before) in
     c .unprotected .ensures
-    ∙ ap₂ (λ (h : Header) (u : List ℕ). dataAs (h .index) (dataRead u)) (c .before .before .before .before .before .before .before .before .before .before .before .before .before .pre .1 .0) (useful-part s (c .before .before .before .before .before .before .before .before .before .before .bytes .result) (c .before .before .before .before .before .before .before .before .before .before .bytes .ensures))
-    ∙ sym (answer-protected s d) ∙ ap (λ (b : Bool). received b s) (sym (c .before .before .before .if5 .taken))
+    ∙ ap₂ (λ (h : Header) (u : List ℕ). dataAs (h .index) (dataRead u)) (start at .pre .0) (useful-part (image at) (at .bytes .result) (at .bytes .ensures))
+    ∙ sym (answer-protected (image at) (is-data (test .before))) ∙ ap (λ (b : Bool). received b (image at)) (sym (test .if5 .taken))
 
 returns-6 : tie.Need-returns-6
-returns-6 c = let s = c .before .before .before .before .before .before .before .before .before .before .before .before .before .args .image .now in
-    let found = type-found s (c .before .before .before .before .before .before .before .before .before .before .bytes .result) (c .before .before .before .before .before .before .before .before .before .read-type .result) (c .before .before .before .before .before .before .before .before .before .before .bytes .ensures) (c .before .before .before .before .before .before .before .before .before .read-type .ensures) (c .before .before .before .before .before .before .before .if1 .left) in
-    let d = isData s (c .before .before .before .before .before .before .before .before .before .read-type .result .value) (c .before .before .before .before .before .before .before .before .before .before .before .before .before .pre .1 .1) (found .0) (found .1) (c .before .before .before .before .before .before .if2 .left) (c .before .before .before .before .before .if3 .left) (c .before .before .before .before .if4 .left) in
+returns-6 c =
+    let test = c .before .before .before in
+    let at = made (third (test .before) .before) in
     c .part .ensures
-    ∙ ap₂ (λ (h : Header) (u : List ℕ). partAs (h .index) u) (c .before .before .before .before .before .before .before .before .before .before .before .before .before .pre .1 .0) (useful-part s (c .before .before .before .before .before .before .before .before .before .before .bytes .result) (c .before .before .before .before .before .before .before .before .before .before .bytes .ensures))
-    ∙ sym (answer-plain s d) ∙ ap (λ (b : Bool). received b s) (sym (c .before .before .before .if5 .left))
+    ∙ ap₂ (λ (h : Header) (u : List ℕ). partAs (h .index) u) (start at .pre .0) (useful-part (image at) (at .bytes .result) (at .bytes .ensures))
+    ∙ sym (answer-plain (image at) (is-data (test .before))) ∙ ap (λ (b : Bool). received b (image at)) (sym (test .if5 .left))
 
 pub received-by-spec : {M : Type 1} → statement M
 received-by-spec =

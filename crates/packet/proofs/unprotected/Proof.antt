@@ -1,16 +1,25 @@
 -- `packet::unprotected` meets its contract: 31 with the place of the word, or the 45 bytes.
 -- Assumes nothing.
+use mathlib.Core.Path.{sym, ap, _∙_}
+use native.Mathlib.Omega.{arith}
 use lib.ListN.{length}
+use Rattle.words.specs.declared.Data.{Data}
 use Rattle.words.proofs.Each.{read-length}
 use Rattle.packet.specs.Received.{dataAs}
 use Rattle.packet.proofs.Answers.{data-short, data-whole}
-use mathlib.Core.Path.{sym, ap, _∙_}
-use native.Mathlib.Omega.{arith}
-use Rattle.words.specs.declared.Data.{Data}
-use Rattle.packet.specs.Received.{dataAs}
 use borrow.Author.Needs.{needs}
 use Rattle.packet.proofs.unprotected.Statement.{statement}
 use Rattle.packet.proofs.unprotected.Tie as tie
+
+-- ---- the points: the data read, then whole
+
+abbrev start : tie.After-unprotect → tie.Start
+start c = c .before .before
+
+abbrev whole : tie.After-bytes2 → tie.Else1
+whole c = c .before .before
+
+-- ---- the answers
 
 unprotect-requires : tie.Need-unprotect-requires
 unprotect-requires c κs = search needs
@@ -19,16 +28,26 @@ refused-requires : tie.Need-refused-requires
 refused-requires c κs = search needs
 
 returns : tie.Need-returns
-returns c = c .refused .ensures ∙ sym (data-short (c .before .before .before .before .before .args .index) (c .before .before .unprotect .result) (c .before .if1 .taken)) ∙ ap (dataAs (c .before .before .before .before .before .args .index)) (c .before .before .unprotect .ensures)
+returns c =
+    let test = c .before in
+    let read = test .before in
+    let index = start read .args .index in
+    c .refused .ensures ∙ sym (data-short index (read .unprotect .result) (test .if1 .taken)) ∙ ap (dataAs index) (read .unprotect .ensures)
 
 slice-aggregate-part : tie.Need-slice-aggregate-part
 slice-aggregate-part c = search needs
 
 part-requires : tie.Need-part-requires
-part-requires c κs = omega (arith, ap (λ (d : Data). length (d .bytes)) (c .before .before .before .unprotect .ensures), read-length (c .before .before .before .before .before .before .args .useful .now))
+part-requires c κs =
+    let read = whole c .before in
+    omega (arith, ap (λ (d : Data). length (d .bytes)) (read .unprotect .ensures), read-length (start read .args .useful .now))
 
 returns-2 : tie.Need-returns-2
-returns-2 c = c .part .ensures ∙ sym (data-whole (c .before .before .before .before .before .before .before .args .index) (c .before .before .before .before .unprotect .result) (c .before .before .before .if1 .left)) ∙ ap (dataAs (c .before .before .before .before .before .before .before .args .index)) (c .before .before .before .before .unprotect .ensures)
+returns-2 c =
+    let test = whole (c .before) in
+    let read = test .before in
+    let index = start read .args .index in
+    c .part .ensures ∙ sym (data-whole index (read .unprotect .result) (test .if1 .left)) ∙ ap (dataAs index) (read .unprotect .ensures)
 
 pub unprotected-spec : {M : Type 1} → statement M
 unprotected-spec =
