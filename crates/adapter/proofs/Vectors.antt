@@ -19,11 +19,11 @@ use native.Mathlib.Omega.{arith}
 use lib.Count.{ones, onesIn}
 use lib.Dec.{leb, eqb, lit<, lit≤}
 use lib.ListN.{length, getD, take, drop}
-use Rattle.bits.specs.Bits.{flips, bitsOf, number, sent, taken, blank}
+use Rattle.bits.specs.Bits.{flips, bitsOf, number, sent, numbersIn, blank}
 use Rattle.bits.specs.Rows.{refusal, further}
 use Rattle.bits.specs.Search.{first}
 use Rattle.bits.proofs.Rows.{refusal-miss}
-use Rattle.bits.proofs.Runs.{Below, sent-below, taken-below}
+use Rattle.bits.proofs.Runs.{Below, sent-below, numbersIn-below}
 use Rattle.golay.specs.Code.{less, line, divide, remainder, word23, word24, nearest}
 use Rattle.golay.proofs.Reading.{nearest24-is}
 use Rattle.golay.proofs.Vectors as golay
@@ -36,7 +36,7 @@ use Rattle.image.specs.Image.{headerOf, bytesOf, spareOf, imageOf}
 use Rattle.image.proofs.Vectors as image
 use Rattle.words.specs.Protected.{wordsOf, informations, failed, wordsRead, dataRead}
 use Rattle.words.proofs.Vectors as words
-use Rattle.packet.specs.Received.{typeOf, usefulOf, receivedNumber, received, refusedAs, partAs, written}
+use Rattle.packet.specs.Received.{typeOf, usefulOf, receivedNumber, received, refusedAs, readableAs, written}
 use Rattle.packet.specs.Damage.{sentImage}
 use Rattle.packet.specs.declared.Reading.{Reading}
 use Rattle.packet.proofs.Answers.{indexOf, answer-protected, isData, data-short}
@@ -91,7 +91,7 @@ pub images-begin : map (λ (i : ℕ). take 6 (calls.packetOf true 17 message i))
     ∷ (0x11 ∷ 0xE8 ∷ 0x22 ∷ 0x00 ∷ 0xAD ∷ 0x6D ∷ [])
     ∷ (0x11 ∷ 0x7C ∷ 0x5E ∷ 0x80 ∷ 0x43 ∷ 0xBC ∷ [])
     ∷ [])
-unfolding calls.packetOf part written imageOf taken number bitsOf sent word23 remainder divide line less onesIn
+unfolding calls.packetOf part written imageOf numbersIn number bitsOf sent word23 remainder divide line less onesIn
 images-begin = λ j.
     computed 0 (words.protected-counted (part 0 45 message) tt j) ∷ computed 1 (words.protected-counted (part 45 45 message) tt j)
     ∷ computed 2 (words.protected-counted (part 90 45 message) tt j) ∷ computed 3 (words.protected-counted (part 135 45 message) tt j) ∷ []
@@ -173,7 +173,7 @@ abbrev typed : ℕ → List ℕ
 typed t = written 17 0 t image.counting
 
 pub answers : map (λ (t : ℕ). calls.packetAnswer followed (typed t)) (0x55 ∷ 0x3F ∷ 0xC7 ∷ 0xF8 ∷ []) ≡ (28 ∷ 29 ∷ 29 ∷ 30 ∷ [])
-unfolding takenNumber received receivedNumber refusal further typeOf typeNear flips ones onesIn headerOf bytesOf spareOf written imageOf taken number bitsOf sent word23 remainder divide line less
+unfolding takenNumber received receivedNumber refusal further typeOf typeNear flips ones onesIn headerOf bytesOf spareOf written imageOf numbersIn number bitsOf sent word23 remainder divide line less
 answers = λ i.
     arrived (typed 0x55) refl refl refl i ∷ arrived (typed 0x3F) refl refl refl i ∷ arrived (typed 0xC7) refl refl refl i
     ∷ arrived (typed 0xF8) refl refl refl i ∷ []
@@ -181,10 +181,10 @@ answers = λ i.
 -- ---- a data packet with index 0 starts a group
 
 bytes : Below 256 words.counting
-unfolding taken number bitsOf sent
-bytes = taken-below 8 45 (sent 8 words.counting) (sent-below 8 words.counting)
+unfolding numbersIn number bitsOf sent
+bytes = numbersIn-below 8 45 (sent 8 words.counting) (sent-below 8 words.counting)
 
-shielded-read : received true shielded ≡ partAs 0 words.counting
+shielded-read : received true shielded ≡ readableAs 0 words.counting
 shielded-read = ap (received true) (sym shielded-sent) ∙ received-sent true 17 0 words.counting (lit≤ tt) (lit≤ tt) refl bytes
 
 pub starts : calls.packetAnswer followed shielded ≡ 1
@@ -204,13 +204,13 @@ abbrev third : List ℕ
 third = written 17 0 0x00 (0x00 ∷ 0x00 ∷ 0x80 ∷ 0x00 ∷ 0x00 ∷ 0x80 ∷ 0x0F ∷ 0x00 ∷ 0x80 ∷ blank 81)
 
 third-place : dataRead (usefulOf third) .place ≡ 2
-unfolding bytesOf usefulOf dataRead wordsRead wordsOf informations failed written imageOf taken number bitsOf sent blank word23 remainder divide line less
+unfolding bytesOf usefulOf dataRead wordsRead wordsOf informations failed written imageOf numbersIn number bitsOf sent blank word23 remainder divide line less
 third-place =
     ap₂ (λ (i j : ℕ). cond (leb 4096 i) 0 (suc (cond (leb 4096 i) 0 (suc (cond (leb 4096 j) 0 (suc (failed (informations (blank 27)))))))))
     near far
 
 third-read : received true third ≡ refusedAs 31 2
-unfolding typeOf typeNear flips ones onesIn bytesOf written imageOf taken number bitsOf sent blank word23 remainder divide line less
+unfolding typeOf typeNear flips ones onesIn bytesOf written imageOf numbersIn number bitsOf sent blank word23 remainder divide line less
 third-read =
     let kind = isData third 0 refl (lit< tt) refl (λ q. omega (arith, q)) (λ q. omega (arith, q)) (λ q. omega (arith, q)) in
     answer-protected third kind
@@ -218,7 +218,7 @@ third-read =
     ∙ ap (refusedAs 31) third-place
 
 pub word-told : calls.packetAnswered followed third ≡ answer 31 2 0 0
-unfolding takenNumber further headerOf spareOf written imageOf taken number bitsOf sent blank word23 remainder divide line less
+unfolding takenNumber further headerOf spareOf written imageOf numbersIn number bitsOf sent blank word23 remainder divide line less
 word-told = arrived-told third refl refl refl ∙ ap (λ (r : Reading). group.taken r (newHead (wishOf 17 1 2))) third-read
 
 -- ---- 32: at any slot that awaits 2, protected, the packet with index 3
@@ -230,7 +230,7 @@ module _ (s : List ℕ) (placed : Placed s late) where
   abbrev at : Head
   at = headOf (slotAt (find s (calls.addressOf late)) s)
 
-  late-read : at .wish .protection ≡ 1 → calls.readingAt (slotAt (find s (calls.addressOf late)) s) late ≡ partAs 3 words.counting
+  late-read : at .wish .protection ≡ 1 → calls.readingAt (slotAt (find s (calls.addressOf late)) s) late ≡ readableAs 3 words.counting
   unfolding calls.readingAt
   late-read p =
       ap (λ (n : ℕ). received (eqb n 1) late) p ∙ received-sent true 17 3 words.counting (lit≤ tt) (lit≤ tt) refl bytes

@@ -1,8 +1,8 @@
 -- What the writes take of an output: each is offered what is not taken yet, and takes so many first bytes of that.
 --
---   taken out ns, left out ns     what writes that took so many bytes each have taken in order, and what is not taken yet
---   taken-begins                  what is taken is a beginning of the output
---   taken-all                     and all of it where nothing is left
+--   wrote out ns, left out ns     what writes that took so many bytes each wrote in order, and what is left
+--   wrote-begins                  what is taken is a beginning of the output
+--   wrote-all                     and all of it where nothing is left
 --   written-begins, ended-begins  so what has been printed of a chunk's lines, or of the end's, is a beginning of the text of the file's
 --                                 answers, whatever follows
 --
@@ -17,26 +17,26 @@ use Rattle.answers.specs.Text.{heading, text}
 use Rattle.answers.specs.Said.{printed, atEnd, after, said}
 use Rattle.answers.proofs.Telling.{Begins, said-whole, said-begins, said-snoc}
 
-unfoldable pub taken : List ℕ → List ℕ → List ℕ
-taken out [] = []
-taken out (n ∷ ns) = take n out ++ taken (drop n out) ns
+unfoldable pub wrote : List ℕ → List ℕ → List ℕ
+wrote out [] = []
+wrote out (n ∷ ns) = take n out ++ wrote (drop n out) ns
 
 unfoldable pub left : List ℕ → List ℕ → List ℕ
 left out [] = out
 left out (n ∷ ns) = left (drop n out) ns
 
-taken-left : (out ns : List ℕ) → out ≡ taken out ns ++ left out ns
-unfolding taken left
-taken-left out [] = refl
-taken-left out (n ∷ ns) =
-    sym (take-append-drop n out) ∙ ap (λ (x : List ℕ). take n out ++ x) (taken-left (drop n out) ns)
-    ∙ sym (append-assoc (take n out) (taken (drop n out) ns) (left (drop n out) ns))
+wrote-left : (out ns : List ℕ) → out ≡ wrote out ns ++ left out ns
+unfolding wrote left
+wrote-left out [] = refl
+wrote-left out (n ∷ ns) =
+    sym (take-append-drop n out) ∙ ap (λ (x : List ℕ). take n out ++ x) (wrote-left (drop n out) ns)
+    ∙ sym (append-assoc (take n out) (wrote (drop n out) ns) (left (drop n out) ns))
 
-pub taken-begins : (out ns : List ℕ) → Begins (taken out ns) out
-taken-begins out ns = record { behind = left out ns; so = taken-left out ns }
+pub wrote-begins : (out ns : List ℕ) → Begins (wrote out ns) out
+wrote-begins out ns = record { behind = left out ns; so = wrote-left out ns }
 
-pub taken-all : (out ns : List ℕ) → left out ns ≡ [] → taken out ns ≡ out
-taken-all out ns e = sym (taken-left out ns ∙ ap (λ (x : List ℕ). taken out ns ++ x) e ∙ append-nil (taken out ns))
+pub wrote-all : (out ns : List ℕ) → left out ns ≡ [] → wrote out ns ≡ out
+wrote-all out ns e = sym (wrote-left out ns ∙ ap (λ (x : List ℕ). wrote out ns ++ x) e ∙ append-nil (wrote out ns))
 
 -- a beginning of what stands behind other bytes, with these, begins the whole
 begins-behind : (front xs ys zs : List ℕ) → Begins xs ys → Begins (front ++ ys) zs → Begins (front ++ xs) zs
@@ -46,10 +46,10 @@ begins-behind front xs ys zs b w = record {
 }
 
 pub written-begins : (cs : List (List ℕ)) (c : List ℕ) (ds : List (List ℕ)) (ns : List ℕ)
-    → Begins ((heading ++ said cs) ++ taken (printed (after cs) c) ns) (text (fileAnswers (joined (cs ++ (c ∷ ds)))))
+    → Begins ((heading ++ said cs) ++ wrote (printed (after cs) c) ns) (text (fileAnswers (joined (cs ++ (c ∷ ds)))))
 written-begins cs c ds ns =
     let more = said-begins (cs ++ (c ∷ [])) ds in
-    begins-behind (heading ++ said cs) _ _ _ (taken-begins (printed (after cs) c) ns)
+    begins-behind (heading ++ said cs) _ _ _ (wrote-begins (printed (after cs) c) ns)
     (record {
       behind = more .behind;
       so =
@@ -60,7 +60,7 @@ written-begins cs c ds ns =
     })
 
 pub ended-begins : (cs : List (List ℕ)) (ns : List ℕ)
-    → Begins ((heading ++ said cs) ++ taken (atEnd (after cs)) ns) (text (fileAnswers (joined cs)))
+    → Begins ((heading ++ said cs) ++ wrote (atEnd (after cs)) ns) (text (fileAnswers (joined cs)))
 ended-begins cs ns =
-    begins-behind (heading ++ said cs) _ _ _ (taken-begins (atEnd (after cs)) ns)
+    begins-behind (heading ++ said cs) _ _ _ (wrote-begins (atEnd (after cs)) ns)
     (record { behind = []; so = sym (said-whole cs) ∙ simp (append-assoc, append-nil) })

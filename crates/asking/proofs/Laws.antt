@@ -16,7 +16,7 @@ use lib.Dec.{leb, eqb}
 use lib.ListN.{length, take, drop}
 use Rattle.runs.specs.Part.{part}
 use Rattle.slot.specs.Slot.{slotSize, wholeAt, headOf}
-use Rattle.head.specs.Head.{shown}
+use Rattle.head.specs.Head.{askNumber}
 use Rattle.head.specs.declared.Head.{Head}
 use Rattle.table.specs.State.{stateSize, slots, slotAt, find}
 use Rattle.table.specs.Calls.{leaveAnswer}
@@ -27,23 +27,23 @@ use Rattle.asking.specs.declared.Asked.{Asked}
 -- ---- what ask says of a head
 
 module _ (h : Head) (ne : h .group ≡ 0 → ⊥) where
-  shown-group : shown h ≡ cond (leb (h .wish .limit) (h .age)) 7 (cond (eqb (h .gap) 1) 6 5)
-  unfolding shown
+  shown-group : askNumber h ≡ cond (leb (h .wish .limit) (h .age)) 7 (cond (eqb (h .gap) 1) 6 5)
+  unfolding askNumber
   shown-group = ap (λ (b : Bool). cond b 4 (cond (leb (h .wish .limit) (h .age)) 7 (cond (eqb (h .gap) 1) 6 5))) (ne-eqb (h .group) 0 ne)
 
-  pub shown-7 : h .wish .limit ≤ h .age → shown h ≡ 7
+  pub shown-7 : h .wish .limit ≤ h .age → askNumber h ≡ 7
   shown-7 q = shown-group ∙ ap (λ (b : Bool). cond b 7 (cond (eqb (h .gap) 1) 6 5)) (le-leb (h .wish .limit) (h .age) q)
 
-  shown-young : h .age < h .wish .limit → shown h ≡ cond (eqb (h .gap) 1) 6 5
+  shown-young : h .age < h .wish .limit → askNumber h ≡ cond (eqb (h .gap) 1) 6 5
   shown-young q = shown-group ∙ ap (λ (b : Bool). cond b 7 (cond (eqb (h .gap) 1) 6 5)) (lt-leb (h .wish .limit) (h .age) q)
 
-  pub shown-6 : h .age < h .wish .limit → h .gap ≡ 1 → shown h ≡ 6
+  pub shown-6 : h .age < h .wish .limit → h .gap ≡ 1 → askNumber h ≡ 6
   shown-6 q g = shown-young q ∙ ap (λ (b : Bool). cond b 6 5) (eq-eqb (h .gap) 1 g)
 
-  pub shown-5 : h .age < h .wish .limit → (h .gap ≡ 1 → ⊥) → shown h ≡ 5
+  pub shown-5 : h .age < h .wish .limit → (h .gap ≡ 1 → ⊥) → askNumber h ≡ 5
   shown-5 q g = shown-young q ∙ ap (λ (b : Bool). cond b 6 5) (ne-eqb (h .gap) 1 g)
 
-  pub asked-group : (k : ℕ) → askedAt k h ≡ record { number = shown h; at = k * slotSize + wholeAt; len = groupLength h }
+  pub asked-group : (k : ℕ) → askedAt k h ≡ record { number = askNumber h; at = k * slotSize + wholeAt; len = groupLength h }
   unfolding askedAt
   asked-group k = rw (ne-eqb (h .group) 0 ne)
 
@@ -87,7 +87,7 @@ group-ends : (k : ℕ) (h : Head) → k < slots → ends (askedAt k h) ≤ state
 unfolding askedAt groupLength
 group-ends k h l = go (eqb (h .group) 0) (eqb (h .wish .protection) 1)
   where
-    go : (g p : Bool) → ends (cond g (bare 4) (record { number = shown h; at = k * slotSize + wholeAt; len = cond p 180 360 })) ≤ stateSize
+    go : (g p : Bool) → ends (cond g (bare 4) (record { number = askNumber h; at = k * slotSize + wholeAt; len = cond p 180 360 })) ≤ stateSize
     go true p = omega arith
     go false true = omega arith
     go false false = omega arith

@@ -13,7 +13,7 @@ use native.Mathlib.Omega.{arith}
 use lib.Dec.{lit<, lit≤}
 use Rattle.bits.specs.Bits.{blank}
 use Rattle.bits.specs.Search.{first}
-use Rattle.head.specs.Head.{wishOf, newHead, shown}
+use Rattle.head.specs.Head.{wishOf, newHead, askNumber}
 use Rattle.head.specs.declared.Head.{Head}
 use Rattle.table.specs.State.{stateSize, find}
 use Rattle.table.specs.Calls.{leaveAnswer}
@@ -37,7 +37,7 @@ shows number len = record { number = number; at = 360; len = len }
 pub groups : (askedAt 0 (head 1 1 0 0) ∷ askedAt 0 (head 1 1 0 1) ∷ askedAt 0 (head 1 1 0 2) ∷ askedAt 0 (head 1 1 1 1) ∷ askedAt 0 (head 1 1 1 2)
     ∷ askedAt 0 (head 0 1 0 1) ∷ askedAt 0 (head 0 1 1 1) ∷ askedAt 0 (head 0 1 1 2) ∷ askedAt 0 (head 1 0 0 0) ∷ askedAt 0 (head 0 0 1 0) ∷ [])
     ≡ (shows 5 180 ∷ shows 5 180 ∷ shows 7 180 ∷ shows 6 180 ∷ shows 7 180 ∷ shows 5 360 ∷ shows 6 360 ∷ shows 7 360 ∷ bare 4 ∷ bare 4 ∷ [])
-unfolding askedAt shown groupLength
+unfolding askedAt askNumber groupLength
 groups = refl
 
 -- ---- the rows

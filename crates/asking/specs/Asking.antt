@@ -9,7 +9,7 @@ use Prim.Native.Nat.{ℕ, zero, suc, _+_, _*_}
 use lib.Dec.{eqb}
 use Rattle.runs.specs.Part.{part}
 use Rattle.slot.specs.Slot.{slotSize, wholeAt, headOf}
-use Rattle.head.specs.Head.{shown}
+use Rattle.head.specs.Head.{askNumber}
 use Rattle.head.specs.declared.Head.{Head}
 use Rattle.table.specs.State.{slotAt, find}
 use Rattle.table.specs.Calls.{leaveAnswer}
@@ -25,7 +25,7 @@ groupLength h = cond (eqb (h .wish .protection) 1) 180 360
 unfoldable pub askedAt : ℕ → Head → Asked
 askedAt k h =
     cond (eqb (h .group) 0) (record { number = 4; at = 0; len = 0 })
-    (record { number = shown h; at = k * slotSize + wholeAt; len = groupLength h })
+    (record { number = askNumber h; at = k * slotSize + wholeAt; len = groupLength h })
 
 -- refused, or a followed address
 unfoldable pub askedBy : ℕ → Asked → Asked

@@ -2,7 +2,7 @@
 // number is answered.
 ghost use mathlib.Core.Path.{_≡_};
 ghost use Prim.Native.Nat.{_<_};
-ghost use Rattle.head.specs.Head.{shown};
+ghost use Rattle.head.specs.Head.{askNumber};
 ghost use Rattle.table.specs.State.{slots};
 ghost use Rattle.asking.specs.Asking.{askedAt, asked, askPart, boardText};
 use head::Head;
@@ -85,7 +85,7 @@ fn shown(k: usize, head: Head) -> Asked
 
 // Stale, doubtful or fresh.
 fn freshness(head: Head) -> u8
-    ensures { λ r. ⌜ ((head .group ≡ 0 → ⊥) → r ≡ shown head) ⌝ }
+    ensures { λ r. ⌜ ((head .group ≡ 0 → ⊥) → r ≡ askNumber head) ⌝ }
 {
     if head.wish.limit <= head.age {
         7

@@ -10,9 +10,9 @@
 --   sent-*        what is sent: how many bits, each a bit, two lists in a row, the front, the rest and a part;
 --                 sent-place, sent-bit: which bit is where
 --   number-at     the number of what is sent from one number on
---   taken-*       what is taken: how many, how large, one more, which number is where, two takings in a row, of a front,
+--   numbersIn-*   the numbers of a run: how many, how large, one more, which number is where, two takings in a row, of a front,
 --                 after a run, of a number's bits
---   taken-sent, sent-taken   taking undoes sending, and sending taking
+--   numbersIn-sent, sent-numbersIn   reading undoes sending, and sending reading
 --   or-above      shift and or lay a number above another
 --   three-bytes, word-bytes, bytes-word   words of 24 bits from bytes, and bytes from such a word
 --
@@ -27,7 +27,7 @@ use lib.ListN.{length, take, drop, getD, length-append, length-drop, List·getD-
 use lib.Seq.{take-append-le, drop-append-le, take-at, drop-at, take-add, drop-drop, getD-drop, drop-cons, drop-nil, take-nil, length-take-le}
 use lib.Bits.{bitOr, or-shifted-r}
 use lib.Pow.{pow-pos, mod-pow-add, shr-shr, shl-exact}
-use Rattle.bits.specs.Bits.{bitsOf, number, sent, taken}
+use Rattle.bits.specs.Bits.{bitsOf, number, sent, numbersIn}
 
 -- ---- each below a bound; beyond a list's end stands 0
 
@@ -236,79 +236,79 @@ number-at w zero (n ∷ ns) h = number-sent w n ns (h 0)
 number-at w (suc j) [] h = omega arith
 number-at w (suc j) (n ∷ ns) h = number-at w j ns (λ k. h (suc k))
 
--- ---- what is taken
+-- ---- the numbers of a run
 
-pub taken-length : (w k : ℕ) (bs : List ℕ) → length (taken w k bs) ≡ k
-unfolding taken
-taken-length w zero bs = refl
-taken-length w (suc k) bs = ap suc (taken-length w k (drop w bs))
+pub numbersIn-length : (w k : ℕ) (bs : List ℕ) → length (numbersIn w k bs) ≡ k
+unfolding numbersIn
+numbersIn-length w zero bs = refl
+numbersIn-length w (suc k) bs = ap suc (numbersIn-length w k (drop w bs))
 
-pub taken-step : (w k : ℕ) (bs : List ℕ) → taken w (suc k) bs ≡ number (take w bs) ∷ taken w k (drop w bs)
-unfolding taken
-taken-step w k bs = refl
+pub numbersIn-step : (w k : ℕ) (bs : List ℕ) → numbersIn w (suc k) bs ≡ number (take w bs) ∷ numbersIn w k (drop w bs)
+unfolding numbersIn
+numbersIn-step w k bs = refl
 
-pub taken-at : (w k j : ℕ) (bs : List ℕ) → j < k → getD (taken w k bs) j 0 ≡ number (take w (drop (j * w) bs))
-unfolding taken
-taken-at w zero j bs h = absurd (omega arith)
-taken-at w (suc k) zero bs h = ap (λ (x : ℕ). number (take w (drop x bs))) (sym (zero-mul w))
-taken-at w (suc k) (suc j) bs h =
-    taken-at w k j (drop w bs) (omega arith)
+pub numbersIn-at : (w k j : ℕ) (bs : List ℕ) → j < k → getD (numbersIn w k bs) j 0 ≡ number (take w (drop (j * w) bs))
+unfolding numbersIn
+numbersIn-at w zero j bs h = absurd (omega arith)
+numbersIn-at w (suc k) zero bs h = ap (λ (x : ℕ). number (take w (drop x bs))) (sym (zero-mul w))
+numbersIn-at w (suc k) (suc j) bs h =
+    numbersIn-at w k j (drop w bs) (omega arith)
     ∙ ap (λ (xs : List ℕ). number (take w xs)) (drop-drop (j * w) w bs ∙ ap (λ (x : ℕ). drop x bs) (sym (suc-times j w)))
 
-pub taken-below : (w k : ℕ) (bs : List ℕ) → Below 2 bs → Below (2 ^ w) (taken w k bs)
-unfolding taken
-taken-below w zero bs h j = pow-pos w
-taken-below w (suc k) bs h zero = digit-lt w 0 bs h
-taken-below w (suc k) bs h (suc j) = taken-below w k (drop w bs) (below-drop w bs h) j
+pub numbersIn-below : (w k : ℕ) (bs : List ℕ) → Below 2 bs → Below (2 ^ w) (numbersIn w k bs)
+unfolding numbersIn
+numbersIn-below w zero bs h j = pow-pos w
+numbersIn-below w (suc k) bs h zero = digit-lt w 0 bs h
+numbersIn-below w (suc k) bs h (suc j) = numbersIn-below w k (drop w bs) (below-drop w bs h) j
 
-pub taken-cat : (w a b : ℕ) (bs : List ℕ) → taken w (a + b) bs ≡ taken w a bs ++ taken w b (drop (a * w) bs)
-unfolding taken
-taken-cat w zero b bs = ap₂ (λ (x y : ℕ). taken w x (drop y bs)) (zero-add b) (sym (zero-mul w))
-taken-cat w (suc a) b bs =
-    ap (λ (x : ℕ). taken w x bs) (suc-add a b)
+pub numbersIn-cat : (w a b : ℕ) (bs : List ℕ) → numbersIn w (a + b) bs ≡ numbersIn w a bs ++ numbersIn w b (drop (a * w) bs)
+unfolding numbersIn
+numbersIn-cat w zero b bs = ap₂ (λ (x y : ℕ). numbersIn w x (drop y bs)) (zero-add b) (sym (zero-mul w))
+numbersIn-cat w (suc a) b bs =
+    ap (λ (x : ℕ). numbersIn w x bs) (suc-add a b)
     ∙ ap (λ (xs : List ℕ). number (take w bs) ∷ xs)
-    (taken-cat w a b (drop w bs)
-    ∙ ap (λ (xs : List ℕ). taken w a (drop w bs) ++ taken w b xs)
+    (numbersIn-cat w a b (drop w bs)
+    ∙ ap (λ (xs : List ℕ). numbersIn w a (drop w bs) ++ numbersIn w b xs)
     (drop-drop (a * w) w bs ∙ ap (λ (x : ℕ). drop x bs) (sym (suc-times a w))))
 
--- what stands after the last number taken does not matter
-pub taken-front : (w k : ℕ) (xs ys : List ℕ) → k * w ≤ length xs → taken w k (xs ++ ys) ≡ taken w k xs
-unfolding taken
-taken-front w zero xs ys l = refl
-taken-front w (suc k) xs ys l =
+-- what stands after the last of them does not matter
+pub numbersIn-front : (w k : ℕ) (xs ys : List ℕ) → k * w ≤ length xs → numbersIn w k (xs ++ ys) ≡ numbersIn w k xs
+unfolding numbersIn
+numbersIn-front w zero xs ys l = refl
+numbersIn-front w (suc k) xs ys l =
     let fits : w ≤ length xs = omega (arith, suc-times k w) in
-    ap₂ (λ (x y : List ℕ). number x ∷ taken w k y) (take-append-le w xs ys fits) (drop-append-le w xs ys fits)
+    ap₂ (λ (x y : List ℕ). number x ∷ numbersIn w k y) (take-append-le w xs ys fits) (drop-append-le w xs ys fits)
     ∙ ap (λ (x : List ℕ). number (take w xs) ∷ x)
-    (taken-front w k (drop w xs) ys (omega (arith, suc-times k w, length-drop w xs)))
+    (numbersIn-front w k (drop w xs) ys (omega (arith, suc-times k w, length-drop w xs)))
 
--- what is taken first where a run stands in front
-pub taken-run : (w k : ℕ) (xs ys : List ℕ) → length xs ≡ w → taken w (suc k) (xs ++ ys) ≡ number xs ∷ taken w k ys
-unfolding taken
-taken-run w k xs ys e = ap₂ (λ (x y : List ℕ). number x ∷ taken w k y) (take-at xs ys w e) (drop-at xs ys w e)
+-- the first of them where a run stands in front
+pub numbersIn-run : (w k : ℕ) (xs ys : List ℕ) → length xs ≡ w → numbersIn w (suc k) (xs ++ ys) ≡ number xs ∷ numbersIn w k ys
+unfolding numbersIn
+numbersIn-run w k xs ys e = ap₂ (λ (x y : List ℕ). number x ∷ numbersIn w k y) (take-at xs ys w e) (drop-at xs ys w e)
 
-pub taken-bits : (w k m n : ℕ) (rest : List ℕ)
-    → taken w (suc k) (bitsOf (w + m) n ++ rest) ≡ n % 2 ^ w ∷ taken w k (bitsOf m (n / 2 ^ w) ++ rest)
-taken-bits w k m n rest =
-    ap (taken w (suc k))
+pub numbersIn-bits : (w k m n : ℕ) (rest : List ℕ)
+    → numbersIn w (suc k) (bitsOf (w + m) n ++ rest) ≡ n % 2 ^ w ∷ numbersIn w k (bitsOf m (n / 2 ^ w) ++ rest)
+numbersIn-bits w k m n rest =
+    ap (numbersIn w (suc k))
     (ap (λ (xs : List ℕ). xs ++ rest) (bitsOf-cat w m n) ∙ append-assoc (bitsOf w n) (bitsOf m (n / 2 ^ w)) rest)
-    ∙ taken-run w k (bitsOf w n) (bitsOf m (n / 2 ^ w) ++ rest) (bitsOf-length w n)
-    ∙ ap (λ (x : ℕ). x ∷ taken w k (bitsOf m (n / 2 ^ w) ++ rest)) (number-bits w n)
+    ∙ numbersIn-run w k (bitsOf w n) (bitsOf m (n / 2 ^ w) ++ rest) (bitsOf-length w n)
+    ∙ ap (λ (x : ℕ). x ∷ numbersIn w k (bitsOf m (n / 2 ^ w) ++ rest)) (number-bits w n)
 
-pub taken-sent : (w : ℕ) (ns rest : List ℕ) → Below (2 ^ w) ns → taken w (length ns) (sent w ns ++ rest) ≡ ns
-unfolding sent taken
-taken-sent w [] rest h = refl
-taken-sent w (n ∷ ns) rest h =
-    ap (taken w (suc (length ns))) (append-assoc (bitsOf w n) (sent w ns) rest)
-    ∙ taken-run w (length ns) (bitsOf w n) (sent w ns ++ rest) (bitsOf-length w n)
-    ∙ ap₂ (λ (x : ℕ) (xs : List ℕ). x ∷ xs) (number-bits-small w n (h 0)) (taken-sent w ns rest (λ k. h (suc k)))
+pub numbersIn-sent : (w : ℕ) (ns rest : List ℕ) → Below (2 ^ w) ns → numbersIn w (length ns) (sent w ns ++ rest) ≡ ns
+unfolding sent numbersIn
+numbersIn-sent w [] rest h = refl
+numbersIn-sent w (n ∷ ns) rest h =
+    ap (numbersIn w (suc (length ns))) (append-assoc (bitsOf w n) (sent w ns) rest)
+    ∙ numbersIn-run w (length ns) (bitsOf w n) (sent w ns ++ rest) (bitsOf-length w n)
+    ∙ ap₂ (λ (x : ℕ) (xs : List ℕ). x ∷ xs) (number-bits-small w n (h 0)) (numbersIn-sent w ns rest (λ k. h (suc k)))
 
-pub sent-taken : (w k : ℕ) (bs : List ℕ) → Below 2 bs → k * w ≤ length bs → sent w (taken w k bs) ≡ take (k * w) bs
-unfolding sent taken
-sent-taken w zero bs h l = ap (λ (x : ℕ). take x bs) (sym (zero-mul w))
-sent-taken w (suc k) bs h l =
+pub sent-numbersIn : (w k : ℕ) (bs : List ℕ) → Below 2 bs → k * w ≤ length bs → sent w (numbersIn w k bs) ≡ take (k * w) bs
+unfolding sent numbersIn
+sent-numbersIn w zero bs h l = ap (λ (x : ℕ). take x bs) (sym (zero-mul w))
+sent-numbersIn w (suc k) bs h l =
     ap₂ _++_
     (bits-front w bs h (omega (arith, suc-times k w)))
-    (sent-taken w k (drop w bs) (below-drop w bs h) (omega (arith, suc-times k w, length-drop w bs)))
+    (sent-numbersIn w k (drop w bs) (below-drop w bs h) (omega (arith, suc-times k w, length-drop w bs)))
     ∙ sym (take-add w (k * w) bs) ∙ ap (λ (x : ℕ). take x bs) (sym (suc-times k w))
 
 -- ---- bytes and words of three bytes
@@ -334,23 +334,23 @@ word-bytes j s h =
     ∙ three-bytes (drop (3 * j) s) (below-drop (3 * j) s h)
     ∙ omega (arith, getD-drop (3 * j) s 1 0, getD-drop (3 * j) s 2 0)
 
-pub bytes-word : (n : ℕ) → taken 8 3 (bitsOf 24 n) ≡ n % 256 ∷ n / 256 % 256 ∷ n / 65536 % 256 ∷ []
-unfolding taken
+pub bytes-word : (n : ℕ) → numbersIn 8 3 (bitsOf 24 n) ≡ n % 256 ∷ n / 256 % 256 ∷ n / 65536 % 256 ∷ []
+unfolding numbersIn
 bytes-word n =
-    ap (taken 8 3) (sym (append-nil (bitsOf 24 n)))
-    ∙ taken-bits 8 2 16 n []
+    ap (numbersIn 8 3) (sym (append-nil (bitsOf 24 n)))
+    ∙ numbersIn-bits 8 2 16 n []
     ∙ ap (λ (xs : List ℕ). n % 256 ∷ xs)
-    (taken-bits 8 1 8 (n / 256) []
+    (numbersIn-bits 8 1 8 (n / 256) []
     ∙ ap (λ (xs : List ℕ). n / 256 % 256 ∷ xs)
-    (taken-bits 8 0 0 (n / 256 / 256) [] ∙ ap (λ (x : ℕ). x % 256 ∷ []) (shr-shr n 8 8)))
+    (numbersIn-bits 8 0 0 (n / 256 / 256) [] ∙ ap (λ (x : ℕ). x % 256 ∷ []) (shr-shr n 8 8)))
 
 -- ---- numbers of one width taken from numbers of another, by the two of these at which each begins
 
 pub regrouped : (w v k j a r : ℕ) (ns : List ℕ) → Below (2 ^ v) ns → j < k → j * w ≡ a * v + r
-    → getD (taken w k (sent v ns)) j 0
+    → getD (numbersIn w k (sent v ns)) j 0
     ≡ (getD ns a 0 + 2 ^ v * (getD ns (suc a) 0 + 2 ^ v * number (sent v (drop (suc (suc a)) ns)))) / 2 ^ r % 2 ^ w
 regrouped w v k j a r ns h l e =
-    taken-at w k j (sent v ns) l
+    numbersIn-at w k j (sent v ns) l
     ∙ ap (λ (x : ℕ). number (take w (drop x (sent v ns)))) e
     ∙ ap (λ (bs : List ℕ). number (take w bs)) (sym (drop-drop r (a * v) (sent v ns)) ∙ ap (drop r) (sent-drop v a ns))
     ∙ digit w r (sent v (drop a ns)) (sent-below v (drop a ns))

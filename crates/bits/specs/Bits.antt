@@ -5,7 +5,7 @@
 --   bitsOf w n     the w low bits of n, in the order in which they are sent
 --   number bs      the number that a run of bits is
 --   sent w ns      numbers of w bits each, sent one after the other
---   taken w k bs   the first k numbers of w bits each in a run of bits
+--   numbersIn w k bs   the first k numbers of w bits each in a run of bits
 --   blank n        n bytes of 0
 use Prim.Native.Nat.{ℕ, zero, suc, _+_, _*_, _/_, _%_}
 use mathlib.Core.List.{List, [], _∷_, _++_}
@@ -28,9 +28,9 @@ unfoldable pub sent : ℕ → List ℕ → List ℕ
 sent w [] = []
 sent w (n ∷ ns) = bitsOf w n ++ sent w ns
 
-unfoldable pub taken : ℕ → ℕ → List ℕ → List ℕ
-taken w zero bs = []
-taken w (suc k) bs = number (take w bs) ∷ taken w k (drop w bs)
+unfoldable pub numbersIn : ℕ → ℕ → List ℕ → List ℕ
+numbersIn w zero bs = []
+numbersIn w (suc k) bs = number (take w bs) ∷ numbersIn w k (drop w bs)
 
 unfoldable pub blank : ℕ → List ℕ
 blank n = replicate n 0

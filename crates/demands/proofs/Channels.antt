@@ -19,7 +19,7 @@ use lib.ListN.{length, take}
 use lib.Seq.{take-at}
 use Rattle.bits.specs.Bits.{flips}
 use Rattle.image.specs.Image.{headerOf, spareOf}
-use Rattle.packet.specs.Received.{received, partAs, filled}
+use Rattle.packet.specs.Received.{received, readableAs, filled}
 use Rattle.packet.specs.Damage.{dataSize, sentImage, Came, Refused}
 use Rattle.packet.specs.declared.Reading.{Reading}
 use Rattle.packet.proofs.Damages.{header-came, received-came}
@@ -52,7 +52,7 @@ module _ (p : Bool) (a c : ℕ) (d image : List ℕ) (ha : a ≤ 1023) (hc : c <
   unfolding filled
   came-event z = event-read p image z ∙ go (received-came p a c d image ha (omega arith) l b came)
     where
-      go : (received p image ≡ partAs c d) ⊎ Refused (received p image)
+      go : (received p image ≡ readableAs c d) ⊎ Refused (received p image)
           → one.packet (received p image .index) (take (dataSize p) (received p image .bytes)) ≡ one.packet c d
       go (inl e) =
           ap (λ (r : Reading). one.packet (r .index) (take (dataSize p) (r .bytes))) e

@@ -24,7 +24,7 @@ use Rattle.bits.proofs.Storing.{blank-length, drop-blank}
 use Rattle.packet.specs.declared.Reading.{Reading}
 use Rattle.packet.proofs.Answers.{received-length}
 use Rattle.runs.specs.Part.{part, put}
-use Rattle.slot.specs.Slot.{roomSize, slotSize, headOf, withHead, unfinished, stored, withUnfinished, kept, free, goodSlot}
+use Rattle.slot.specs.Slot.{roomSize, slotSize, headOf, withHead, unfinished, stored, withUnfinished, keptRoom, free, goodSlot}
 use Rattle.head.specs.Head.{newHead, agedHead, goodHead}
 use Rattle.head.specs.Move.{Move, started, held, whole, outOfStep, movedHead, rowAt, placeAt}
 use Rattle.head.specs.declared.Head.{Head}
@@ -76,8 +76,8 @@ placed-clear c b room l h lb e =
     sym (drop-drop n m (put m n b room)) ∙ ap (drop n) (drop-at (take m room) (b ++ drop n (drop m room)) m (length-take-le m room fits))
     ∙ drop-at b (drop n (drop m room)) n refl ∙ ap (drop n) e ∙ drop-blank n (roomSize - m) ∙ ap blank less
 
-kept-clear : (n : ℕ) (room : List ℕ) → n ≤ length room → Clear n (kept n room)
-unfolding kept
+kept-clear : (n : ℕ) (room : List ℕ) → n ≤ length room → Clear n (keptRoom n room)
+unfolding keptRoom
 kept-clear n room h = drop-at (part 0 n room) (blank (roomSize - n)) n (part-length 0 n room (omega arith))
 
 -- ---- a slot by its rooms

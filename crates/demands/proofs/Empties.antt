@@ -18,7 +18,7 @@ use lib.Dec.{T, eqb, lit≤, lit<}
 use lib.ListN.{getD}
 use Rattle.bits.specs.Bits.{blank}
 use Rattle.bits.proofs.Storing.{blank-length}
-use Rattle.head.specs.Head.{shown, wishOf}
+use Rattle.head.specs.Head.{askNumber, wishOf}
 use Rattle.head.specs.Move.{perOf, needsOf, rowOf, moveOf, moveNumber, movedHead}
 use Rattle.table.specs.State.{find}
 use Rattle.table.specs.Calls.{followAnswer, followAfter, endAfter}
@@ -221,7 +221,7 @@ module _ (m : Machine) (d : Demand3 m) (h : List Call) (st : AllStay 17 (four ++
       ∙ ap (λ (es : List one.Event). called 1 (told es (one.followed (wishOf 17 0 1)) [])) (four-then h)
 
 pub still-fails : Demand3 still → ⊥
-unfolding questionAnswer told entry run leaving AllStay Stays ourAnswer eventsOf eventsAt one.followed one.after one.answer one.moved one.begun one.joined one.lastOf one.aged perOf needsOf rowOf moveOf moveNumber movedHead shown called anyWhole isWhole sinceWhole ends marked
+unfolding questionAnswer told entry run leaving AllStay Stays ourAnswer eventsOf eventsAt one.followed one.after one.answer one.moved one.begun one.joined one.lastOf one.aged perOf needsOf rowOf moveOf moveNumber movedHead askNumber called anyWhole isWhole sinceWhole ends marked
 still-fails d =
     let same : (f : one.Followed) → f .head .wish .protection ≡ f .head .wish .protection = λ f. refl in
     let fresh : asked _ 17 .number ≡ 5 = says 1 yes-1 (λ s. s) (λ f. f) (λ s f k. k) same in
@@ -230,7 +230,7 @@ still-fails d =
     omega arith
 
 pub aging-fails : Demand3 aging → ⊥
-unfolding questionAnswer told entry run leaving AllStay Stays ourAnswer eventsOf one.followed one.after one.answer one.moved one.begun one.joined one.lastOf one.aged perOf needsOf rowOf moveOf moveNumber movedHead shown called anyWhole isWhole sinceWhole ends marked
+unfolding questionAnswer told entry run leaving AllStay Stays ourAnswer eventsOf one.followed one.after one.answer one.moved one.begun one.joined one.lastOf one.aged perOf needsOf rowOf moveOf moveNumber movedHead askNumber called anyWhole isWhole sinceWhole ends marked
 aging-fails d =
     let same : (f : one.Followed) → one.aged f .head .wish .protection ≡ f .head .wish .protection = λ f. refl in
     let stale : asked _ 17 .number ≡ 7 = says 1 yes-1 endAfter one.aged end-step same in

@@ -22,7 +22,7 @@ use Rattle.bits.specs.Bits.{blank}
 use Rattle.bits.proofs.Storing.{blank-length}
 use Rattle.bare.specs.Bare.{headerRead}
 use Rattle.image.specs.Image.{headerOf}
-use Rattle.packet.specs.Received.{received, partAs}
+use Rattle.packet.specs.Received.{received, readableAs}
 use Rattle.packet.specs.Damage.{sentImage}
 use Rattle.packet.specs.declared.Reading.{Reading}
 use Rattle.packet.proofs.Damages.{sent-corrected, corrected-came, sent-spare, received-sent, header-came}
@@ -113,7 +113,7 @@ pub whole-channel : Channel false 17 zeros 0 whole-group
 unfolding Channel
 whole-channel = (comes 0 (lit< tt), (comes 1 (lit< tt), (comes 2 (lit< tt), (comes 3 (lit< tt), tt))))
 
-pub clean-read : (c : ℕ) → c < 4 → received false (clean c) ≡ partAs c (blank 90)
+pub clean-read : (c : ℕ) → c < 4 → received false (clean c) ≡ readableAs c (blank 90)
 clean-read c h = received-sent false 17 c (blank 90) (lit≤ tt) (omega arith) (blank-length 90) (bytes-zero 90)
 
 clean-number : (c : ℕ) → c < 4 → received false (clean c) .number ≡ 0

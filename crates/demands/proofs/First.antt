@@ -26,7 +26,7 @@ use Rattle.packet.specs.declared.Reading.{Reading}
 use Rattle.packet.proofs.Answers.{received-either}
 use Rattle.runs.specs.Part.{part}
 use Rattle.slot.specs.Slot.{headOf, unfinished, stored}
-use Rattle.head.specs.Head.{shown}
+use Rattle.head.specs.Head.{askNumber}
 use Rattle.head.specs.Move.{Move, started, held, whole, outOfStep, moveNumber, rowAt, placeAt}
 use Rattle.head.specs.declared.Head.{Head}
 use Rattle.head.specs.declared.Wish.{Wish}
@@ -82,8 +82,8 @@ unplaced-in : (s image : List ℕ) → In (unplaced s image) plain
 unfolding unplaced
 unplaced-in s image = rows-in _ plain tt
 
-shown-in : (h : Head) → In (shown h) plain
-unfolding shown
+shown-in : (h : Head) → In (askNumber h) plain
+unfolding askNumber
 shown-in h = go (eqb (h .group) 0) (leb (h .wish .limit) (h .age)) (eqb (h .gap) 1)
   where
     go : (a b c : Bool) → In (cond a 4 (cond b 7 (cond c 6 5))) plain
@@ -243,8 +243,8 @@ valueless (writeType b) ne = (given-refused _ _ ne, tt)
 -- ---- what is lent to be read, and a start
 
 -- where there is a group, ask says 5, 6 or 7
-shown-with : (h : Head) → (h .group ≡ 0 → ⊥) → In (shown h) (5 ∷ 6 ∷ 7 ∷ [])
-unfolding shown In
+shown-with : (h : Head) → (h .group ≡ 0 → ⊥) → In (askNumber h) (5 ∷ 6 ∷ 7 ∷ [])
+unfolding askNumber In
 shown-with h ne = subst (λ (b : Bool). In (cond b 4 (cond (leb (h .wish .limit) (h .age)) 7 (cond (eqb (h .gap) 1) 6 5))) (5 ∷ 6 ∷ 7 ∷ [])) (sym (ne-eqb (h .group) 0 ne))
     (go (leb (h .wish .limit) (h .age)) (eqb (h .gap) 1))
   where

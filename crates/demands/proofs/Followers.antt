@@ -33,7 +33,7 @@ use Rattle.adapter.specs.Calls.{addressOf, followed, unplaced, packetAnswer}
 use Rattle.adapter.proofs.Laws.{packet-refused}
 use Rattle.demands.specs.Machine.{Call, start, follow, leave, packet, subframeEnd, asks, ask, Question, ours, questionAnswer, ourAnswer, ourAfter, run}
 use Rattle.demands.specs.Rows.{wishRows, addressRows, rowsOf}
-use Rattle.demands.specs.Table.{Good, addressAfter, member, without, taken, followNow, followedAfter, ByHistory, KeepsTable}
+use Rattle.demands.specs.Table.{Good, addressAfter, member, without, accepts, followNow, followedAfter, ByHistory, KeepsTable}
 use Rattle.demands.proofs.Numbers.{among, in-among, rows-in}
 use Rattle.demands.proofs.Numbered.{ask-answers}
 use Rattle.demands.proofs.Counting.{count, count-le, count-agree, count-one, count-none, count-all, count-some, Distinct, without-none, without-other, without-gone, without-length, without-distinct}
@@ -297,8 +297,8 @@ module _ (l s : List ℕ) (k : Lists l s) where
 -- ---- each call keeps it
 
 -- a follow that the list takes is accepted
-wish-taken : (w : Wish) (l : List ℕ) → taken w l ≡ true → refusal (wishRows w (member (w .address) l) (eqb (length l) 16)) ≡ 0
-unfolding taken refusal
+wish-taken : (w : Wish) (l : List ℕ) → accepts w l ≡ true → refusal (wishRows w (member (w .address) l) (eqb (length l) 16)) ≡ 0
+unfolding accepts refusal
 wish-taken w l e =
     let a = w .address in
     let p = w .protection in
@@ -317,8 +317,8 @@ module _ (l s : List ℕ) (k : Lists l s) where
   keeps : (x : Call) → ((j : ℕ) → j < slots → addressAfter x s j ≡ addressAt s j) → Lists l (ourAfter x s)
   keeps x e = lists-same l s (ourAfter x s) k (keeps-good x s (k .state)) (λ j h. keeps-addresses x s (k .state) j h ∙ e j h)
 
-  is-taken : (w : Wish) → Followed s w → taken w l ≡ true
-  unfolding taken goodWish
+  is-taken : (w : Wish) → Followed s w → accepts w l ≡ true
+  unfolding accepts goodWish
   is-taken w f =
       let a = w .address in
       let less : length l < 16 = room (eqb-false (length l) 16 (sym (full l s k) ∙ ap not (lt-ltb (find s 0) 16 (f .room)))) in
@@ -345,10 +345,10 @@ module _ (l s : List ℕ) (k : Lists l s) where
       (wish-bounds w (f .wish) .address-from) (f .absent) (f .room)
       (λ j h. keeps-addresses (follow w) s (k .state) j h
       ∙ ap (λ (b : Bool). cond (b && eqb j (find s 0)) (w .address) (addressAt s j)) (eq-eqb (followAnswer s w) 0 z))))
-      (λ ne. subst (λ (b : Bool). Lists (cond b (w .address ∷ l) l) (ourAfter (follow w) s)) (sym (untaken (taken w l) refl ne))
+      (λ ne. subst (λ (b : Bool). Lists (cond b (w .address ∷ l) l) (ourAfter (follow w) s)) (sym (untaken (accepts w l) refl ne))
       (keeps (follow w) (λ j h. ap (λ (b : Bool). cond (b && eqb j (find s 0)) (w .address) (addressAt s j)) (ne-eqb (followAnswer s w) 0 ne))))
     where
-      untaken : (b : Bool) → taken w l ≡ b → (followAnswer s w ≡ 0 → ⊥) → taken w l ≡ false
+      untaken : (b : Bool) → accepts w l ≡ b → (followAnswer s w ≡ 0 → ⊥) → accepts w l ≡ false
       untaken true e ne = absurd (ne (follow-by l s k w ∙ wish-taken w l e))
       untaken false e ne = e
 

@@ -21,7 +21,7 @@ use Rattle.bits.proofs.Storing.{blank-length}
 use Rattle.runs.specs.Part.{part}
 use Rattle.slot.specs.Slot.{roomSize, slotSize, headOf, withUnfinished, withStored, free, goodSlot}
 use Rattle.runs.specs.Numbers.{fourAt}
-use Rattle.head.specs.Head.{shown, goodHead, wishOf, goodWish}
+use Rattle.head.specs.Head.{askNumber, goodHead, wishOf, goodWish}
 use Rattle.slot.proofs.Laws.{unfinished-head, unfinished-length, stored-head, stored-length}
 use Rattle.slot.proofs.Goods.{blank-free}
 use Rattle.table.specs.State.{stateSize, slots, slotAt, withSlot, addressAt, find, goodAt, good}
@@ -32,7 +32,7 @@ use Rattle.history.specs.Followed as one
 use Rattle.demands.specs.Machine.{Call, start, follow, leave, subframeEnd, asks, ours, ourAnswer, ourAfter, run, questionAnswer}
 use Rattle.demands.specs.Rows.{wishRows, addressRows}
 use Rattle.demands.specs.Demand1.{Demand1}
-use Rattle.demands.specs.Table.{member, without, taken, followNow, followedAfter, ByHistory, KeepsTable}
+use Rattle.demands.specs.Table.{member, without, accepts, followNow, followedAfter, ByHistory, KeepsTable}
 use Rattle.demands.specs.Harmful.{byCall, clinging, roomless, halfStarted, crowd, greedy, leaking, brittle}
 use Rattle.demands.proofs.Calling.{follow-serves}
 use Rattle.demands.proofs.Parts.{ask-here}
@@ -54,13 +54,13 @@ answers-then h = by-history _ _ (lists-run h [] begun begun-lists)
 -- ---- leave and start
 
 pub clinging-fails : KeepsTable clinging → ⊥
-unfolding questionAnswer byCall run ourAnswer ourAfter followedAfter followNow taken member without refusal one.followed shown
+unfolding questionAnswer byCall run ourAnswer ourAfter followedAfter followNow accepts member without refusal one.followed askNumber
 clinging-fails d =
     let t = followAfter begun (wishOf 17 0 1) in
     let k = follow-serves empty-state (wishOf 17 0 1) (accepted 1 refl) in
     let four : asked t 17 .number ≡ 4 =
     ap (λ (s : List ℕ). asked (followAfter s (wishOf 17 0 1)) 17 .number) (begins empty-state (blank-length stateSize))
-    ∙ ask-here _ 17 (k .serves) ∙ ap (λ (f : one.Followed). shown (f .head)) (k .seen) in
+    ∙ ask-here _ 17 (k .serves) ∙ ap (λ (f : one.Followed). askNumber (f .head)) (k .seen) in
     let gone : asked t 17 .number ≡ 27 =
     d .history empty-state (blank-length stateSize) (follow (wishOf 17 0 1) ∷ leave 17 ∷ []) .asks 17 .refused (λ z. omega (arith, z)) in
     omega (arith, four, gone)
@@ -103,7 +103,7 @@ half-started-fails d =
 -- ---- follow and leave
 
 pub greedy-fails : KeepsTable greedy → ⊥
-unfolding byCall run ourAnswer ourAfter followedAfter followNow taken member refusal
+unfolding byCall run ourAnswer ourAfter followedAfter followNow accepts member refusal
 greedy-fails d =
     let zero-first : followAnswer begun (wishOf 17 0 1) ≡ 0 = answers-then [] .follows (wishOf 17 0 1) in
     let t = run ours (follow (wishOf 17 0 1) ∷ crowd 0 1) begun in
@@ -114,7 +114,7 @@ greedy-fails d =
     omega (arith, full, ap (λ (s : List ℕ). followAnswer s (wishOf 18 0 1)) (sym after) ∙ room)
 
 pub leaking-fails : KeepsTable leaking → ⊥
-unfolding byCall run ourAnswer ourAfter followedAfter followNow taken member without refusal
+unfolding byCall run ourAnswer ourAfter followedAfter followNow accepts member without refusal
 leaking-fails d =
     let s = followAfter begun (wishOf 17 0 1) in
     let zero-leave : leaveAnswer s 17 ≡ 0 = answers-then (follow (wishOf 17 0 1) ∷ []) .leaves 17 in

@@ -27,7 +27,7 @@ use Rattle.bare.proofs.Theorems.{header-exactly}
 use Rattle.image.specs.Image.{headerOf}
 use Rattle.packet.specs.Received.{typeOf, usefulOf, unreadable, receivedNumber, received}
 use Rattle.slot.specs.Slot.{headOf}
-use Rattle.head.specs.Head.{shown, within}
+use Rattle.head.specs.Head.{askNumber, within}
 use Rattle.head.specs.Move.{started, held, whole, outOfStep, perOf, needsOf, rowOf, moveOf, moveNumber}
 use Rattle.head.specs.declared.Head.{Head}
 use Rattle.head.specs.declared.Wish.{Wish}
@@ -164,8 +164,8 @@ module _ (s image : List ℕ) where
 
 -- ---- ask
 
-shown-in : (h : Head) → In (shown h) (4 ∷ 5 ∷ 6 ∷ 7 ∷ [])
-unfolding shown In
+shown-in : (h : Head) → In (askNumber h) (4 ∷ 5 ∷ 6 ∷ 7 ∷ [])
+unfolding askNumber In
 shown-in h = go (eqb (h .group) 0) (leb (h .wish .limit) (h .age)) (eqb (h .gap) 1)
   where
     go : (a b c : Bool) → In (cond a 4 (cond b 7 (cond c 6 5))) (4 ∷ 5 ∷ 6 ∷ 7 ∷ [])

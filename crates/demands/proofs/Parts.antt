@@ -23,7 +23,7 @@ use lib.ListN.{length}
 use Rattle.packet.specs.declared.Reading.{Reading}
 use Rattle.runs.specs.Part.{part}
 use Rattle.slot.specs.Slot.{slotSize, wholeAt, roomSize, headOf, stored}
-use Rattle.head.specs.Head.{shown}
+use Rattle.head.specs.Head.{askNumber}
 use Rattle.head.specs.declared.Head.{Head}
 use Rattle.runs.proofs.Parts.{part-part}
 use Rattle.table.specs.State.{stateSize, slotAt, withSlot, find, good}
@@ -42,8 +42,8 @@ use Rattle.demands.proofs.Calling.{passed}
 
 -- ---- ask
 
-shown-none : (h : Head) → h .group ≡ 0 → shown h ≡ 4
-unfolding shown
+shown-none : (h : Head) → h .group ≡ 0 → askNumber h ≡ 4
+unfolding askNumber
 shown-none h e = ap (λ (b : Bool). cond b 4 (cond (leb (h .wish .limit) (h .age)) 7 (cond (eqb (h .gap) 1) 6 5))) (eq-eqb (h .group) 0 e)
 
 last-none : (h : Head) (room : List ℕ) → h .group ≡ 0 → lastIn h room ≡ []
@@ -72,10 +72,10 @@ unfolding slotAt stored
 group-place k n s h =
     sym (part-part 0 n wholeAt roomSize (part (k * slotSize) slotSize s) (omega arith) ∙ part-part wholeAt n (k * slotSize) slotSize s (omega arith))
 
-pub asked-number : (k : ℕ) (h : Head) → askedAt k h .number ≡ shown h
+pub asked-number : (k : ℕ) (h : Head) → askedAt k h .number ≡ askNumber h
 asked-number k h = go (ℕ-discrete (h .group) 0)
   where
-    go : Dec (h .group ≡ 0) → askedAt k h .number ≡ shown h
+    go : Dec (h .group ≡ 0) → askedAt k h .number ≡ askNumber h
     go (yes e) = ap (λ (x : Asked). x .number) (asked-none k h e) ∙ sym (shown-none h e)
     go (no ne) = ap (λ (x : Asked). x .number) (asked-group h ne k)
 
@@ -100,7 +100,7 @@ module _ (s : List ℕ) (a : ℕ) (v : Serves s a) where
       ap₂ (λ (x y : Bool). x || y) (le-ltb a 1 (omega (arith, b .address-from, e))) (le-ltb 1022 a (omega (arith, b .address-to, e))) in
       sym (asked-found s a (find s a) _ _ (leave-0 s a (passed s a v) inside (find s a) refl (v .found)) refl refl refl)
 
-  pub ask-here : asked s a .number ≡ shown (view s a .head)
+  pub ask-here : asked s a .number ≡ askNumber (view s a .head)
   unfolding view seenIn
   ask-here = ap (λ (x : Asked). x .number) asked-here ∙ asked-number (find s a) (headOf (slotAt (find s a) s))
 

@@ -22,14 +22,14 @@ use lib.Seq.{take-at, drop-at, take-all, drop-drop}
 use Rattle.bits.proofs.Rows.{done-passed}
 use Rattle.bits.proofs.Runs.{below-take, below-drop}
 use Rattle.image.specs.Image.{spareOf}
-use Rattle.packet.specs.Received.{received, filled, partAs}
+use Rattle.packet.specs.Received.{received, filled, readableAs}
 use Rattle.packet.specs.Damage.{dataSize, sentImage, Corrected}
 use Rattle.packet.specs.Damage as damage
 use Rattle.packet.specs.declared.Reading.{Reading}
 use Rattle.packet.proofs.Damages.{header-came, received-corrected, sent-corrected, sent-spare}
 use Rattle.runs.specs.Part.{part}
 use Rattle.slot.specs.Slot.{headOf}
-use Rattle.head.specs.Head.{shown}
+use Rattle.head.specs.Head.{askNumber}
 use Rattle.head.specs.Move.{perOf, needsOf, rowOf, moveOf, moveNumber, movedHead}
 use Rattle.runs.proofs.Parts.{part-cat, part-length}
 use Rattle.table.specs.State.{slotAt, addressAt, find}
@@ -176,7 +176,7 @@ filled-begins : (n : ℕ) (d : List ℕ) → length d ≡ n → take n (filled 0
 unfolding filled
 filled-begins n d l = take-at d _ n l
 
-event-sent : (q : Bool) (i : ℕ) (d t : List ℕ) → received q t ≡ partAs i d → length d ≡ dataSize q → eventOf q t ≡ one.packet i d
+event-sent : (q : Bool) (i : ℕ) (d t : List ℕ) → received q t ≡ readableAs i d → length d ≡ dataSize q → eventOf q t ≡ one.packet i d
 event-sent q i d t e l =
     event-read q t (ap (λ (r : Reading). r .number) e)
     ∙ ap (λ (r : Reading). one.packet (r .index) (take (dataSize q) (r .bytes))) e
@@ -267,7 +267,7 @@ module _ (s : List ℕ) (a : ℕ) (d : ℕ → List ℕ) where
   unfolding view seenIn after moved perOf needsOf rowOf moveOf movedHead begun joined lastOf
   four-group = refl
 
-  four-fresh : 1 ≤ seen .head .wish .limit → shown (f4 seen d .head) ≡ 5
+  four-fresh : 1 ≤ seen .head .wish .limit → askNumber (f4 seen d .head) ≡ 5
   unfolding view seenIn after moved perOf needsOf rowOf moveOf movedHead
   four-fresh h = shown-5 (f4 seen d .head) (λ e. omega (arith, e)) h (λ e. omega (arith, e))
 
@@ -346,7 +346,7 @@ module _ (s : List ℕ) (a p : ℕ) (m o t0 t1 t2 t3 : List ℕ) (w : Follows s 
         record {
           size = r .serves .size ∙ sym (w .size);
           answers = (λ i. step-0 .number i ∷ step-1 .number i ∷ step-2 .number i ∷ step-3 .number i ∷ []) ∙ four-answers s a d;
-          fresh = ask-here s4 a (r .serves) ∙ ap (λ (g : Followed). shown (g .head)) (r .seen) ∙ four-fresh s a d limit-from;
+          fresh = ask-here s4 a (r .serves) ∙ ap (λ (g : Followed). askNumber (g .head)) (r .seen) ∙ four-fresh s a d limit-from;
           group = shown-here s4 a (r .serves) ∙ ap (λ (g : Followed). g .last) (r .seen) ∙ four-group s a d ∙ fourths-whole q m lm;
           others = λ j h ne. step-3 .others j ne ∙ step-2 .others j ne ∙ step-1 .others j ne ∙ step-0 .others j ne;
         }

@@ -22,7 +22,7 @@ use Rattle.packet.specs.declared.Reading.{Reading}
 use Rattle.packet.proofs.Damages.{sent-corrected, corrected-came, sent-spare, received-sent}
 use Rattle.runs.specs.Part.{put}
 use Rattle.slot.specs.Slot.{slotSize, headOf, withHead}
-use Rattle.head.specs.Head.{shown, goodHead, wishOf, goodWish}
+use Rattle.head.specs.Head.{askNumber, goodHead, wishOf, goodWish}
 use Rattle.head.specs.Move.{perOf, needsOf, rowOf, moveOf, moveNumber, movedHead}
 use Rattle.head.specs.declared.Head.{Head}
 use Rattle.slot.proofs.Goods.{good-load, good-store}
@@ -123,12 +123,12 @@ then-kept c h =
 -- the group is fresh, and the next is begun
 torn-here : cond (ltb 0 (headOf (slotAt (find (run ours (then 0) begun) 17) (run ours (then 0) begun)) .awaited)
     && eqb (asked (run ours (then 0) begun) 17 .number) 5) (blank 360) (askPart (run ours (then 0) begun) 17) ≡ blank 360
-unfolding view seenIn one.run one.followed one.after one.moved one.begun perOf needsOf rowOf moveOf movedHead shown
+unfolding view seenIn one.run one.followed one.after one.moved one.begun perOf needsOf rowOf moveOf movedHead askNumber
 torn-here =
     let k = then-kept 0 (lit< tt) in
     let s = run ours (then 0) begun in
     ap₂ (λ (h : Head) (n : ℕ). cond (ltb 0 (h .awaited) && eqb n 5) (blank 360) (askPart s 17)) (ap (λ (f : one.Followed). f .head) (k .seen))
-    (ask-here s 17 (k .serves) ∙ ap (λ (f : one.Followed). shown (f .head)) (k .seen))
+    (ask-here s 17 (k .serves) ∙ ap (λ (f : one.Followed). askNumber (f .head)) (k .seen))
 
 pub torn-fails : Demand3 torn → ⊥
 unfolding run ourAfter one.followed one.handedOut one.answer one.after one.moved one.begun one.joined one.lastOf perOf needsOf rowOf moveOf moveNumber movedHead latest blank
@@ -156,11 +156,11 @@ silent-fails d =
 -- ---- a board that shows a doubtful group
 
 pub bold-fails : Demand3 bold → ⊥
-unfolding questionAnswer ourAnswer run one.run one.followed one.after one.moved one.begun one.dropped one.joined one.lastOf perOf needsOf rowOf moveOf movedHead shown
+unfolding questionAnswer ourAnswer run one.run one.followed one.after one.moved one.begun one.dropped one.joined one.lastOf perOf needsOf rowOf moveOf movedHead askNumber
 bold-fails d =
     let k = then-kept 2 (lit< tt) in
     let s = run ours (then 2) begun in
-    let six : asked s 17 .number ≡ 6 = ask-here s 17 (k .serves) ∙ ap (λ (f : one.Followed). shown (f .head)) (k .seen) in
+    let six : asked s 17 .number ≡ 6 = ask-here s 17 (k .serves) ∙ ap (λ (f : one.Followed). askNumber (f .head)) (k .seen) in
     let group : askPart s 17 ≡ one.run (then-events 2) (one.followed (wishOf 17 0 2)) .last = shown-here s 17 (k .serves) ∙ ap (λ (f : one.Followed). f .last) (k .seen) in
     let text : askPart s 17 ≡ [] =
     sym (ap (λ (n : ℕ). cond (eqb n 5 || eqb n 6) (askPart s 17) []) six) ∙ d .texts 17 [] s ∙ ap (λ (n : ℕ). cond (eqb n 5) (askPart s 17) []) six in

@@ -17,7 +17,7 @@ use lib.Dec.{lit≤, lit<}
 use Rattle.bits.specs.Bits.{blank}
 use Rattle.bits.proofs.Rows.{done-passed}
 use Rattle.bits.proofs.Storing.{blank-length}
-use Rattle.head.specs.Head.{shown, newHead, wishOf}
+use Rattle.head.specs.Head.{askNumber, newHead, wishOf}
 use Rattle.head.specs.Move.{perOf, needsOf, rowOf, moveOf, movedHead}
 use Rattle.head.proofs.Wishes.{wish-0}
 use Rattle.slot.specs.Slot.{withHead}
@@ -70,16 +70,16 @@ kept-2 = end-step (told-story (subframeEnd ∷ [])) (one.aged as-arrived) kept-1
 
 -- what ask says, and what the board shows with it
 module _ (s : List ℕ) (f : one.Followed) (k : Kept s 17 f) (notice : List ℕ) where
-  says : asked s 17 .number ≡ shown (f .head)
-  says = ask-here s 17 (k .serves) ∙ ap (λ (g : one.Followed). shown (g .head)) (k .seen)
+  says : asked s 17 .number ≡ askNumber (f .head)
+  says = ask-here s 17 (k .serves) ∙ ap (λ (g : one.Followed). askNumber (g .head)) (k .seen)
 
-  board-fresh : shown (f .head) ≡ 5 → boardText s 17 notice ≡ f .last
+  board-fresh : askNumber (f .head) ≡ 5 → boardText s 17 notice ≡ f .last
   unfolding boardText
   board-fresh e =
       ap (λ (b : Bool). cond b (askPart s 17) notice) (eq-eqb (asked s 17 .number) 5 (says ∙ e))
       ∙ shown-here s 17 (k .serves) ∙ ap (λ (g : one.Followed). g .last) (k .seen)
 
-  board-silent : (shown (f .head) ≡ 5 → ⊥) → boardText s 17 notice ≡ notice
+  board-silent : (askNumber (f .head) ≡ 5 → ⊥) → boardText s 17 notice ≡ notice
   unfolding boardText
   board-silent ne =
       ap (λ (b : Bool). cond b (askPart s 17) notice) (ne-eqb (asked s 17 .number) 5 (λ q. ne (sym says ∙ q)))
@@ -93,15 +93,15 @@ abbrev Shows : List ℕ → ℕ → List ℕ → List ℕ → Type 0
 Shows s n notice text = (asked s 17 .number ≡ n) × (boardText s 17 notice ≡ text)
 
 pub arrived-fresh : (notice : List ℕ) → Shows (told-story []) 5 notice (group 4 zeros 0)
-unfolding shown one.followed one.after one.moved one.begun one.joined one.lastOf perOf needsOf rowOf moveOf movedHead
+unfolding askNumber one.followed one.after one.moved one.begun one.joined one.lastOf perOf needsOf rowOf moveOf movedHead
 arrived-fresh notice = (says _ as-arrived kept notice, board-fresh _ as-arrived kept notice refl ∙ four-zeros)
 
 pub silent-fresh : (notice : List ℕ) → Shows (told-story (subframeEnd ∷ [])) 5 notice (group 4 zeros 0)
-unfolding shown one.followed one.after one.moved one.begun one.joined one.lastOf one.aged perOf needsOf rowOf moveOf movedHead
+unfolding askNumber one.followed one.after one.moved one.begun one.joined one.lastOf one.aged perOf needsOf rowOf moveOf movedHead
 silent-fresh notice = (says _ _ kept-1 notice, board-fresh _ _ kept-1 notice refl ∙ four-zeros)
 
 pub silent-stale : (notice : List ℕ) → Shows (told-story (subframeEnd ∷ subframeEnd ∷ [])) 7 notice notice
-unfolding shown one.followed one.after one.moved one.begun one.joined one.lastOf one.aged perOf needsOf rowOf moveOf movedHead
+unfolding askNumber one.followed one.after one.moved one.begun one.joined one.lastOf one.aged perOf needsOf rowOf moveOf movedHead
 silent-stale notice = (says _ _ kept-2 notice, board-silent _ _ kept-2 notice (λ q. stale q))
   where
     stale : _≡_ {A = ℕ} 7 5 → ⊥

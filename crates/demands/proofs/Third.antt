@@ -16,7 +16,7 @@ use native.Mathlib.Omega.{arith}
 use borrow.Author.Tests.{eq-eqb, eqb-true, lt-ltb}
 use lib.Dec.{T, ltb, eqb}
 use Rattle.bits.specs.Rows.{Row, row, refusal}
-use Rattle.head.specs.Head.{wishRows, shown}
+use Rattle.head.specs.Head.{wishRows, askNumber}
 use Rattle.head.specs.declared.Wish.{Wish}
 use Rattle.head.proofs.Bounds.{WishBounds, wish-bounds}
 use Rattle.slot.specs.Slot.{headOf}
@@ -78,7 +78,7 @@ module _ (s : List ℕ) (a : ℕ) (v : Serves s a) (f : one.Followed) (seen : vi
         ∙ ap (λ (q : Bool). one.answer (eventOf q image) (one.run (eventsOf a p h) f)) (ap (λ (n : ℕ). eqb n 1) (run-protection (eventsOf a p h) f));
     asks = λ h st.
         let r = ran h st in
-        ask-here (run ours h s) a (r .serves) ∙ ap (λ (g : one.Followed). shown (g .head)) (r .seen)
+        ask-here (run ours h s) a (r .serves) ∙ ap (λ (g : one.Followed). askNumber (g .head)) (r .seen)
         ∙ tells-run (f .head .wish .limit) k (eventsOf a p h) f t tells;
     shows = λ h st.
         let r = ran h st in
@@ -145,10 +145,10 @@ module _ (s : List ℕ) (w : Wish) (e : followAnswer s w ≡ 0) where
   unfolding questionAnswer ourAnswer
   missed sent k n h ch =
       let r = run-acts (calls h) t a (begun .serves) (channel-stays guarded a sent n h ch) in
-      let same : asked (run ours (calls h) t) a .number ≡ shown (one.run (events sent (arrivals guarded h)) (one.followed w) .head) =
-      ask-here (run ours (calls h) t) a (r .serves) ∙ ap (λ (f : one.Followed). shown (f .head)) (r .seen)
-      ∙ ap₂ (λ (b : Bool) (f : one.Followed). shown (one.run (eventsOf a b (calls h)) f .head)) begun-by (begun .seen)
-      ∙ ap (λ (es : List one.Event). shown (one.run es (one.followed w) .head)) (sym (channel-events guarded a sent low k n h ch)) in
+      let same : asked (run ours (calls h) t) a .number ≡ askNumber (one.run (events sent (arrivals guarded h)) (one.followed w) .head) =
+      ask-here (run ours (calls h) t) a (r .serves) ∙ ap (λ (f : one.Followed). askNumber (f .head)) (r .seen)
+      ∙ ap₂ (λ (b : Bool) (f : one.Followed). askNumber (one.run (eventsOf a b (calls h)) f .head)) begun-by (begun .seen)
+      ∙ ap (λ (es : List one.Event). askNumber (one.run es (one.followed w) .head)) (sym (channel-events guarded a sent low k n h ch)) in
       subst (Judged 4 (w .limit) (arrivals guarded h)) (sym same)
       (nothing-missed-four w (bounds .limit-from) (bounds .limit-to) sent n (arrivals guarded h) (channel-order guarded a sent n h ch))
 
@@ -173,7 +173,7 @@ module _ (a : ℕ) (s u : List ℕ) (v : Serves s a) (w : Serves u a) (same : vi
   unfolding questionAnswer askedOf
   question-alike (ask b) e =
       subst (λ (n : ℕ). asked s n .number ≡ asked u n .number) (sym e)
-      (ask-here s a v ∙ ap (λ (f : one.Followed). shown (f .head)) same ∙ sym (ask-here u a w))
+      (ask-here s a v ∙ ap (λ (f : one.Followed). askNumber (f .head)) same ∙ sym (ask-here u a w))
 
   answer-alike : (x : Call) → Stays a x → concerns a x ≡ true → ourAnswer x s ≡ ourAnswer x u
   unfolding ourAnswer Stays concerns

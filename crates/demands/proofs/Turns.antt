@@ -14,7 +14,7 @@ use mathlib.Core.List.{List, [], _∷_, _++_}
 use Prim.Native.Nat.{ℕ, _<_}
 use lib.Dec.{lit<}
 use Rattle.bits.specs.Bits.{blank}
-use Rattle.head.specs.Head.{shown, wishOf}
+use Rattle.head.specs.Head.{askNumber, wishOf}
 use Rattle.table.specs.Calls.{followAnswer, followAfter}
 use Rattle.asking.specs.Asking.{asked}
 use Rattle.history.specs.Followed as one
@@ -104,5 +104,5 @@ module _ (l : ℕ) (e : followAnswer empty-state (wishOf 17 0 l) ≡ 0) (g : Lis
   pub whole : Kept state-4 17 view-4
   whole = acts _ _ (step-3 .next)
 
-  pub says : asked state-4 17 .number ≡ shown (view-4 .head)
-  says = ask-here state-4 17 (whole .serves) ∙ ap (λ (f : one.Followed). shown (f .head)) (whole .seen)
+  pub says : asked state-4 17 .number ≡ askNumber (view-4 .head)
+  says = ask-here state-4 17 (whole .serves) ∙ ap (λ (f : one.Followed). askNumber (f .head)) (whole .seen)

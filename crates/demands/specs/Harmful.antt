@@ -71,8 +71,8 @@ followed w s = followAfter s w
 abbrev left : ℕ → List ℕ → List ℕ
 left a s = leaveAfter s a
 
-abbrev taken : List ℕ → List ℕ → List ℕ
-taken image s = packetAfter s image
+abbrev arrived : List ℕ → List ℕ → List ℕ
+arrived image s = packetAfter s image
 
 abbrev showing : (ℕ → List ℕ → List ℕ) → (ℕ → List ℕ → List ℕ → Board) → Machine
 showing shown board =
@@ -149,14 +149,14 @@ knowing = but (answering follows takes endAnswer (asking (λ a s. cond (eqb (ask
 -- ---- what is left
 
 abbrev pub clinging : Machine
-clinging = but ourAnswer (leaving startAfter followed (λ a s. s) taken endAfter)
+clinging = but ourAnswer (leaving startAfter followed (λ a s. s) arrived endAfter)
 
 unfoldable pub roomless : ℕ → ℕ → List ℕ → List ℕ
 roomless zero k s = s
 roomless (suc n) k s = roomless n (suc k) (withSlot k (withStored (blank roomSize) (withUnfinished (blank roomSize) (slotAt k s))) s)
 
 abbrev pub halfStarted : Machine
-halfStarted = but ourAnswer (leaving (roomless slots 0) followed left taken endAfter)
+halfStarted = but ourAnswer (leaving (roomless slots 0) followed left arrived endAfter)
 
 abbrev pub crowd : ℕ → ℕ → List Call
 crowd p l =
@@ -168,13 +168,13 @@ crowd p l =
 
 abbrev pub greedy : Machine
 greedy =
-    but ourAnswer (leaving startAfter (λ w s. done (followAnswer s w) (run ours (crowd (w .protection) (w .limit)) (followAfter s w)) s) left taken endAfter)
+    but ourAnswer (leaving startAfter (λ w s. done (followAnswer s w) (run ours (crowd (w .protection) (w .limit)) (followAfter s w)) s) left arrived endAfter)
 
 abbrev pub leaking : Machine
-leaking = but ourAnswer (leaving startAfter followed (λ a s. done (leaveAnswer s a) (followAfter (leaveAfter s a) (wishOf 500 0 1)) s) taken endAfter)
+leaking = but ourAnswer (leaving startAfter followed (λ a s. done (leaveAnswer s a) (followAfter (leaveAfter s a) (wishOf 500 0 1)) s) arrived endAfter)
 
 abbrev pub brittle : Machine
-brittle = but ourAnswer (leaving startAfter followed left taken (λ s. cond (free s) (1 ∷ blank (stateSize - 1)) (endAfter s)))
+brittle = but ourAnswer (leaving startAfter followed left arrived (λ s. cond (free s) (1 ∷ blank (stateSize - 1)) (endAfter s)))
 
 -- ---- right only from a follow on
 

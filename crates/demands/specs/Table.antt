@@ -4,7 +4,7 @@
 --   Good s                  a good state of the right length
 --   addressAfter x s k      the address of slot k after a call: "Follow takes the lowest free slot", "Leave sets the slot to 0"
 --   member a l              an address is one of a list
---   taken w l               a follow of which no row holds, written out once more, where the addresses of l are followed
+--   accepts w l             a follow of which no row holds, written out once more, where the addresses of l are followed
 --   followNow x l           the addresses that are followed after a call, where those of l were before it
 --   followedAfter h l       and after a list of calls; from a start on l is []
 --   ByHistory m l t         what the calls answer on a state t in which the addresses of l are followed
@@ -52,13 +52,13 @@ without a [] = []
 without a (b ∷ l) = cond (eqb a b) l (b ∷ without a l)
 
 -- a follow that is accepted: address 1 to 1,022, protection 0 or 1, limit 1 to 1,500, not followed yet, and fewer than sixteen are
-unfoldable pub taken : Wish → List ℕ → Bool
-taken w l =
+unfoldable pub accepts : Wish → List ℕ → Bool
+accepts w l =
     within 1 1022 (w .address) && (leb (w .protection) 1 && (within 1 1500 (w .limit) && (not (member (w .address) l) && ltb (length l) 16)))
 
 unfoldable pub followNow : Call → List ℕ → List ℕ
 followNow start l = []
-followNow (follow w) l = cond (taken w l) (w .address ∷ l) l
+followNow (follow w) l = cond (accepts w l) (w .address ∷ l) l
 followNow (leave a) l = without a l
 followNow (packet image) l = l
 followNow subframeEnd l = l

@@ -12,8 +12,8 @@ use Prim.Native.Nat.{ℕ, suc, _+_, _*_, _/_, _%_, _^_, _<_}
 use native.Mathlib.Omega.{arith}
 use lib.ListN.{length, length-append}
 use lib.Pow.{shr-shr}
-use Rattle.bits.specs.Bits.{bitsOf, number, taken}
-use Rattle.bits.proofs.Runs.{Below, below-cat, bitsOf-length, bitsOf-below, number-cat, number-bits-small, taken-bits, bits-number}
+use Rattle.bits.specs.Bits.{bitsOf, number, numbersIn}
+use Rattle.bits.proofs.Runs.{Below, below-cat, bitsOf-length, bitsOf-below, number-cat, number-bits-small, numbersIn-bits, bits-number}
 use Rattle.runs.specs.Numbers.{four, eight}
 use Rattle.field.specs.Field.{fieldBits, fieldBytes}
 use Rattle.field.specs.declared.Field.{Field}
@@ -59,26 +59,26 @@ field-number r h =
 -- ---- ten bytes
 
 taken-four : (k m n : ℕ) (rest : List ℕ)
-    → taken 8 (suc (suc (suc (suc k)))) (bitsOf (8 + (8 + (8 + (8 + m)))) n ++ rest)
-    ≡ four n ++ taken 8 k (bitsOf m (n / 2 ^ 32) ++ rest)
+    → numbersIn 8 (suc (suc (suc (suc k)))) (bitsOf (8 + (8 + (8 + (8 + m)))) n ++ rest)
+    ≡ four n ++ numbersIn 8 k (bitsOf m (n / 2 ^ 32) ++ rest)
 unfolding four
 taken-four k m n rest =
     let two : n / 256 / 256 ≡ n / 2 ^ 16 = shr-shr n 8 8 in
     let three : n / 256 / 256 / 256 ≡ n / 2 ^ 24 = ap (λ (x : ℕ). x / 256) two ∙ shr-shr n 16 8 in
     let four : n / 256 / 256 / 256 / 256 ≡ n / 2 ^ 32 = ap (λ (x : ℕ). x / 256) three ∙ shr-shr n 24 8 in
-    taken-bits 8 (suc (suc (suc k))) (8 + (8 + (8 + m))) n rest
-    ∙ ap (λ (xs : List ℕ). n % 256 ∷ xs) (taken-bits 8 (suc (suc k)) (8 + (8 + m)) (n / 256) rest
-    ∙ ap (λ (xs : List ℕ). n / 256 % 256 ∷ xs) (taken-bits 8 (suc k) (8 + m) (n / 256 / 256) rest
-    ∙ ap₂ (λ (x : ℕ) (xs : List ℕ). x % 256 ∷ xs) two (taken-bits 8 k m (n / 256 / 256 / 256) rest
-    ∙ ap₂ (λ (x y : ℕ). x % 256 ∷ taken 8 k (bitsOf m y ++ rest)) three four)))
+    numbersIn-bits 8 (suc (suc (suc k))) (8 + (8 + (8 + m))) n rest
+    ∙ ap (λ (xs : List ℕ). n % 256 ∷ xs) (numbersIn-bits 8 (suc (suc k)) (8 + (8 + m)) (n / 256) rest
+    ∙ ap (λ (xs : List ℕ). n / 256 % 256 ∷ xs) (numbersIn-bits 8 (suc k) (8 + m) (n / 256 / 256) rest
+    ∙ ap₂ (λ (x : ℕ) (xs : List ℕ). x % 256 ∷ xs) two (numbersIn-bits 8 k m (n / 256 / 256 / 256) rest
+    ∙ ap₂ (λ (x y : ℕ). x % 256 ∷ numbersIn 8 k (bitsOf m y ++ rest)) three four)))
 
-taken-ten : (n : ℕ) → taken 8 10 (bitsOf 80 n) ≡ n % 256 ∷ n / 256 % 256 ∷ eight (n / 65536)
-unfolding eight taken
+taken-ten : (n : ℕ) → numbersIn 8 10 (bitsOf 80 n) ≡ n % 256 ∷ n / 256 % 256 ∷ eight (n / 65536)
+unfolding eight numbersIn
 taken-ten n =
-    ap (taken 8 10) (sym (append-nil (bitsOf 80 n)))
-    ∙ taken-bits 8 9 72 n []
-    ∙ ap (λ (xs : List ℕ). n % 256 ∷ xs) (taken-bits 8 8 64 (n / 256) []
-    ∙ ap (λ (xs : List ℕ). n / 256 % 256 ∷ xs) (ap (λ (x : ℕ). taken 8 8 (bitsOf 64 x ++ [])) (shr-shr n 8 8)
+    ap (numbersIn 8 10) (sym (append-nil (bitsOf 80 n)))
+    ∙ numbersIn-bits 8 9 72 n []
+    ∙ ap (λ (xs : List ℕ). n % 256 ∷ xs) (numbersIn-bits 8 8 64 (n / 256) []
+    ∙ ap (λ (xs : List ℕ). n / 256 % 256 ∷ xs) (ap (λ (x : ℕ). numbersIn 8 8 (bitsOf 64 x ++ [])) (shr-shr n 8 8)
     ∙ taken-four 4 32 (n / 65536) []
     ∙ ap (λ (xs : List ℕ). four (n / 65536) ++ xs) (taken-four 0 0 (n / 65536 / 2 ^ 32) []
     ∙ append-nil (four (n / 65536 / 2 ^ 32)))))
@@ -98,4 +98,4 @@ bytes r h =
     let q = digits (r .count) (r .flag) (r .id) (r .tdms) (r .links) n (h .count) (h .flag) (h .id) (field-number r h) in
     let whole : bitsOf 80 n ≡ fieldBits r =
     ap (λ (x : ℕ). bitsOf x n) (sym (bits-length r)) ∙ bits-number (fieldBits r) (bits-below r) in
-    ap (taken 8 10) (sym whole) ∙ taken-ten n ∙ (λ i. q .0 i ∷ q .1 i ∷ eight (q .2 i))
+    ap (numbersIn 8 10) (sym whole) ∙ taken-ten n ∙ (λ i. q .0 i ∷ q .1 i ∷ eight (q .2 i))

@@ -14,8 +14,8 @@ use native.Mathlib.Omega.{arith}
 use lib.ListN.{length, take, drop, length-drop}
 use lib.Seq.{take-all}
 use lib.Pow.{shr-shr}
-use Rattle.bits.specs.Bits.{bitsOf, number, sent, taken}
-use Rattle.bits.proofs.Runs.{Below, below-drop, bits-front, digit, digit-lt, sent-below, sent-length, sent-taken, taken-length, taken-below, taken-sent}
+use Rattle.bits.specs.Bits.{bitsOf, number, sent, numbersIn}
+use Rattle.bits.proofs.Runs.{Below, below-drop, bits-front, digit, digit-lt, sent-below, sent-length, sent-numbersIn, numbersIn-length, numbersIn-below, numbersIn-sent}
 use Rattle.runs.specs.Part.{part}
 use Rattle.runs.proofs.Parts.{part-cat}
 use Rattle.field.specs.Field.{bitsAt, fieldOf, fieldBits, fieldBytes, fln1, lln1, fln2, lln2, fcp, lcp, tdmsOf, numbersOf}
@@ -24,11 +24,11 @@ use Rattle.field.proofs.Bytes.{bits-length, bits-below, Within, field-n
 
 pub written-length : (r : Field) → length (fieldBytes r) ≡ 10
 unfolding fieldBytes
-written-length r = taken-length 8 10 (fieldBits r)
+written-length r = numbersIn-length 8 10 (fieldBits r)
 
 pub written-below : (r : Field) → Below 256 (fieldBytes r)
 unfolding fieldBytes
-written-below r = taken-below 8 10 (fieldBits r) (bits-below r)
+written-below r = numbersIn-below 8 10 (fieldBits r) (bits-below r)
 
 -- ---- what is read
 
@@ -52,7 +52,7 @@ field-bounds f = record {
 sent-again : (r : Field) → sent 8 (fieldBytes r) ≡ fieldBits r
 unfolding fieldBytes
 sent-again r =
-    sent-taken 8 10 (fieldBits r) (bits-below r) (omega (arith, bits-length r))
+    sent-numbersIn 8 10 (fieldBits r) (bits-below r) (omega (arith, bits-length r))
     ∙ take-all 80 (fieldBits r) (omega (arith, bits-length r))
 
 bits-again : (i w : ℕ) (r : Field) → bitsAt i w (fieldBytes r) ≡ number (fieldBits r) / 2 ^ i % 2 ^ w
@@ -100,9 +100,9 @@ written-read f l h =
     (ap₂ _++_ (part-bits 17 62 f (omega arith)) (part-bits 79 1 f (omega arith))
     ∙ sym (part-cat 17 62 1 bs)) ∙ sym (part-cat 9 8 63 bs)) ∙ sym (part-cat 8 1 71 bs)) ∙ sym (part-cat 0 8 72 bs) in
     let whole : part 0 80 bs ≡ bs = take-all 80 bs (omega arith) in
-    ap (taken 8 10) (cut ∙ whole ∙ sym (append-nil bs))
-    ∙ ap (λ (k : ℕ). taken 8 k (bs ++ [])) (sym l)
-    ∙ taken-sent 8 f [] h
+    ap (numbersIn 8 10) (cut ∙ whole ∙ sym (append-nil bs))
+    ∙ ap (λ (k : ℕ). numbersIn 8 k (bs ++ [])) (sym l)
+    ∙ numbersIn-sent 8 f [] h
 
 -- ---- six numbers
 

@@ -4,7 +4,7 @@ use mathlib.Core.Path.{_≡_, refl}
 use mathlib.Core.Bool.{Bool, true, false}
 use mathlib.Core.List.{List, [], _∷_}
 use Prim.Native.Nat.{ℕ}
-use Rattle.bits.specs.Bits.{bitsOf, number, sent, taken}
+use Rattle.bits.specs.Bits.{bitsOf, number, sent, numbersIn}
 use Rattle.field.specs.Field.{bitsAt, fieldOf, fieldBits, fieldBytes, fln1, lln1, fln2, lln2, fcp, lcp, tdmsOf, badPair, badTdms, deletes, badField, numbersOf}
 use Rattle.field.specs.declared.Field.{Field}
 use Rattle.field.specs.declared.Tdms.{Tdms}
@@ -24,5 +24,5 @@ pub annex-c :
     Row (254 ∷ 2 ∷ 0 ∷ 112 ∷ 243 ∷ 255 ∷ 255 ∷ 19 ∷ 208 ∷ 140 ∷ []) 254 0 1 1 (numbers 0 622 1023 1023 9 205) false
     × Row (118 ∷ 65 ∷ 22 ∷ 168 ∷ 160 ∷ 168 ∷ 166 ∷ 202 ∷ 177 ∷ 80 ∷ []) 118 1 32 0 (numbers 11 21 325 333 229 1291) false
     × Row (117 ∷ 67 ∷ 254 ∷ 255 ∷ 255 ∷ 255 ∷ 255 ∷ 255 ∷ 255 ∷ 127 ∷ []) 117 1 33 0 (numbers 1023 1023 1023 1023 2047 2047) true
-unfolding bitsOf number sent taken bitsAt fieldOf fieldBits fieldBytes fln1 lln1 fln2 lln2 fcp lcp tdmsOf badPair badTdms badField numbersOf deletes
+unfolding bitsOf number sent numbersIn bitsAt fieldOf fieldBits fieldBytes fln1 lln1 fln2 lln2 fcp lcp tdmsOf badPair badTdms badField numbersOf deletes
 annex-c = ((refl, refl, refl, refl, refl), (refl, refl, refl, refl, refl), (refl, refl, refl, refl, refl))

@@ -23,7 +23,7 @@ use mathlib.Core.List.{List, [], _∷_, _++_}
 use Prim.Native.Nat.{ℕ, _+_, _-_, _*_, _/_, _%_, _^_}
 use lib.Dec.{ltb, eqb, leb}
 use lib.ListN.{length, take, drop}
-use Rattle.bits.specs.Bits.{bitsOf, number, sent, taken}
+use Rattle.bits.specs.Bits.{bitsOf, number, sent, numbersIn}
 use Rattle.bits.specs.Rows.{row, refusal, given, done}
 use Rattle.field.specs.declared.Field.{Field}
 use Rattle.field.specs.declared.Tdms.{Tdms}
@@ -48,7 +48,7 @@ fieldBits r =
     bitsOf 8 (r .count) ++ (bitsOf 1 (r .flag) ++ (bitsOf 8 (r .id) ++ (bitsOf 62 (r .tdms) ++ bitsOf 1 (r .links))))
 
 unfoldable pub fieldBytes : Field → List ℕ
-fieldBytes r = taken 8 fieldSize (fieldBits r)
+fieldBytes r = numbersIn 8 fieldSize (fieldBits r)
 
 -- ---- the structure's six numbers
 

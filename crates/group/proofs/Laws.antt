@@ -19,7 +19,7 @@ use lib.ListN.{length, length-append}
 use Rattle.bits.specs.Bits.{blank}
 use Rattle.bits.proofs.Storing.{blank-length}
 use Rattle.runs.specs.Part.{part, put}
-use Rattle.slot.specs.Slot.{headOf, withHead, unfinished, stored, withUnfinished, withStored, kept}
+use Rattle.slot.specs.Slot.{headOf, withHead, unfinished, stored, withUnfinished, withStored, keptRoom}
 use Rattle.head.specs.Head.{droppedHead, goodHead}
 use Rattle.head.specs.Move.{Move, started, held, whole, outOfStep, needsOf, movedHead, rowAt, placeAt}
 use Rattle.head.specs.declared.Head.{Head}
@@ -66,13 +66,13 @@ placed-begins c m b r l h lb e =
     ∙ part-cat 0 (c * n) n (put (c * n) n b r)
     ∙ ap₂ (λ (u v : List ℕ). u ++ v) (part-put-before (c * n) n b r 0 (c * n) (omega arith) (omega arith)) there
 
-kept-length : (n : ℕ) (r : List ℕ) → n ≤ 360 → length r ≡ 360 → length (kept n r) ≡ 360
-unfolding kept
+kept-length : (n : ℕ) (r : List ℕ) → n ≤ 360 → length r ≡ 360 → length (keptRoom n r) ≡ 360
+unfolding keptRoom
 kept-length n r h l =
     length-append (part 0 n r) (blank (360 - n)) ∙ omega (arith, part-length 0 n r (omega arith), blank-length (360 - n))
 
-kept-begins : (n : ℕ) (r : List ℕ) → n ≤ 360 → length r ≡ 360 → part 0 n (kept n r) ≡ part 0 n r
-unfolding kept
+kept-begins : (n : ℕ) (r : List ℕ) → n ≤ 360 → length r ≡ 360 → part 0 n (keptRoom n r) ≡ part 0 n r
+unfolding keptRoom
 kept-begins n r h l =
     let ln = part-length 0 n r (omega arith) in
     part-front 0 n (part 0 n r) (blank (360 - n)) (omega arith) ∙ part-part 0 n 0 n r (omega arith) ∙ refl
@@ -81,11 +81,11 @@ kept-begins n r h l =
 
 module _ (n : ℕ) (t : List ℕ) (l : length t ≡ 736) (h : n ≤ 360) where
   -- the room that is kept, and the slot with it
-  kept-room : length (kept n (unfinished t)) ≡ 360
+  kept-room : length (keptRoom n (unfinished t)) ≡ 360
   kept-room = kept-length n (unfinished t) h (unfinished-room t l)
 
-  stored-long : length (withStored (kept n (unfinished t)) t) ≡ 736
-  stored-long = stored-length (kept n (unfinished t)) t l kept-room ∙ l
+  stored-long : length (withStored (keptRoom n (unfinished t)) t) ≡ 736
+  stored-long = stored-length (keptRoom n (unfinished t)) t l kept-room ∙ l
 
   keeps-size : length (roomsKept n t) ≡ 736
   unfolding roomsKept
@@ -95,9 +95,9 @@ module _ (n : ℕ) (t : List ℕ) (l : length t ≡ 736) (h : n ≤ 360) where
   unfolding roomsKept
   keeps-room = unfinished-put (blank 360) _ stored-long (blank-length 360)
 
-  keeps-stored : stored (roomsKept n t) ≡ kept n (unfinished t)
+  keeps-stored : stored (roomsKept n t) ≡ keptRoom n (unfinished t)
   unfolding roomsKept
-  keeps-stored = unfinished-stored (blank 360) _ stored-long (blank-length 360) ∙ stored-put (kept n (unfinished t)) t l kept-room
+  keeps-stored = unfinished-stored (blank 360) _ stored-long (blank-length 360) ∙ stored-put (keptRoom n (unfinished t)) t l kept-room
 
 -- c packets and one more
 packets : (c : ℕ) (b : List ℕ) → (c + 1) * length b ≡ c * length b + length b
@@ -194,7 +194,7 @@ module _ (c : ℕ) (b x : List ℕ) where
       moved-unfinished whole c b x f
       ∙ keeps-room ((c + 1) * length b) (slotJoined c b x) (joined-size whole c b x f) (within c b (f .place) (short whole c b x f))
 
-  pub whole-stored : Fits whole c b x → stored (slotMoved whole c b x) ≡ kept ((c + 1) * length b) (unfinished (slotJoined c b x))
+  pub whole-stored : Fits whole c b x → stored (slotMoved whole c b x) ≡ keptRoom ((c + 1) * length b) (unfinished (slotJoined c b x))
   unfolding roomsMoved
   whole-stored f =
       moved-stored whole c b x f

@@ -11,7 +11,7 @@ use mathlib.Core.Path.{_≡_, refl}
 use mathlib.Core.List.{[], _∷_}
 use Prim.Native.Nat.{ℕ}
 use Rattle.bits.specs.Rows.{further}
-use Rattle.packet.specs.Received.{refusedAs, partAs}
+use Rattle.packet.specs.Received.{refusedAs, readableAs}
 use Rattle.packet.specs.declared.Reading.{Reading}
 use Rattle.head.specs.Head.{wishOf}
 use Rattle.head.specs.Move.{perOf, needsOf, rowOf, moveOf, moveNumber}
@@ -20,7 +20,7 @@ use Rattle.group.specs.declared.Answer.{Answer}
 use Rattle.group.specs.Group.{taken, takenNumber}
 
 abbrev readable : ℕ → Reading
-readable c = partAs c []
+readable c = readableAs c []
 
 abbrev awaiting : ℕ → Head
 awaiting a = record { wish = wishOf 17 1 2; age = 0; awaited = a; group = 0; gap = 0 }

@@ -21,7 +21,7 @@ use lib.ListN.{length, take}
 use Rattle.bits.specs.Bits.{blank}
 use Rattle.bits.specs.Rows.{further, done}
 use Rattle.runs.specs.Part.{put}
-use Rattle.slot.specs.Slot.{roomSize, headOf, withHead, unfinished, withUnfinished, withStored, kept}
+use Rattle.slot.specs.Slot.{roomSize, headOf, withHead, unfinished, withUnfinished, withStored, keptRoom}
 use Rattle.head.specs.Head.{droppedHead}
 use Rattle.head.specs.Move.{Move, started, held, whole, outOfStep, moveNumber, movedHead, rowAt, placeAt}
 use Rattle.head.specs.declared.Head.{Head}
@@ -48,7 +48,7 @@ unfoldable pub slotJoined : ℕ → List ℕ → List ℕ → List ℕ
 slotJoined c b s = withUnfinished (placed c b (begunRoom c (unfinished s))) s
 
 unfoldable pub roomsKept : ℕ → List ℕ → List ℕ
-roomsKept n s = withUnfinished (blank roomSize) (withStored (kept n (unfinished s)) s)
+roomsKept n s = withUnfinished (blank roomSize) (withStored (keptRoom n (unfinished s)) s)
 
 unfoldable pub roomsMoved : Move → ℕ → List ℕ → List ℕ → List ℕ
 roomsMoved started c b s = slotJoined c b s

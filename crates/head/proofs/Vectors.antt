@@ -15,7 +15,7 @@ use mathlib.Core.Path.{_≡_, refl}
 use mathlib.Core.Bool.{Bool, true, false}
 use mathlib.Core.List.{List, [], _∷_, map}
 use Prim.Native.Nat.{ℕ}
-use Rattle.head.specs.Head.{wishOf, goodWish, newHead, agedHead, shown, goodHead}
+use Rattle.head.specs.Head.{wishOf, goodWish, newHead, agedHead, askNumber, goodHead}
 use Rattle.head.specs.Move.{rowOf, moveOf, moveNumber, movedHead}
 use Rattle.head.specs.declared.Head.{Head}
 
@@ -56,10 +56,10 @@ ages = refl
 
 -- ---- section 5: 4 nothing yet, 7 stale from the limit on, 6 doubtful, 5 fresh
 
-pub freshness : (map (λ (n : ℕ). shown (head 0 1 0 n)) (0 ∷ 1 ∷ 2 ∷ 3 ∷ []) ≡ (5 ∷ 5 ∷ 7 ∷ 7 ∷ []))
-    × (map (λ (n : ℕ). shown (head 0 1 1 n)) (0 ∷ 1 ∷ 2 ∷ []) ≡ (6 ∷ 6 ∷ 7 ∷ []))
-    × (map (λ (n : ℕ). shown (head 0 0 n 0)) (0 ∷ 1 ∷ []) ≡ (4 ∷ 4 ∷ []))
-unfolding shown
+pub freshness : (map (λ (n : ℕ). askNumber (head 0 1 0 n)) (0 ∷ 1 ∷ 2 ∷ 3 ∷ []) ≡ (5 ∷ 5 ∷ 7 ∷ 7 ∷ []))
+    × (map (λ (n : ℕ). askNumber (head 0 1 1 n)) (0 ∷ 1 ∷ 2 ∷ []) ≡ (6 ∷ 6 ∷ 7 ∷ []))
+    × (map (λ (n : ℕ). askNumber (head 0 0 n 0)) (0 ∷ 1 ∷ []) ≡ (4 ∷ 4 ∷ []))
+unfolding askNumber
 freshness = (refl, refl, refl)
 
 pub ageing : (map (λ (n : ℕ). agedHead (head 0 1 0 n) .age) (0 ∷ 1 ∷ 1499 ∷ 1500 ∷ []) ≡ (1 ∷ 2 ∷ 1500 ∷ 1500 ∷ []))

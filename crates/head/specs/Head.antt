@@ -5,7 +5,7 @@
 --   freeHead, newHead w          all 0; as follow makes it: awaited index, marks and age 0
 --   startedHead .. droppedHead   by the rows of section 4's table
 --   agedHead                     by a subframe end, section 5
---   shown h                      what ask says of a followed address: 4, 7, 6 or 5
+--   askNumber h                  what ask says of a followed address: 4, 7, 6 or 5
 --   goodHead h                   within the bounds of section 3
 use mathlib.Core.Bool.{Bool, cond, not, _&&_}
 use mathlib.Core.List.{List, [], _∷_}
@@ -76,8 +76,8 @@ agedHead h = record {
 
 -- Section 5, what ask says of a followed address: "4 nothing yet; otherwise 7 stale if the age is the limit or more; otherwise
 -- 6 doubtful if a gap is marked; otherwise 5 fresh"
-unfoldable pub shown : Head → ℕ
-shown h = cond (eqb (h .group) 0) 4 (cond (leb (h .wish .limit) (h .age)) 7 (cond (eqb (h .gap) 1) 6 5))
+unfoldable pub askNumber : Head → ℕ
+askNumber h = cond (eqb (h .group) 0) 4 (cond (leb (h .wish .limit) (h .age)) 7 (cond (eqb (h .gap) 1) 6 5))
 
 -- a wish that is good, "awaited index 0 to 3, marks 0 or 1, age at most 1,500"
 unfoldable pub goodHead : Head → Bool

@@ -17,7 +17,7 @@ use Prim.Native.Nat.{ℕ, suc, _+_, _≤_}
 use native.Mathlib.Omega.{arith}
 use lib.Dec.{leb, ltb, eqb}
 use borrow.Author.Tests.{ltb-true, ltb-false, lt-ltb, le-leb}
-use Rattle.head.specs.Head.{newHead, droppedHead, agedHead, shown}
+use Rattle.head.specs.Head.{newHead, droppedHead, agedHead, askNumber}
 use Rattle.head.specs.Move.{Move, started, held, whole, outOfStep, moveOf, moveNumber, movedHead}
 use Rattle.head.specs.declared.Head.{Head}
 use Rattle.head.specs.declared.Wish.{Wish}
@@ -108,8 +108,8 @@ module _ (limit : ℕ) (h : Head) (t : List Entry) (s : Tells limit h t) where
     age = λ e. aged-next (h .group) (h .age) (ends (sinceWhole t)) (s .grouped ∙ ap (λ (b : Bool). cond b 1 0) e) (s .age e);
   }
 
-  tells-shown : limit ≤ 1500 → shown h ≡ called limit t
-  unfolding shown called
+  tells-shown : limit ≤ 1500 → askNumber h ≡ called limit t
+  unfolding askNumber called
   tells-shown k = rw (s .grouped, s .gapped, s .limited) (go (anyWhole t) (marked (sinceWhole t)) refl)
     where
       go : (w m : Bool) → anyWhole t ≡ w
@@ -127,16 +127,16 @@ tells-after limit f t s (refused r) = rw (all-drop r) (tells-refused limit (f .h
 tells-after limit f t s ended = tells-aged limit (f .head) t s
 
 pub tells-run : (limit : ℕ) → limit ≤ 1500 → (es : List Event) (f : Followed) (t : List Entry) → Tells limit (f .head) t
-    → shown (run es f .head) ≡ called limit (told es f t)
+    → askNumber (run es f .head) ≡ called limit (told es f t)
 unfolding run told
 tells-run limit k [] f t s = tells-shown limit (f .head) t s k
 tells-run limit k (e ∷ es) f t s = tells-run limit k es (after e f) (entry e f ∷ t) (tells-after limit f t s e)
 
 pub freshness : (f : Followed) → f .head .awaited ≡ 0 → f .head .group ≡ 0 → f .head .gap ≡ 0 → f .head .wish .limit ≤ 1500 → (es : List Event)
-    → shown (run es f .head) ≡ called (f .head .wish .limit) (told es f [])
+    → askNumber (run es f .head) ≡ called (f .head .wish .limit) (told es f [])
 freshness f w g m k es = tells-run (f .head .wish .limit) k es f [] (tells-none (f .head) w g m)
 
 pub freshness-four : (w : Wish) → 1 ≤ w .limit → w .limit ≤ 1500 → (es : List Event)
-    → shown (run es (followed w) .head) ≡ called (w .limit) (told es (followed w) [])
+    → askNumber (run es (followed w) .head) ≡ called (w .limit) (told es (followed w) [])
 unfolding followed
 freshness-four w h k es = freshness (followed w) refl refl refl k es

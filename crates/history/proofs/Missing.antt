@@ -22,7 +22,7 @@ use native.Mathlib.Omega.{arith}
 use native.Mathlib.Decide.{decLe}
 use lib.Dec.{leb, eqb, lit<}
 use borrow.Author.Tests.{le-leb, lt-leb}
-use Rattle.head.specs.Head.{wishOf, newHead, shown}
+use Rattle.head.specs.Head.{wishOf, newHead, askNumber}
 use Rattle.head.specs.Move.{Move, whole, perOf, needsOf, moveOf, movedHead}
 use Rattle.head.specs.declared.Head.{Head}
 use Rattle.head.proofs.Moves.{move-whole, moved-wish}
@@ -132,8 +132,8 @@ limit-run (refused r ∷ es) f =
 limit-run (ended ∷ es) f = limit-run es (aged f)
 
 stands-shown : (per limit i : ℕ) (l : List Arrival) (h : Head) → limit ≤ 1500 → h .wish .limit ≡ limit → Stands per i l h
-    → shown h ≡ cond (leb limit (endings l)) 7 (cond (eqb (h .gap) 1) 6 5)
-unfolding shown
+    → askNumber h ≡ cond (leb limit (endings l)) 7 (cond (eqb (h .gap) 1) 6 5)
+unfolding askNumber
 stands-shown per limit i l h k e s = rw (s .group, e, aged-limit limit (h .age) (endings l) k (s .age))
 
 module _ (f : Followed) (all : f .needs ≡ f .per) (wide : 1 < f .per) (most : f .head .wish .limit ≤ 1500) (sent : Sent) (n : ℕ)
@@ -142,8 +142,8 @@ module _ (f : Followed) (all : f .needs ≡ f .per) (wide : 1 < f .per) (most : 
   final = run (events sent h) f .head
 
   nothing-shown : f .head .awaited ≡ 0 → f .unfinished ≡ [] → f .head .group ≡ 0 → ((i : ℕ) → Readable (f .per) h i → ⊥)
-      → shown final ≡ 4
-  unfolding final shown
+      → askNumber final ≡ 4
+  unfolding final askNumber
   nothing-shown w u g none =
       let k = kept-run sent h f 0 (endings h) (omega arith) (none-handed sent h n f (omega arith) (omega arith) o w u (rw all none)) in
       rw (k .group, g)
@@ -153,21 +153,21 @@ module _ (f : Followed) (all : f .needs ≡ f .per) (wide : 1 < f .per) (most : 
     unfolding final
     stands = last-stands sent n h f all wide o i l x
 
-    last-shown : shown final ≡ cond (leb (f .head .wish .limit) (endings l)) 7 (cond (eqb (final .gap) 1) 6 5)
+    last-shown : askNumber final ≡ cond (leb (f .head .wish .limit) (endings l)) 7 (cond (eqb (final .gap) 1) 6 5)
     unfolding final
     last-shown = stands-shown (f .per) (f .head .wish .limit) i l final most (limit-run (events sent h) f) stands
 
-    stale-shown : f .head .wish .limit ≤ endings l → shown final ≡ 7
+    stale-shown : f .head .wish .limit ≤ endings l → askNumber final ≡ 7
     stale-shown e = last-shown ∙ rw (le-leb (f .head .wish .limit) (endings l) e)
 
-    doubtful-shown : endings l < f .head .wish .limit → Missed (f .per) i l → shown final ≡ 6
+    doubtful-shown : endings l < f .head .wish .limit → Missed (f .per) i l → askNumber final ≡ 6
     doubtful-shown e m = last-shown ∙ rw (lt-leb (f .head .wish .limit) (endings l) e) (go (stands .gap))
       where
         go : Gapped (Missed (f .per) i l) (final .gap) → cond {A = ℕ} (eqb (final .gap) 1) 6 5 ≡ 6
         go (inl (g, y)) = rw g
         go (inr (g, y)) = absurd (y m)
 
-    fresh-shown : endings l < f .head .wish .limit → (Missed (f .per) i l → ⊥) → shown final ≡ 5
+    fresh-shown : endings l < f .head .wish .limit → (Missed (f .per) i l → ⊥) → askNumber final ≡ 5
     fresh-shown e m = last-shown ∙ rw (lt-leb (f .head .wish .limit) (endings l) e) (go (stands .gap))
       where
         go : Gapped (Missed (f .per) i l) (final .gap) → cond {A = ℕ} (eqb (final .gap) 1) 6 5 ≡ 5
@@ -176,7 +176,7 @@ module _ (f : Followed) (all : f .needs ≡ f .per) (wide : 1 < f .per) (most : 
 
 pub nothing-missed : (f : Followed) → f .needs ≡ f .per → 1 < f .per → f .head .wish .limit ≤ 1500
     → f .head .awaited ≡ 0 → f .unfinished ≡ [] → f .head .group ≡ 0 → (sent : Sent) (n : ℕ) (h : List Arrival)
-    → InOrder (f .per) (f .per - 1) n h → Judged (f .per) (f .head .wish .limit) h (shown (run (events sent h) f .head))
+    → InOrder (f .per) (f .per - 1) n h → Judged (f .per) (f .head .wish .limit) h (askNumber (run (events sent h) f .head))
 unfolding final
 nothing-missed f all wide most w u g sent n h o = record {
   nothing = nothing-shown f all wide most sent n h o w u g;
@@ -186,7 +186,7 @@ nothing-missed f all wide most w u g sent n h o = record {
 }
 
 pub nothing-missed-four : (w : Wish) → 1 ≤ w .limit → w .limit ≤ 1500 → (sent : Sent) (n : ℕ) (h : List Arrival) → InOrder 4 3 n h
-    → Judged 4 (w .limit) h (shown (run (events sent h) (followed w) .head))
+    → Judged 4 (w .limit) h (askNumber (run (events sent h) (followed w) .head))
 unfolding followed perOf needsOf
 nothing-missed-four w least most sent n h o =
     nothing-missed (followed w) refl (lit< tt) most refl refl refl sent n h o

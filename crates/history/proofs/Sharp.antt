@@ -20,7 +20,7 @@ use mathlib.Core.Logic.{_⊎_, inl, inr}
 use Prim.Native.Nat.{ℕ, zero, suc, _+_, _*_, _<_}
 use native.Mathlib.Omega.{arith}
 use lib.Dec.{lit<, lit≤}
-use Rattle.head.specs.Head.{wishOf, shown}
+use Rattle.head.specs.Head.{wishOf, askNumber}
 use Rattle.head.specs.Move.{perOf, needsOf, rowOf, moveOf, moveNumber, movedHead}
 use Rattle.history.specs.Followed.{begun, joined, lastOf, moved, after, answer, followed, run, handedOut}
 use Rattle.history.specs.Missing.{Reached, Missed, endings, Last, Judged}
@@ -77,8 +77,8 @@ pub unnoticed-held : answer (event sent (came 2 1))
 unfolding events event followed perOf needsOf run after answer moved moveOf rowOf moveNumber movedHead
 unnoticed-held = refl
 
-pub unnoticed-fresh : shown (run (events sent unnoticed) (followed (wishOf 17 0 2)) .head) ≡ 5
-unfolding unnoticed since events event followed perOf needsOf run after moved moveOf rowOf movedHead shown
+pub unnoticed-fresh : askNumber (run (events sent unnoticed) (followed (wishOf 17 0 2)) .head) ≡ 5
+unfolding unnoticed since events event followed perOf needsOf run after moved moveOf rowOf movedHead askNumber
 unnoticed-fresh = refl
 
 -- packet 1 of group 1
@@ -129,7 +129,7 @@ unnoticed-last = record {
     none j l (inr (inr (inr (inr (inr (inl e)))))) = other 2 1 j (lit< tt) e
     none j l (inr (inr (inr (inr (inr (inr x)))))) = x
 
-pub sharp-missed : Judged 4 2 unnoticed (shown (run (events sent unnoticed) (followed (wishOf 17 0 2)) .head)) → ⊥
+pub sharp-missed : Judged 4 2 unnoticed (askNumber (run (events sent unnoticed) (followed (wishOf 17 0 2)) .head)) → ⊥
 unfolding since endings
 sharp-missed x =
     let six = sym unnoticed-fresh ∙ x .doubtful 0 since unnoticed-last (lit< tt) unnoticed-missed in

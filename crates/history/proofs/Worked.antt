@@ -22,7 +22,7 @@
 use mathlib.Core.Path.{_≡_, refl}
 use mathlib.Core.List.{List, [], _∷_, _++_}
 use Prim.Native.Nat.{ℕ}
-use Rattle.head.specs.Head.{wishOf, shown}
+use Rattle.head.specs.Head.{wishOf, askNumber}
 use Rattle.head.specs.Move.{perOf, needsOf, rowOf, moveOf, moveNumber, movedHead}
 use Rattle.faults.specs.Faults.{typeUnreadable, wordUnreadable}
 use Rattle.history.specs.Followed.{Followed, begun, joined, lastOf, moved, dropped, aged, after, answer, followed, run, handedOut}
@@ -66,34 +66,34 @@ out-of-step-clears = refl
 
 unfoldable shownAlong : List Arrival → Followed → List ℕ
 shownAlong [] f = []
-shownAlong (a ∷ h) f = shown (after (event sent a) f .head) ∷ shownAlong h (after (event sent a) f)
+shownAlong (a ∷ h) f = askNumber (after (event sent a) f .head) ∷ shownAlong h (after (event sent a) f)
 
 silence-shows : shownAlong (wholeGroup 0 ++ (subframeEnd ∷ subframeEnd ∷ [])) (followed (wishOf 17 0 2)) ≡ 4 ∷ 4 ∷ 4 ∷ 5 ∷ 5 ∷ 7 ∷ []
-unfolding wholeGroup shownAlong event followed perOf needsOf after moved aged moveOf rowOf movedHead shown
+unfolding wholeGroup shownAlong event followed perOf needsOf after moved aged moveOf rowOf movedHead askNumber
 silence-shows = refl
 
 damage-shows : shownAlong (wholeGroup 0 ++ (damaged 1 0 typeUnreadable ∷ came 1 1 ∷ wholeGroup 2)) (followed (wishOf 17 0 2))
     ≡ 4 ∷ 4 ∷ 4 ∷ 5 ∷ 6 ∷ 6 ∷ 6 ∷ 6 ∷ 6 ∷ 5 ∷ []
-unfolding wholeGroup shownAlong event followed perOf needsOf after moved dropped moveOf rowOf movedHead shown
+unfolding wholeGroup shownAlong event followed perOf needsOf after moved dropped moveOf rowOf movedHead askNumber
 damage-shows = refl
 
 early-start-shows : shownAlong (wholeGroup 0 ++ (came 1 0 ∷ came 1 1 ∷ wholeGroup 2)) (followed (wishOf 17 0 2))
     ≡ 4 ∷ 4 ∷ 4 ∷ 5 ∷ 5 ∷ 5 ∷ 6 ∷ 6 ∷ 6 ∷ 5 ∷ []
-unfolding wholeGroup shownAlong event followed perOf needsOf after moved moveOf rowOf movedHead shown
+unfolding wholeGroup shownAlong event followed perOf needsOf after moved moveOf rowOf movedHead askNumber
 early-start-shows = refl
 
 lost-shows : shownAlong (wholeGroup 0 ++ (came 1 0 ∷ subframeEnd ∷ came 1 2 ∷ [])) (followed (wishOf 17 0 2))
     ≡ 4 ∷ 4 ∷ 4 ∷ 5 ∷ 5 ∷ 5 ∷ 6 ∷ []
-unfolding wholeGroup shownAlong event followed perOf needsOf after moved aged moveOf rowOf movedHead shown
+unfolding wholeGroup shownAlong event followed perOf needsOf after moved aged moveOf rowOf movedHead askNumber
 lost-shows = refl
 
 partial-shows : shownAlong (wholeGroup 0 ++ (came 1 0 ∷ came 1 1 ∷ subframeEnd ∷ came 1 2 ∷ [])) (followed (wishOf 17 0 2))
     ≡ 4 ∷ 4 ∷ 4 ∷ 5 ∷ 5 ∷ 5 ∷ 5 ∷ 5 ∷ []
-unfolding wholeGroup shownAlong event followed perOf needsOf after moved aged moveOf rowOf movedHead shown
+unfolding wholeGroup shownAlong event followed perOf needsOf after moved aged moveOf rowOf movedHead askNumber
 partial-shows = refl
 
 no-group-shows : shownAlong (came 0 0 ∷ subframeEnd ∷ subframeEnd ∷ subframeEnd ∷ []) (followed (wishOf 17 0 2)) ≡ 4 ∷ 4 ∷ 4 ∷ 4 ∷ []
-unfolding shownAlong event followed perOf needsOf after moved aged moveOf rowOf movedHead shown
+unfolding shownAlong event followed perOf needsOf after moved aged moveOf rowOf movedHead askNumber
 no-group-shows = refl
 
 -- ---- groups of one packet
@@ -119,7 +119,7 @@ unfolding single singles sent events event handedOut after answer moved begun jo
 singles-hand-out = refl
 
 singles-show : shownAlong singles (single 0 []) ≡ 5 ∷ 5 ∷ 6 ∷ 5 ∷ []
-unfolding single singles shownAlong event after moved dropped moveOf rowOf movedHead shown
+unfolding single singles shownAlong event after moved dropped moveOf rowOf movedHead askNumber
 singles-show = refl
 
 single-begins-anew : handedOut (events sent (came 3 0 ∷ [])) (single 2 (98 ∷ 99 ∷ [])) ≡ (12 ∷ []) ∷ []

@@ -15,7 +15,7 @@ use lib.Dec.{lit<, lit≤}
 use lib.ListN.{length, take, drop, getD, drop-of-length-le, List·getD-eq-default}
 use lib.Seq.{drop-drop, drop-append-le}
 use Rattle.bits.specs.Bits.{bitsOf, number, sent}
-use Rattle.bits.proofs.Runs.{Below, below-cat, bitsOf-length, number-bits-small, number-cat, number-ends, number-take, number-drop, number-at, digit, sent-below, sent-drop, sent-length, taken-at, or-above}
+use Rattle.bits.proofs.Runs.{Below, below-cat, bitsOf-length, number-bits-small, number-cat, number-ends, number-take, number-drop, number-at, digit, sent-below, sent-drop, sent-length, numbersIn-at, or-above}
 use Rattle.bits.proofs.Storing.{stored}
 use Rattle.image.specs.Image.{headerOf, spareOf, imageOf}
 use Rattle.image.proofs.Laws.{image-length, run, spare-below, run-below, run-rest}
@@ -60,7 +60,7 @@ module _ (h : ℕ) (bs : List ℕ) (s : h < 2 ^ 23) (b : Below 256 bs) where
 
   image-digit : (j : ℕ) → j < 94 → getD (imageOf h bs) j 0 ≡ number (take 8 (drop (j * 8) (run h bs)))
   unfolding imageOf
-  image-digit j l = taken-at 8 94 j (run h bs) l
+  image-digit j l = numbersIn-at 8 94 j (run h bs) l
 
   first-byte : bitAnd h 255 ≡ getD (imageOf h bs) 0 0
   first-byte = and-mask h 8 ∙ omega (arith, image-digit 0 (lit< tt), digit 8 0 (run h bs) (run-below h bs), number-run)

@@ -14,8 +14,8 @@ use Prim.Native.Nat.{ℕ, _-_, _*_, _^_, _<_}
 use native.Mathlib.Omega.{arith}
 use lib.ListN.{length, take, drop, getD, length-append, length-drop, take-append-drop}
 use lib.Seq.{take-at, drop-at, take-all, drop-drop}
-use Rattle.bits.specs.Bits.{bitsOf, number, sent, taken}
-use Rattle.bits.proofs.Runs.{Below, below-drop, below-cat, bitsOf-length, bitsOf-below, bits-number, bits-front, number-lt, number-bits-small, digit-lt, sent-length, sent-below, taken-length, taken-below, taken-step, taken-sent, sent-taken}
+use Rattle.bits.specs.Bits.{bitsOf, number, sent, numbersIn}
+use Rattle.bits.proofs.Runs.{Below, below-drop, below-cat, bitsOf-length, bitsOf-below, bits-number, bits-front, number-lt, number-bits-small, digit-lt, sent-length, sent-below, numbersIn-length, numbersIn-below, numbersIn-step, numbersIn-sent, sent-numbersIn}
 use Rattle.image.specs.Image.{headerOf, bytesOf, spareOf, imageOf}
 
 abbrev pub run : ℕ → List ℕ → List ℕ
@@ -40,11 +40,11 @@ run-rest h bs = drop-at (bitsOf 23 h) (sent 8 bs ++ (0 ∷ [])) 23 (bitsOf-lengt
 
 pub image-length : (h : ℕ) (bs : List ℕ) → length (imageOf h bs) ≡ 94
 unfolding imageOf
-image-length h bs = taken-length 8 94 (run h bs)
+image-length h bs = numbersIn-length 8 94 (run h bs)
 
 pub image-bytes : (h : ℕ) (bs : List ℕ) → Below 256 (imageOf h bs)
 unfolding imageOf
-image-bytes h bs = taken-below 8 94 (run h bs) (run-below h bs)
+image-bytes h bs = numbersIn-below 8 94 (run h bs) (run-below h bs)
 
 module _ (h : ℕ) (bs : List ℕ) (l : length bs ≡ 91) where
   run-length : length (run h bs) ≡ 752
@@ -53,7 +53,7 @@ module _ (h : ℕ) (bs : List ℕ) (l : length bs ≡ 91) where
   pub sent-image : sent 8 (imageOf h bs) ≡ run h bs
   unfolding imageOf
   sent-image =
-      sent-taken 8 94 (run h bs) (run-below h bs) (omega (arith, run-length))
+      sent-numbersIn 8 94 (run h bs) (run-below h bs) (omega (arith, run-length))
       ∙ take-all 752 (run h bs) (omega (arith, run-length))
 
   pub header-image : h < 2 ^ 23 → headerOf (imageOf h bs) ≡ h
@@ -65,8 +65,8 @@ module _ (h : ℕ) (bs : List ℕ) (l : length bs ≡ 91) where
   pub bytes-image : Below 256 bs → bytesOf (imageOf h bs) ≡ bs
   unfolding bytesOf
   bytes-image s =
-      ap (λ (x : List ℕ). taken 8 91 (drop 23 x)) sent-image ∙ ap (taken 8 91) (run-rest h bs)
-      ∙ ap (λ (x : ℕ). taken 8 x (sent 8 bs ++ (0 ∷ []))) (sym l) ∙ taken-sent 8 bs (0 ∷ []) s
+      ap (λ (x : List ℕ). numbersIn 8 91 (drop 23 x)) sent-image ∙ ap (numbersIn 8 91) (run-rest h bs)
+      ∙ ap (λ (x : ℕ). numbersIn 8 x (sent 8 bs ++ (0 ∷ []))) (sym l) ∙ numbersIn-sent 8 bs (0 ∷ []) s
 
   pub spare-image : spareOf (imageOf h bs) ≡ 0
   unfolding spareOf number
@@ -84,20 +84,20 @@ header-lt s = digit-lt 23 0 (sent 8 s) (sent-below 8 s)
 
 pub bytes-length : (s : List ℕ) → length (bytesOf s) ≡ 91
 unfolding bytesOf
-bytes-length s = taken-length 8 91 (drop 23 (sent 8 s))
+bytes-length s = numbersIn-length 8 91 (drop 23 (sent 8 s))
 
 pub bytes-lt : (s : List ℕ) → Below 256 (bytesOf s)
 unfolding bytesOf
-bytes-lt s = taken-below 8 91 (drop 23 (sent 8 s)) (below-drop 23 (sent 8 s) (sent-below 8 s))
+bytes-lt s = numbersIn-below 8 91 (drop 23 (sent 8 s)) (below-drop 23 (sent 8 s) (sent-below 8 s))
 
 pub type-bits : (s : List ℕ) → getD (bytesOf s) 0 0 ≡ number (take 8 (drop 23 (sent 8 s)))
 unfolding bytesOf
-type-bits s = ap (λ (x : List ℕ). getD x 0 0) (taken-step 8 90 (drop 23 (sent 8 s)))
+type-bits s = ap (λ (x : List ℕ). getD x 0 0) (numbersIn-step 8 90 (drop 23 (sent 8 s)))
 
-pub useful-bits : (s : List ℕ) → drop 1 (bytesOf s) ≡ taken 8 90 (drop 31 (sent 8 s))
+pub useful-bits : (s : List ℕ) → drop 1 (bytesOf s) ≡ numbersIn 8 90 (drop 31 (sent 8 s))
 unfolding bytesOf
 useful-bits s =
-    ap (drop 1) (taken-step 8 90 (drop 23 (sent 8 s))) ∙ ap (taken 8 90) (drop-drop 8 23 (sent 8 s))
+    ap (drop 1) (numbersIn-step 8 90 (drop 23 (sent 8 s))) ∙ ap (numbersIn 8 90) (drop-drop 8 23 (sent 8 s))
 
 module _ (s : List ℕ) (l : length s ≡ 94) where
   bits-length : length (sent 8 s) ≡ 752
@@ -118,11 +118,11 @@ module _ (s : List ℕ) (l : length s ≡ 94) where
   image-whole b e =
       let B = sent 8 s in
       let front : bitsOf 23 (number (take 23 B)) ≡ take 23 B = bits-front 23 B (sent-below 8 s) (omega (arith, bits-length)) in
-      let middle : sent 8 (taken 8 91 (drop 23 B)) ≡ take 728 (drop 23 B) =
-      sent-taken 8 91 (drop 23 B) (below-drop 23 B (sent-below 8 s)) (rw length-drop (omega (arith, bits-length))) in
+      let middle : sent 8 (numbersIn 8 91 (drop 23 B)) ≡ take 728 (drop 23 B) =
+      sent-numbersIn 8 91 (drop 23 B) (below-drop 23 B (sent-below 8 s)) (rw length-drop (omega (arith, bits-length))) in
       let last : 0 ∷ [] ≡ drop 728 (drop 23 B) =
       spare-bit ∙ ap₂ bitsOf (sym last-length) (sym e) ∙ bits-number (drop 751 B) last-below ∙ sym (drop-drop 728 23 B) in
-      ap₂ (λ (x y : List ℕ). taken 8 94 (x ++ y)) front
+      ap₂ (λ (x y : List ℕ). numbersIn 8 94 (x ++ y)) front
       (ap₂ _++_ middle last ∙ take-append-drop 728 (drop 23 B))
-      ∙ ap (taken 8 94) (take-append-drop 23 B ∙ sym (append-nil B))
-      ∙ ap (λ (x : ℕ). taken 8 x (B ++ [])) (sym l) ∙ taken-sent 8 s [] b
+      ∙ ap (numbersIn 8 94) (take-append-drop 23 B ∙ sym (append-nil B))
+      ∙ ap (λ (x : ℕ). numbersIn 8 x (B ++ [])) (sym l) ∙ numbersIn-sent 8 s [] b

@@ -13,8 +13,8 @@ use lib.Bits.{bitAnd, bitOr, and-mask}
 use lib.Dec.{lit<, lit≤}
 use lib.ListN.{length, take, drop, getD, length-drop, take-append-drop}
 use lib.Seq.{length-take-le, getD-take, getD-drop}
-use Rattle.bits.specs.Bits.{number, sent, taken}
-use Rattle.bits.proofs.Runs.{Below, number-next, sent-length, sent-bit, taken-front, or-above}
+use Rattle.bits.specs.Bits.{number, sent, numbersIn}
+use Rattle.bits.proofs.Runs.{Below, number-next, sent-length, sent-bit, numbersIn-front, or-above}
 use Rattle.image.specs.Image.{bytesOf}
 
 pub bits-length : (s : List ℕ) → length s ≡ 94 → length (take 728 (drop 23 (sent 8 s))) ≡ 728
@@ -22,11 +22,11 @@ bits-length s l =
     length-take-le 728 (drop 23 (sent 8 s)) (omega (arith, length-drop 23 (sent 8 s), sent-length 8 s))
 
 -- the 91 bytes are made of these bits and no others
-pub set-out-bytes : (s : List ℕ) → length s ≡ 94 → taken 8 91 (take 728 (drop 23 (sent 8 s))) ≡ bytesOf s
+pub set-out-bytes : (s : List ℕ) → length s ≡ 94 → numbersIn 8 91 (take 728 (drop 23 (sent 8 s))) ≡ bytesOf s
 unfolding bytesOf
 set-out-bytes s l =
-    sym (taken-front 8 91 (take 728 (drop 23 (sent 8 s))) (drop 728 (drop 23 (sent 8 s))) (omega (arith, bits-length s l)))
-    ∙ ap (taken 8 91) (take-append-drop 728 (drop 23 (sent 8 s)))
+    sym (numbersIn-front 8 91 (take 728 (drop 23 (sent 8 s))) (drop 728 (drop 23 (sent 8 s))) (omega (arith, bits-length s l)))
+    ∙ ap (numbersIn 8 91) (take-append-drop 728 (drop 23 (sent 8 s)))
 
 pub bit-at : (s : List ℕ) (k : ℕ) → length s ≡ 94 → k < 728
     → bitAnd (getD s ((k + 23) / 8) 0 / 2 ^ bitAnd (k + 23) 7) 1 ≡ getD (take 728 (drop 23 (sent 8 s))) k 0

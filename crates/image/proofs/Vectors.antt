@@ -10,7 +10,7 @@ use mathlib.Core.Path.{_≡_, refl}
 use mathlib.Core.List.{List, [], _∷_, _++_}
 use Prim.Native.Nat.{ℕ}
 use lib.ListN.{take, drop}
-use Rattle.bits.specs.Bits.{bitsOf, number, sent, taken}
+use Rattle.bits.specs.Bits.{bitsOf, number, sent, numbersIn}
 use Rattle.image.specs.Image.{headerOf, bytesOf, spareOf, imageOf}
 
 abbrev pub plain : List ℕ
@@ -31,7 +31,7 @@ counting =
     68 ∷ 69 ∷ 70 ∷ 71 ∷ 72 ∷ 73 ∷ 74 ∷ 75 ∷ 76 ∷ 77 ∷ 78 ∷ 79 ∷ 80 ∷ 81 ∷ 82 ∷ 83 ∷ 84 ∷ 85 ∷ 86 ∷ 87 ∷ 88 ∷ 89 ∷ []
 
 pub plain-made : imageOf 0x75F011 (0x00 ∷ counting) ≡ plain
-unfolding imageOf taken number bitsOf sent
+unfolding imageOf numbersIn number bitsOf sent
 plain-made = refl
 
 pub plain-header : headerOf plain ≡ 0x75F011
@@ -39,7 +39,7 @@ unfolding headerOf number sent bitsOf
 plain-header = refl
 
 pub plain-bytes : bytesOf plain ≡ 0x00 ∷ counting
-unfolding bytesOf taken number sent bitsOf
+unfolding bytesOf numbersIn number sent bitsOf
 plain-bytes = refl
 
 pub plain-spare : spareOf plain ≡ 0

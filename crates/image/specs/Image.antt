@@ -11,16 +11,16 @@
 use mathlib.Core.List.{List, [], _∷_, _++_}
 use Prim.Native.Nat.{ℕ}
 use lib.ListN.{take, drop}
-use Rattle.bits.specs.Bits.{bitsOf, number, sent, taken}
+use Rattle.bits.specs.Bits.{bitsOf, number, sent, numbersIn}
 
 unfoldable pub headerOf : List ℕ → ℕ
 headerOf s = number (take 23 (sent 8 s))
 
 unfoldable pub bytesOf : List ℕ → List ℕ
-bytesOf s = taken 8 91 (drop 23 (sent 8 s))
+bytesOf s = numbersIn 8 91 (drop 23 (sent 8 s))
 
 unfoldable pub spareOf : List ℕ → ℕ
 spareOf s = number (drop 751 (sent 8 s))
 
 unfoldable pub imageOf : ℕ → List ℕ → List ℕ
-imageOf h bs = taken 8 94 (bitsOf 23 h ++ (sent 8 bs ++ (0 ∷ [])))
+imageOf h bs = numbersIn 8 94 (bitsOf 23 h ++ (sent 8 bs ++ (0 ∷ [])))

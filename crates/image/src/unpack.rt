@@ -2,7 +2,7 @@
 ghost use mathlib.Core.Path.{_≡_};
 ghost use Prim.Native.Nat.{ℕ, _+_, _≤_, _<_};
 ghost use lib.ListN.{length, take, drop, getD};
-ghost use Rattle.bits.specs.Bits.{number, sent, taken};
+ghost use Rattle.bits.specs.Bits.{number, sent, numbersIn};
 ghost use Rattle.image.specs.Image.{bytesOf};
 use crate::Packet;
 
@@ -33,7 +33,7 @@ fn set_out(image: &[u8]) -> [u8; 728]
 // The bytes that these bits make, eight to a byte, lowest first.
 fn gathered(bits: &[u8; 728]) -> [u8; 91]
     requires { ⌜ ((k : ℕ) → getD (now bits) k 0 < 2) ⌝ }
-    ensures { λ r. ⌜ r ≡ taken 8 91 (now (bits .entry)) ⌝ }
+    ensures { λ r. ⌜ r ≡ numbersIn 8 91 (now (bits .entry)) ⌝ }
 {
     let mut bytes = [0u8; 91];
     let mut j: usize = 0;

@@ -16,7 +16,7 @@ use native.Mathlib.Omega.{arith}
 use borrow.Author.Tests.{ne-eqb}
 use lib.Dec.{T, eqb, lit<}
 use lib.ListN.{length, getD}
-use Rattle.bits.specs.Bits.{bitsOf, number, sent, taken}
+use Rattle.bits.specs.Bits.{bitsOf, number, sent, numbersIn}
 use Rattle.field.specs.Field.{tdmsOf, fln1, lln1, fln2, lln2, fcp, lcp, badPair, badTdms, deletes, key, panning, bitsAt, fieldOf, fieldBits, fieldBytes}
 use Rattle.frames.specs.Counts.{ahead, since, changes}
 use Rattle.multiplex.specs.Broadcast.{countAt, change, epoch, begun, Linked}
@@ -117,7 +117,7 @@ unannounced-orderly = record {
 
 -- sure of the first field, behind frame 2 too
 sure-of : kept stubborn unannounced every 3 ≡ 1 ∷ one ∷ []
-unfolding kept every stubborn held seven together unannounced moving place fieldOn carriedAs countAt epoch change tdmsOf deletes since ahead changes fieldOf bitsAt fieldBytes fieldBits bitsOf number sent taken
+unfolding kept every stubborn held seven together unannounced moving place fieldOn carriedAs countAt epoch change tdmsOf deletes since ahead changes fieldOf bitsAt fieldBytes fieldBits bitsOf number sent numbersIn
 sure-of = refl
 
 -- frame 2, of the second configuration, carries the other
@@ -209,7 +209,7 @@ removed-orderly = record {
     none-vectors (suc j) = refl
 
 still-sure : kept stubborn removed every 3 ≡ 1 ∷ one ∷ []
-unfolding kept every stubborn held seven together removed once ending fieldOn carriedAs countAt epoch change tdmsOf deletes since ahead changes fieldOf bitsAt fieldBytes fieldBits bitsOf number sent taken
+unfolding kept every stubborn held seven together removed once ending fieldOn carriedAs countAt epoch change tdmsOf deletes since ahead changes fieldOf bitsAt fieldBytes fieldBits bitsOf number sent numbersIn
 still-sure = refl
 
 ones-heard : (xs : List ℕ) → (epoch (timed removed) 2 ≡ 1) × (denies removed 2 7 xs (removed .carries 2) ≡ true)

@@ -9,7 +9,7 @@
 --     blocks         the five identical blocks of a frame are one
 --     news           what is in force ends with an announced change
 --     wraps          the change comes with count 2 modulo 128, not modulo 256
---   taken h m r      what is kept behind a field: nothing; 0 or 1, the last frame's count, LINKS, and the fields that are being gathered (0) or are
+--   heeded h m r     what is kept behind a field: nothing; 0 or 1, the last frame's count, LINKS, and the fields that are being gathered (0) or are
 --                    whole (1); 2 and the count, where a change is announced
 --   reader h         it knows of component 7 alone
 use mathlib.Core.Bool.{Bool, true, false, cond, not, _&&_, _||_}
@@ -59,18 +59,18 @@ joined h (suc w) l xs r = cond (lists xs (r .tdms)) (1 ∷ r .count ∷ l ∷ xs
 unfoldable pub missed : Heeds → ℕ → Field → Bool
 missed h c r = h .gaps && ltb 1 (since c (r .count))
 
-unfoldable pub taken : Heeds → List ℕ → Field → List ℕ
-taken h [] r = anew h r
-taken h (w ∷ []) r = anew h r
-taken h (w ∷ c ∷ []) r = cond (changes c (r .count)) (anew h r) (2 ∷ r .count ∷ [])
-taken h (w ∷ c ∷ l ∷ xs) r =
+unfoldable pub heeded : Heeds → List ℕ → Field → List ℕ
+heeded h [] r = anew h r
+heeded h (w ∷ []) r = anew h r
+heeded h (w ∷ c ∷ []) r = cond (changes c (r .count)) (anew h r) (2 ∷ r .count ∷ [])
+heeded h (w ∷ c ∷ l ∷ xs) r =
     cond (h .blocks && eqb c (r .count)) (w ∷ c ∷ l ∷ xs)
     (cond (missed h c r || (announced h r || absent r)) (anew h r) (cond (seven r) (joined h w l xs r) (w ∷ r .count ∷ l ∷ xs)))
 
 -- the field of a frame, from each of its blocks
 unfoldable pub times : ℕ → Heeds → List ℕ → Field → List ℕ
 times zero h m r = m
-times (suc n) h m r = times n h (taken h m r) r
+times (suc n) h m r = times n h (heeded h m r) r
 
 -- ---- what is shown
 

@@ -33,7 +33,7 @@ use Rattle.words.specs.declared.Data.{Data}
 use Rattle.words.proofs.Each.{read-length}
 use Rattle.faults.specs.Faults as fault
 use Rattle.faults.specs.Faults.{unreadables, Numbered}
-use Rattle.packet.specs.Received.{typeOf, usefulOf, unreadable, receivedNumber, receivedBytes, filled, received, refusedAs, partAs, dataAs}
+use Rattle.packet.specs.Received.{typeOf, usefulOf, unreadable, receivedNumber, receivedBytes, filled, received, refusedAs, readableAs, dataAs}
 use Rattle.packet.specs.Damage.{Refused}
 use Rattle.packet.specs.declared.Reading.{Reading}
 
@@ -112,7 +112,7 @@ pub isData : (s : List ℕ) (v : ℕ) → length s ≡ 94 → typeOf s < 256 →
 isData s v l h e a b c =
     record { size = l; readable = h; control = λ q. a (e ∙ q); reserved = λ q. b (e ∙ q); scrambled = λ q. c (e ∙ q) }
 
-pub answer-plain : (s : List ℕ) → IsData s → received false s ≡ partAs (indexOf s) (usefulOf s)
+pub answer-plain : (s : List ℕ) → IsData s → received false s ≡ readableAs (indexOf s) (usefulOf s)
 unfolding receivedAs refusal unreadable given receivedBytes
 answer-plain s d = received-as false s 0 (data-number false s (d .size) (d .readable) (d .control) (d .reserved) (d .scrambled))
 
@@ -128,17 +128,17 @@ unfolding receivedAs refusal given filled receivedBytes
 answer-protected s d = go (ltb (dataRead (usefulOf s) .place) 30) refl
   where
     either : Bool → Reading
-    either b = cond b (refusedAs (fault.number fault.wordUnreadable) (dataRead (usefulOf s) .place)) (partAs (indexOf s) (dataRead (usefulOf s) .bytes))
+    either b = cond b (refusedAs (fault.number fault.wordUnreadable) (dataRead (usefulOf s) .place)) (readableAs (indexOf s) (dataRead (usefulOf s) .bytes))
 
     go : (b : Bool) → ltb (dataRead (usefulOf s) .place) 30 ≡ b → received true s ≡ dataAs (indexOf s) (dataRead (usefulOf s))
     go true e = received-as true s (fault.number fault.wordUnreadable) (short-number s d true e) ∙ sym (ap either e)
     go false e = received-as true s 0 (short-number s d false e) ∙ sym (ap either e)
 
 pub data-short : (i : ℕ) (d : Data) → d .place < 30 → dataAs i d ≡ refusedAs (fault.number fault.wordUnreadable) (d .place)
-data-short i d h = ap (λ (b : Bool). cond b (refusedAs (fault.number fault.wordUnreadable) (d .place)) (partAs i (d .bytes))) (lt-ltb (d .place) 30 h)
+data-short i d h = ap (λ (b : Bool). cond b (refusedAs (fault.number fault.wordUnreadable) (d .place)) (readableAs i (d .bytes))) (lt-ltb (d .place) 30 h)
 
-pub data-whole : (i : ℕ) (d : Data) → 30 ≤ d .place → dataAs i d ≡ partAs i (d .bytes)
-data-whole i d h = ap (λ (b : Bool). cond b (refusedAs (fault.number fault.wordUnreadable) (d .place)) (partAs i (d .bytes))) (le-ltb (d .place) 30 h)
+pub data-whole : (i : ℕ) (d : Data) → 30 ≤ d .place → dataAs i d ≡ readableAs i (d .bytes)
+data-whole i d h = ap (λ (b : Bool). cond b (refusedAs (fault.number fault.wordUnreadable) (d .place)) (readableAs i (d .bytes))) (le-ltb (d .place) 30 h)
 
 -- ---- what the readers of the parts found
 

@@ -18,7 +18,7 @@ use native.Mathlib.Decide.{decLt, ℕ-discrete}
 use native.Mathlib.Nat.{le-trans}
 use lib.ListN.{length, getD, drop, length-map}
 use lib.Seq.{ext-getD}
-use Rattle.bits.specs.Bits.{flips, sent, taken}
+use Rattle.bits.specs.Bits.{flips, sent, numbersIn}
 use Rattle.bits.proofs.Flips.{flips-same}
 use Rattle.bits.proofs.Runs.{Below, below-cons}
 use Rattle.bits.proofs.Storing.{getD-map}
@@ -36,7 +36,7 @@ use Rattle.words.specs.declared.Words.{Words}
 use Rattle.words.proofs.Each.{failed-pass, failed-le, words-whole, failed-whole}
 use Rattle.words.proofs.Packing.{words-protected, words-length, data-segments, segments-below, segments-length, protected-length, protected-below}
 use Rattle.faults.specs.Faults as fault
-use Rattle.packet.specs.Received.{typeOf, usefulOf, received, written, refusedAs, partAs}
+use Rattle.packet.specs.Received.{typeOf, usefulOf, received, written, refusedAs, readableAs}
 use Rattle.packet.specs.Damage.{dataSize, carried, sentImage, Kept, Came, Corrected, Refused}
 use Rattle.packet.specs.declared.Reading.{Reading}
 use Rattle.packet.proofs.Answers.{indexOf, answer-unreadable, answer-control, answer-reserved, answer-scrambled, answer-plain, answer-protected, IsData, isData, data-short, data-whole}
@@ -129,10 +129,10 @@ corrected-whole (i ∷ is) (n ∷ ns) small same few =
 -- ---- the packet
 
 -- the words of what was sent
-sent-words : (d : List ℕ) (w : ℕ) → w < 30 → getD (wordsOf (protected d)) w 0 ≡ word24 (getD (taken 12 30 (sent 8 d)) w 0)
+sent-words : (d : List ℕ) (w : ℕ) → w < 30 → getD (wordsOf (protected d)) w 0 ≡ word24 (getD (numbersIn 12 30 (sent 8 d)) w 0)
 sent-words d w h =
     ap (λ (ns : List ℕ). getD ns w 0) (words-protected d)
-    ∙ getD-map word24 (taken 12 30 (sent 8 d)) w (omega (arith, segments-length d))
+    ∙ getD-map word24 (numbersIn 12 30 (sent 8 d)) w (omega (arith, segments-length d))
 
 -- the 45 bytes, once every word is read
 data-back : (d u : List ℕ) (most : ℕ) → most ≤ 4 → length d ≡ 45 → Below 256 d → Kept most true (protected d) u
@@ -140,11 +140,11 @@ data-back : (d u : List ℕ) (most : ℕ) → most ≤ 4 → length d ≡ 45 →
 unfolding dataRead
 data-back d u most m l b kept whole =
     ap (λ (r : Words). dataOf (r .informations)) (words-whole (wordsOf u) whole)
-    ∙ ap dataOf (each-read (taken 12 30 (sent 8 d)) (wordsOf u) (segments-below d) (words-length u ∙ sym (segments-length d)) few
+    ∙ ap dataOf (each-read (numbersIn 12 30 (sent 8 d)) (wordsOf u) (segments-below d) (words-length u ∙ sym (segments-length d)) few
     (whole ∙ sym (segments-length d)))
     ∙ data-segments d l b
   where
-    few : (w : ℕ) → w < length (taken 12 30 (sent 8 d)) → flips (word24 (getD (taken 12 30 (sent 8 d)) w 0)) (getD (wordsOf u) w 0) ≤ 4
+    few : (w : ℕ) → w < length (numbersIn 12 30 (sent 8 d)) → flips (word24 (getD (numbersIn 12 30 (sent 8 d)) w 0)) (getD (wordsOf u) w 0) ≤ 4
     few w h =
         let k : w < 30 = omega (arith, segments-length d) in
         le-trans (subst (λ (x : ℕ). flips x (getD (wordsOf u) w 0) ≤ most) (sent-words d w k) (kept w k)) m
@@ -183,23 +183,23 @@ by-type p t l = unread (decLt (typeOf t) 256)
 
 -- a data packet whose useful bytes came with at most four flips a word
 data-came : (p : Bool) (t d : List ℕ) (i : ℕ) → IsData t → indexOf t ≡ i → length d ≡ dataSize p → Below 256 d
-    → Kept 4 p (carried p d) (usefulOf t) → (received p t ≡ partAs i d) ⊎ Refused (received p t)
+    → Kept 4 p (carried p d) (usefulOf t) → (received p t ≡ readableAs i d) ⊎ Refused (received p t)
 data-came false t d i is e l b kept =
-    inl (answer-plain t is ∙ ap₂ partAs e kept)
+    inl (answer-plain t is ∙ ap₂ readableAs e kept)
 data-came true t d i is e l b kept = go (decLt (dataRead (usefulOf t) .place) 30)
   where
-    go : Dec (dataRead (usefulOf t) .place < 30) → (received true t ≡ partAs i d) ⊎ Refused (received true t)
+    go : Dec (dataRead (usefulOf t) .place < 30) → (received true t ≡ readableAs i d) ⊎ Refused (received true t)
     go (yes h) = inr (inr (inr (inr (inr (inl (ap (λ (x : Reading). x .number) (answer-protected t is ∙ data-short (indexOf t) (dataRead (usefulOf t)) h)))))))
     go (no h) =
         let whole : failed (informations (wordsOf (usefulOf t))) ≡ 30 = whole-of (usefulOf t) (omega (arith, h)) in
         inl (answer-protected t is ∙ data-whole (indexOf t) (dataRead (usefulOf t)) (omega arith)
-        ∙ ap₂ partAs e (data-back d (usefulOf t) 4 (omega arith) l b kept whole))
+        ∙ ap₂ readableAs e (data-back d (usefulOf t) 4 (omega arith) l b kept whole))
 
 pub received-came : (p : Bool) (a i : ℕ) (d t : List ℕ) → a ≤ 1023 → i ≤ 3 → length d ≡ dataSize p → Below 256 d
-    → Came p (sentImage p a i d) t → (received p t ≡ partAs i d) ⊎ Refused (received p t)
+    → Came p (sentImage p a i d) t → (received p t ≡ readableAs i d) ⊎ Refused (received p t)
 received-came p a i d t ha hi l b came = go (by-type p t (came .size))
   where
-    go : Refused (received p t) ⊎ IsData t → (received p t ≡ partAs i d) ⊎ Refused (received p t)
+    go : Refused (received p t) ⊎ IsData t → (received p t ≡ readableAs i d) ⊎ Refused (received p t)
     go (inl r) = inr r
     go (inr is) =
         data-came p t d i is (header-came p a i d ha hi l b t (came .header) .1) l b
@@ -213,19 +213,19 @@ type-kept t l f =
     isData t 0x00 l (omega (arith, e)) (sym e) (λ q. omega (arith, q)) (λ q. omega (arith, q)) (λ q. omega (arith, q))
 
 data-corrected : (p : Bool) (t d : List ℕ) (i : ℕ) → IsData t → indexOf t ≡ i → length d ≡ dataSize p → Below 256 d
-    → Kept 3 p (carried p d) (usefulOf t) → received p t ≡ partAs i d
-data-corrected false t d i is e l b kept = answer-plain t is ∙ ap₂ partAs e kept
+    → Kept 3 p (carried p d) (usefulOf t) → received p t ≡ readableAs i d
+data-corrected false t d i is e l b kept = answer-plain t is ∙ ap₂ readableAs e kept
 data-corrected true t d i is e l b kept =
     let u = usefulOf t in
-    let few : (w : ℕ) → w < length (taken 12 30 (sent 8 d)) → flips (word24 (getD (taken 12 30 (sent 8 d)) w 0)) (getD (wordsOf u) w 0) ≤ 3 =
+    let few : (w : ℕ) → w < length (numbersIn 12 30 (sent 8 d)) → flips (word24 (getD (numbersIn 12 30 (sent 8 d)) w 0)) (getD (wordsOf u) w 0) ≤ 3 =
     λ w h. subst (λ (x : ℕ). flips x (getD (wordsOf u) w 0) ≤ 3) (sent-words d w (omega (arith, segments-length d))) (kept w (omega (arith, segments-length d))) in
     let whole : failed (informations (wordsOf u)) ≡ 30 =
-    corrected-whole (taken 12 30 (sent 8 d)) (wordsOf u) (segments-below d) (words-length u ∙ sym (segments-length d)) few ∙ words-length u in
+    corrected-whole (numbersIn 12 30 (sent 8 d)) (wordsOf u) (segments-below d) (words-length u ∙ sym (segments-length d)) few ∙ words-length u in
     answer-protected t is ∙ data-whole (indexOf t) (dataRead u) (omega (arith, place-of u, whole))
-    ∙ ap₂ partAs e (data-back d u 3 (omega arith) l b kept whole)
+    ∙ ap₂ readableAs e (data-back d u 3 (omega arith) l b kept whole)
 
 pub received-corrected : (p : Bool) (a i : ℕ) (d t : List ℕ) → a ≤ 1023 → i ≤ 3 → length d ≡ dataSize p → Below 256 d
-    → Corrected p (sentImage p a i d) t → received p t ≡ partAs i d
+    → Corrected p (sentImage p a i d) t → received p t ≡ readableAs i d
 received-corrected p a i d t ha hi l b came =
     data-corrected p t d i
     (type-kept t (came .size) (subst (λ (bs : List ℕ). flips (getD bs 0 0) (getD (bytesOf t) 0 0) ≤ 2) (sent-bytes p a i d ha hi l b) (came .type)))
@@ -258,5 +258,5 @@ corrected-came p s t c = record { size = c .size; header = c .header; useful = k
 
 -- "reading a written image gives what went in"
 pub received-sent : (p : Bool) (a i : ℕ) (d : List ℕ) → a ≤ 1023 → i ≤ 3 → length d ≡ dataSize p → Below 256 d
-    → received p (sentImage p a i d) ≡ partAs i d
+    → received p (sentImage p a i d) ≡ readableAs i d
 received-sent p a i d ha hi l b = received-corrected p a i d (sentImage p a i d) ha hi l b (sent-corrected p a i d)

@@ -24,9 +24,9 @@ use lib.Count.{ones}
 use lib.Dec.{lit<, lit≤}
 use lib.ListN.{length, getD, set, take, drop, length-map, length-set, length-append}
 use lib.Seq.{take-all, take-take, take-append-le, drop-at, length-take-le, getD-set-same, getD-set-other}
-use Rattle.bits.specs.Bits.{flips, number, sent, taken}
+use Rattle.bits.specs.Bits.{flips, number, sent, numbersIn}
 use Rattle.bits.proofs.Flips.{flips-of, flips-same}
-use Rattle.bits.proofs.Runs.{Below, below-take, below-cat, sent-length, sent-below, taken-length, taken-below, taken-sent, sent-taken, below-cons}
+use Rattle.bits.proofs.Runs.{Below, below-take, below-cat, sent-length, sent-below, numbersIn-length, numbersIn-below, numbersIn-sent, sent-numbersIn, below-cons}
 use Rattle.bits.proofs.Storing.{getD-map}
 use Rattle.bare.specs.Bare.{types, typeNear, wordWritten}
 use Rattle.bare.specs.declared.Word.{Word}
@@ -40,7 +40,7 @@ use Rattle.image.proofs.Laws.{image-length, header-image, bytes-image, spare-im
 use Rattle.words.specs.Protected.{protected, wordsOf, informations, failed, dataRead, wordsRead}
 use Rattle.words.proofs.Each.{failed-whole}
 use Rattle.words.proofs.Packing.{words-protected, words-length, segments-below, segments-length, protected-length, protected-below, word24s-below}
-use Rattle.packet.specs.Received.{typeOf, usefulOf, received, written, partAs}
+use Rattle.packet.specs.Received.{typeOf, usefulOf, received, written, readableAs}
 use Rattle.packet.specs.Damage.{sentImage, Kept, Came}
 use Rattle.packet.specs.declared.Reading.{Reading}
 use Rattle.packet.proofs.Answers.{indexOf, answer-control, answer-protected, isData, data-short}
@@ -58,7 +58,7 @@ pub record Flipping : Type 0 where
   pub word : ℕ
 
 abbrev segmentsOf : List ℕ → List ℕ
-segmentsOf d = taken 12 30 (sent 8 d)
+segmentsOf d = numbersIn 12 30 (sent 8 d)
 
 abbrev sentWords : List ℕ → List ℕ
 sentWords d = map word24 (segmentsOf d)
@@ -67,7 +67,7 @@ abbrev wordsWith : List ℕ → Flipping → List ℕ
 wordsWith d x = set (sentWords d) (x .place) (bitXor (getD (sentWords d) (x .place) 0) (x .word))
 
 abbrev usefulWith : List ℕ → Flipping → List ℕ
-usefulWith d x = taken 8 90 (sent 24 (wordsWith d x))
+usefulWith d x = numbersIn 8 90 (sent 24 (wordsWith d x))
 
 unfoldable pub flipped : ℕ → ℕ → List ℕ → Flipping → List ℕ
 flipped a c d x = imageOf (bitXor (word23 (a + 1024 * c)) (x .header)) (x .type ∷ usefulWith d x)
@@ -93,13 +93,13 @@ set-below m (x ∷ ns) zero n h hs k = below-cons n ns h (λ i. hs (suc i)) k
 set-below m (x ∷ ns) (suc j) n h hs k = below-cons x (set ns j n) (hs 0) (set-below m ns j n h (λ i. hs (suc i))) k
 
 -- thirty words, as bytes and back
-words-packed : (ns : List ℕ) → Below (2 ^ 24) ns → length ns ≡ 30 → wordsOf (taken 8 90 (sent 24 ns)) ≡ ns
+words-packed : (ns : List ℕ) → Below (2 ^ 24) ns → length ns ≡ 30 → wordsOf (numbersIn 8 90 (sent 24 ns)) ≡ ns
 unfolding wordsOf
 words-packed ns h l =
     let long : length (sent 24 ns) ≡ 720 = sent-length 24 ns ∙ ap (λ (x : ℕ). x * 24) l in
-    ap (taken 24 30)
-    (sent-taken 8 90 (sent 24 ns) (sent-below 24 ns) (omega (arith, long)) ∙ take-all 720 (sent 24 ns) (omega (arith, long)) ∙ sym (append-nil (sent 24 ns)))
-    ∙ ap (λ (x : ℕ). taken 24 x (sent 24 ns ++ [])) (sym l) ∙ taken-sent 24 ns [] h
+    ap (numbersIn 24 30)
+    (sent-numbersIn 8 90 (sent 24 ns) (sent-below 24 ns) (omega (arith, long)) ∙ take-all 720 (sent 24 ns) (omega (arith, long)) ∙ sym (append-nil (sent 24 ns)))
+    ∙ ap (λ (x : ℕ). numbersIn 24 x (sent 24 ns ++ [])) (sym l) ∙ numbersIn-sent 24 ns [] h
 
 -- ---- what is in it
 
@@ -126,7 +126,7 @@ module _ (a c : ℕ) (d : List ℕ) (x : Flipping) (z : Fits a c d x) where
       set-below (2 ^ 24) (sentWords d) (x .place) _ (xor-lt 24 (getD (sentWords d) (x .place) 0) (x .word) (all (x .place)) (z .word)) all
 
   length-91 : length (x .type ∷ usefulWith d x) ≡ 91
-  length-91 = ap suc (taken-length 8 90 (sent 24 (wordsWith d x)))
+  length-91 = ap suc (numbersIn-length 8 90 (sent 24 (wordsWith d x)))
 
   pub flipped-size : length (flipped a c d x) ≡ 94
   unfolding flipped
@@ -146,7 +146,7 @@ module _ (a c : ℕ) (d : List ℕ) (x : Flipping) (z : Fits a c d x) where
   unfolding flipped
   bytes-with =
       bytes-image (bitXor (word23 (a + 1024 * c)) (x .header)) (x .type ∷ usefulWith d x) length-91
-      (below-cons (x .type) (usefulWith d x) (z .type) (taken-below 8 90 (sent 24 (wordsWith d x)) (sent-below 24 (wordsWith d x))))
+      (below-cons (x .type) (usefulWith d x) (z .type) (numbersIn-below 8 90 (sent 24 (wordsWith d x)) (sent-below 24 (wordsWith d x))))
 
   words-with : wordsOf (usefulOf (flipped a c d x)) ≡ wordsWith d x
   unfolding usefulOf
@@ -202,7 +202,7 @@ module _ (a c : ℕ) (d : List ℕ) (x : Flipping) (z : Fits a c d x) where
 
   -- ---- what it is received as
 
-  pub flipped-read : ones (x .header) ≤ 3 → flips 0x00 (x .type) ≤ 2 → ones (x .word) ≤ 3 → received true (flipped a c d x) ≡ partAs c d
+  pub flipped-read : ones (x .header) ≤ 3 → flips 0x00 (x .type) ≤ 2 → ones (x .word) ≤ 3 → received true (flipped a c d x) ≡ readableAs c d
   flipped-read few two three =
       received-corrected true a c d (flipped a c d x) (z .address) (z .index) (z .size) (z .bytes) (record {
         size = flipped-size;
@@ -260,7 +260,7 @@ module _ (a c : ℕ) (d : List ℕ) (x : Flipping) (z : Fits a c d x) where
 -- ---- the spare bit
 
 unfoldable pub spareSet : List ℕ → List ℕ
-spareSet s = taken 8 94 (take 751 (sent 8 s) ++ (1 ∷ []))
+spareSet s = numbersIn 8 94 (take 751 (sent 8 s) ++ (1 ∷ []))
 
 module _ (s : List ℕ) (l : length s ≡ 94) where
   front-length : length (take 751 (sent 8 s)) ≡ 751
@@ -275,7 +275,7 @@ module _ (s : List ℕ) (l : length s ≡ 94) where
   sent-spareSet =
       let bs = take 751 (sent 8 s) ++ (1 ∷ []) in
       let long : length bs ≡ 752 = length-append (take 751 (sent 8 s)) (1 ∷ []) ∙ ap (λ (n : ℕ). n + 1) front-length in
-      sent-taken 8 94 bs (below-cat (take 751 (sent 8 s)) (1 ∷ []) (below-take 751 (sent 8 s) (sent-below 8 s)) one-below) (omega (arith, long))
+      sent-numbersIn 8 94 bs (below-cat (take 751 (sent 8 s)) (1 ∷ []) (below-take 751 (sent 8 s) (sent-below 8 s)) one-below) (omega (arith, long))
       ∙ take-all 752 bs (omega (arith, long))
 
   pub spareSet-spare : spareOf (spareSet s) ≡ 1

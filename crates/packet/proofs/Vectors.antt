@@ -19,7 +19,7 @@ use native.Mathlib.Omega.{arith}
 use lib.Count.{ones, onesIn}
 use lib.Dec.{leb, ltb, lit<}
 use lib.ListN.{drop}
-use Rattle.bits.specs.Bits.{flips, bitsOf, number, sent, taken, blank}
+use Rattle.bits.specs.Bits.{flips, bitsOf, number, sent, numbersIn, blank}
 use Rattle.bits.specs.Rows.{refusal}
 use Rattle.golay.specs.Code.{less, line, divide, remainder, word23, word24, nearest}
 use Rattle.bare.specs.Bare.{typeNear}
@@ -47,7 +47,7 @@ shielded =
     0xF1 ∷ 0xCF ∷ 0x13 ∷ 0x04 ∷ 0x55 ∷ 0x49 ∷ 0x19 ∷ 0x04 ∷ 0x95 ∷ 0xE5 ∷ 0x5A ∷ 0x61 ∷ 0x49 ∷ 0x70 ∷ []
 
 pub shielded-sent : sentImage true 17 0 words.counting ≡ shielded
-unfolding written imageOf taken number bitsOf sent word23 remainder divide line less
+unfolding written imageOf numbersIn number bitsOf sent word23 remainder divide line less
 shielded-sent = ap (written 17 0 0x00) words.counting-useful
 
 -- ---- by the type byte
@@ -57,11 +57,11 @@ typed t = written 17 0 t image.counting
 
 pub types-answered : map (λ (t : ℕ). receivedNumber false (typed t)) (0x00 ∷ 0x03 ∷ 0x55 ∷ 0x3F ∷ 0xFF ∷ 0xC7 ∷ 0x07 ∷ 0xF8 ∷ 0xFB ∷ [])
     ≡ (0 ∷ 0 ∷ 28 ∷ 29 ∷ 29 ∷ 29 ∷ 29 ∷ 30 ∷ 30 ∷ [])
-unfolding receivedNumber refusal unreadable typeOf typeNear flips ones onesIn bytesOf written imageOf taken number bitsOf sent word23 remainder divide line less
+unfolding receivedNumber refusal unreadable typeOf typeNear flips ones onesIn bytesOf written imageOf numbersIn number bitsOf sent word23 remainder divide line less
 types-answered = refl
 
 pub lengths-answered : map (receivedNumber false) ([] ∷ drop 1 image.plain ∷ (0 ∷ image.plain) ∷ image.plain ∷ []) ≡ (20 ∷ 20 ∷ 20 ∷ 0 ∷ [])
-unfolding receivedNumber refusal unreadable typeOf typeNear flips ones onesIn bytesOf taken number bitsOf sent
+unfolding receivedNumber refusal unreadable typeOf typeNear flips ones onesIn bytesOf numbersIn number bitsOf sent
 lengths-answered = refl
 
 -- ---- 31: the first word is that of 0 with four flips
@@ -73,5 +73,5 @@ abbrev fourfold : List ℕ
 fourfold = 0x0F ∷ 0x00 ∷ 0x80 ∷ blank 87
 
 pub word-answered : receivedNumber true (written 17 0 0x00 fourfold) ≡ 31
-unfolding receivedNumber refusal unreadable typeOf typeNear flips ones onesIn bytesOf usefulOf dataRead wordsRead wordsOf informations failed written imageOf taken number bitsOf sent blank word23 remainder divide line less
+unfolding receivedNumber refusal unreadable typeOf typeNear flips ones onesIn bytesOf usefulOf dataRead wordsRead wordsOf informations failed written imageOf numbersIn number bitsOf sent blank word23 remainder divide line less
 word-answered = ap (λ (i : ℕ). cond (ltb (cond (leb 4096 i) 0 (suc (failed (informations (blank 29))))) 30) 31 0) far

@@ -69,11 +69,11 @@ received protected s =
 abbrev pub refusedAs : ℕ → ℕ → Reading
 refusedAs number place = record { number = number; place = place; index = 0; bytes = blank 90 }
 
-abbrev pub partAs : ℕ → List ℕ → Reading
-partAs index bytes = record { number = 0; place = 0; index = index; bytes = filled 0 bytes }
+abbrev pub readableAs : ℕ → List ℕ → Reading
+readableAs index bytes = record { number = 0; place = 0; index = index; bytes = filled 0 bytes }
 
 abbrev pub dataAs : ℕ → Data → Reading
-dataAs index d = cond (ltb (d .place) 30) (refusedAs (number wordUnreadable) (d .place)) (partAs index (d .bytes))
+dataAs index d = cond (ltb (d .place) 30) (refusedAs (number wordUnreadable) (d .place)) (readableAs index (d .bytes))
 
 -- 4.3.6: header, type byte, useful bytes; the spare bit is 0
 unfoldable pub written : ℕ → ℕ → ℕ → List ℕ → List ℕ

@@ -5,7 +5,7 @@ ghost use lib.ListN.{length};
 ghost use Rattle.bare.specs.Bare.{headerRead};
 ghost use Rattle.image.specs.Image.{headerOf};
 ghost use Rattle.words.specs.Protected.{dataRead};
-ghost use Rattle.packet.specs.Received.{received, written, refusedAs, partAs, dataAs};
+ghost use Rattle.packet.specs.Received.{received, written, refusedAs, readableAs, dataAs};
 use bare::Header;
 use bare::TypeByte;
 use faults::Faults;
@@ -57,7 +57,7 @@ pub fn received_by(header: Header, protected: bool, image: &[u8]) -> Reading
     if protected {
         unprotected(header.index, &bytes[1..91])
     } else {
-        part(header.index, &bytes[1..91])
+        readable(header.index, &bytes[1..91])
     }
 }
 
@@ -74,9 +74,9 @@ fn refused(number: u8, place: u8) -> Reading
 }
 
 // A packet that is read: its bytes, with 0 behind them to fill the room of 90.
-fn part(index: u8, from: &[u8]) -> Reading
+fn readable(index: u8, from: &[u8]) -> Reading
     requires { ⌜ length (now from) ≤ 90 ⌝ }
-    ensures { λ r. ⌜ r ≡ partAs index (now (from .entry)) ⌝ }
+    ensures { λ r. ⌜ r ≡ readableAs index (now (from .entry)) ⌝ }
 {
     let mut bytes = [0u8; 90];
     let mut k: usize = 0;
@@ -103,7 +103,7 @@ fn unprotected(index: u8, useful: &[u8]) -> Reading
         return refused(Faults::WORD_UNREADABLE, place);
     }
     let bytes = data.bytes;
-    part(index, &bytes)
+    readable(index, &bytes)
 }
 
 // The image of a packet.

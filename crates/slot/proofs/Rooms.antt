@@ -13,7 +13,7 @@ use lib.ListN.{length, take, drop, getD, replicate, length-drop}
 use lib.Seq.{drop-length, drop-drop, paste, take-length, length-take-le}
 use Rattle.bits.specs.Bits.{blank}
 use Rattle.runs.specs.Part.{part, put}
-use Rattle.slot.specs.Slot.{roomSize, slotSize, unfinished, withUnfinished, withStored, kept}
+use Rattle.slot.specs.Slot.{roomSize, slotSize, unfinished, withUnfinished, withStored, keptRoom}
 use Rattle.runs.proofs.Copying.{paste-put}
 use Rattle.runs.proofs.Parts.{part-part, put-length, put-next, getD-put-before}
 
@@ -31,8 +31,8 @@ lent-put : (x y : List ℕ) (i j : ℕ) → (take j x ++ (y ++ drop i (drop j x)
 unfolding put
 lent-put x y i j = refl
 
-kept-stored : (n : ℕ) (s : List ℕ) → n ≤ roomSize → put 360 (n + (360 - n)) (take n s ++ blank (360 - n)) s ≡ withStored (kept n (unfinished s)) s
-unfolding withStored kept unfinished part
+kept-stored : (n : ℕ) (s : List ℕ) → n ≤ roomSize → put 360 (n + (360 - n)) (take n s ++ blank (360 - n)) s ≡ withStored (keptRoom n (unfinished s)) s
+unfolding withStored keptRoom unfinished part
 kept-stored n s h =
     let room : n + (360 - n) ≡ roomSize = omega arith in
     ap₂ (λ (m : ℕ) (x : List ℕ). put 360 m (x ++ blank (360 - n)) s) room (sym (part-part 0 n 0 roomSize s (omega arith)))
@@ -40,7 +40,7 @@ kept-stored n s h =
 -- the rest of the room, as it is lent: from 360 + n to 720
 pub keep-lent : (s b t : List ℕ) (k n : ℕ) → length s ≡ slotSize → n ≤ roomSize → k ≡ n → b ≡ paste s 360 s k
     → t ≡ blank (length (take (720 - (360 + n)) (drop (360 + n) b)))
-    → (take (360 + n) b ++ (t ++ drop (720 - (360 + n)) (drop (360 + n) b))) ≡ withStored (kept n (unfinished s)) s
+    → (take (360 + n) b ++ (t ++ drop (720 - (360 + n)) (drop (360 + n) b))) ≡ withStored (keptRoom n (unfinished s)) s
 keep-lent s b t k n l h q e et =
     let m = 720 - (360 + n) in
     let em : m ≡ roomSize - n = omega arith in

@@ -11,7 +11,7 @@
 --   withHead h s            the slot with another head
 --   unfinished s, stored s  the two rooms
 --   withUnfinished, withStored
---   kept n room             a room of which n bytes are kept, and 0 behind them
+--   keptRoom n room         a room of which n bytes are kept, and 0 behind them
 --   free s                  every byte 0
 --   goodSlot s              free, or with a good head
 use mathlib.Core.Bool.{Bool, true, _&&_, _||_}
@@ -73,8 +73,8 @@ withUnfinished room s = put 0 roomSize room s
 unfoldable pub withStored : List ℕ → List ℕ → List ℕ
 withStored room s = put wholeAt roomSize room s
 
-unfoldable pub kept : ℕ → List ℕ → List ℕ
-kept n room = part 0 n room ++ blank (roomSize - n)
+unfoldable pub keptRoom : ℕ → List ℕ → List ℕ
+keptRoom n room = part 0 n room ++ blank (roomSize - n)
 
 unfoldable pub free : List ℕ → Bool
 free [] = true

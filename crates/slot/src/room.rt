@@ -3,7 +3,7 @@ ghost use mathlib.Core.Path.{_≡_};
 ghost use Prim.Native.Nat.{_≤_};
 ghost use lib.ListN.{length};
 ghost use Rattle.bits.specs.Bits.{blank};
-ghost use Rattle.slot.specs.Slot.{roomSize, slotSize, unfinished, withUnfinished, withStored, kept};
+ghost use Rattle.slot.specs.Slot.{roomSize, slotSize, unfinished, withUnfinished, withStored, keptRoom};
 use crate::Slot;
 
 // Clears the unfinished room.
@@ -18,7 +18,7 @@ pub fn empty(slot: &mut [u8])
 pub fn keep(slot: &mut [u8], len: usize)
     requires { ⌜ length (now slot) ≡ slotSize ⌝ }
     requires { ⌜ len ≤ roomSize ⌝ }
-    ensures { λ _. ⌜ now (slot .exit) ≡ withStored (kept len (unfinished (now (slot .entry)))) (now (slot .entry)) ⌝ }
+    ensures { λ _. ⌜ now (slot .exit) ≡ withStored (keptRoom len (unfinished (now (slot .entry)))) (now (slot .entry)) ⌝ }
 {
     let mut k: usize = 0;
     while k < len {

@@ -197,9 +197,9 @@ follows-again = λ i.
 
 -- ---- a full table: addresses 1 to 16
 
-unfoldable pub filled : ℕ → List ℕ
-filled zero = started
-filled (suc n) = followAfter (filled n) (wishOf (suc n) 1 2)
+unfoldable pub followedTo : ℕ → List ℕ
+followedTo zero = started
+followedTo (suc n) = followAfter (followedTo n) (wishOf (suc n) 1 2)
 
 abbrev first-of : ℕ → ℕ → ℕ
 first-of n k = cond (ltb k n) (suc k) 0
@@ -229,21 +229,21 @@ first-more n k = go (ℕ-discrete k n) (decLt k n)
         ap (λ (b : Bool). cond b (suc n) (first-of n k)) (ne-eqb k n e) ∙ ap (λ (b : Bool). cond b (suc k) 0) (le-ltb k n (omega arith))
         ∙ sym (ap (λ (b : Bool). cond b (suc k) 0) (le-ltb k (suc n) (omega (arith, e, l))))
 
-pub filled-accepted : (n : ℕ) → n < slots → Shows (filled n) (first-of n) → followAnswer (filled n) (wishOf (suc n) 1 2) ≡ 0
+pub filled-accepted : (n : ℕ) → n < slots → Shows (followedTo n) (first-of n) → followAnswer (followedTo n) (wishOf (suc n) 1 2) ≡ 0
 filled-accepted n h v =
     let t = filled-next n h in
     let a = leb slots (place (first-of n) (suc n)) in
     let b = eqb (place (first-of n) 0) n in
     let at : place (first-of n) 0 ≡ n = eqb→eq (place (first-of n) 0) n (both-right a b t) in
-    accepted (filled n) (first-of n) v (wishOf (suc n) 1 2)
+    accepted (followedTo n) (first-of n) v (wishOf (suc n) 1 2)
     (sym (wish-0 (wishOf (suc n) 1 2) (inside n h) (lit≤ tt) refl))
     (leb→le slots (place (first-of n) (suc n)) (both-left a b t)) (subst (λ (i : ℕ). i < slots) (sym at) h)
   where
     inside : (n : ℕ) → n < slots → (ltb (suc n) 1 || ltb 1022 (suc n)) ≡ false
     inside n h = ap₂ (λ (x y : Bool). x || y) (le-ltb (suc n) 1 (omega arith)) (le-ltb 1022 (suc n) (omega arith))
 
-pub filled-shows : (n : ℕ) → n ≤ slots → Shows (filled n) (first-of n)
-unfolding filled
+pub filled-shows : (n : ℕ) → n ≤ slots → Shows (followedTo n) (first-of n)
+unfolding followedTo
 filled-shows zero h = record {
   passed = ok;
   each = λ k hk. start-shows .each k hk ∙ sym (ap (λ (b : Bool). cond b (suc k) 0) (le-ltb k 0 (omega arith)));
@@ -252,20 +252,20 @@ filled-shows (suc n) h =
     let v = filled-shows n (omega arith) in
     let t = filled-next n (omega arith) in
     let at : place (first-of n) 0 ≡ n = eqb→eq (place (first-of n) 0) n (both-right (leb slots (place (first-of n) (suc n))) (eqb (place (first-of n) 0) n) t) in
-    let w = follow-shows (filled n) (first-of n) v (wishOf (suc n) 1 2) (filled-accepted n (omega arith) v) in
+    let w = follow-shows (followedTo n) (first-of n) v (wishOf (suc n) 1 2) (filled-accepted n (omega arith) v) in
     record {
       passed = w .passed;
       each = λ k hk. w .each k hk ∙ ap (λ (i : ℕ). with (first-of n) i (suc n) k) at ∙ first-more n k;
     }
 
 -- the seventeenth, and after 5 was left
-pub follows-full : (followAnswer (filled 16) (wishOf 16 1 2) ∷ followAnswer (filled 16) (wishOf 17 1 2) ∷ followAnswer (leaveAfter (filled 16) 5) (wishOf 17 1 2) ∷ [])
+pub follows-full : (followAnswer (followedTo 16) (wishOf 16 1 2) ∷ followAnswer (followedTo 16) (wishOf 17 1 2) ∷ followAnswer (leaveAfter (followedTo 16) 5) (wishOf 17 1 2) ∷ [])
     ≡ (25 ∷ 26 ∷ 0 ∷ [])
 unfolding first wishAnswer refusal
 follows-full =
     let v = filled-shows 16 (lit≤ tt) in
-    let left : leaveAnswer (filled 16) 5 ≡ 0 = known (filled 16) (first-of 16) v 5 refl (lit< tt) in
-    let w = leave-shows (filled 16) (first-of 16) v 5 left in
-    λ i. again (filled 16) (first-of 16) v (wishOf 16 1 2) refl (lit< tt) i
-    ∷ full (filled 16) (first-of 16) v (wishOf 17 1 2) refl (lit≤ tt) (lit≤ tt) i
-    ∷ accepted (leaveAfter (filled 16) 5) (with (first-of 16) 4 0) w (wishOf 17 1 2) refl (lit≤ tt) (lit< tt) i ∷ []
+    let left : leaveAnswer (followedTo 16) 5 ≡ 0 = known (followedTo 16) (first-of 16) v 5 refl (lit< tt) in
+    let w = leave-shows (followedTo 16) (first-of 16) v 5 left in
+    λ i. again (followedTo 16) (first-of 16) v (wishOf 16 1 2) refl (lit< tt) i
+    ∷ full (followedTo 16) (first-of 16) v (wishOf 17 1 2) refl (lit≤ tt) (lit≤ tt) i
+    ∷ accepted (leaveAfter (followedTo 16) 5) (with (first-of 16) 4 0) w (wishOf 17 1 2) refl (lit≤ tt) (lit< tt) i ∷ []

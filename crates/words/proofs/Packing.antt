@@ -24,8 +24,8 @@ use lib.Dec.{lit<, lit≤}
 use lib.ListN.{length, take, drop, getD, set, length-set, length-map}
 use lib.Pow.{pow-pos}
 use lib.Seq.{take-all}
-use Rattle.bits.specs.Bits.{number, sent, taken}
-use Rattle.bits.proofs.Runs.{Below, sent-length, sent-below, taken-length, taken-at, taken-below, taken-sent, sent-taken, or-above, word-bytes, regrouped}
+use Rattle.bits.specs.Bits.{number, sent, numbersIn}
+use Rattle.bits.proofs.Runs.{Below, sent-length, sent-below, numbersIn-length, numbersIn-at, numbersIn-below, numbersIn-sent, sent-numbersIn, or-above, word-bytes, regrouped}
 use Rattle.bits.proofs.Storing.{stored}
 use Rattle.golay.specs.Code.{word24}
 use Rattle.golay.proofs.Words.{word24-lt}
@@ -57,7 +57,7 @@ or-low r k w a n h l =
 
 -- `regrouped`, with the second number's place as the code has it
 grouped : (w v k j a b r : ℕ) (ns : List ℕ) → Below (2 ^ v) ns → j < k → j * w ≡ a * v + r → b ≡ suc a
-    → getD (taken w k (sent v ns)) j 0
+    → getD (numbersIn w k (sent v ns)) j 0
     ≡ (getD ns a 0 + 2 ^ v * (getD ns b 0 + 2 ^ v * number (sent v (drop (suc b) ns)))) / 2 ^ r % 2 ^ w
 grouped w v k j a b r ns h l e s =
     regrouped w v k j a r ns h l e
@@ -65,12 +65,12 @@ grouped w v k j a b r ns h l e s =
 
 -- taken at another width and sent, numbers are as they were
 back : (w v k n : ℕ) (ns : List ℕ) → Below (2 ^ v) ns → length ns ≡ n → k * w ≡ n * v
-    → taken v n (sent w (taken w k (sent v ns))) ≡ ns
+    → numbersIn v n (sent w (numbersIn w k (sent v ns))) ≡ ns
 back w v k n ns h l e =
     let long : length (sent v ns) ≡ k * w = sent-length v ns ∙ ap (λ (x : ℕ). x * v) l ∙ sym e in
-    ap (taken v n)
-    (sent-taken w k (sent v ns) (sent-below v ns) (omega arith) ∙ take-all (k * w) (sent v ns) (omega arith) ∙ sym (append-nil (sent v ns)))
-    ∙ ap (λ (x : ℕ). taken v x (sent v ns ++ [])) (sym l) ∙ taken-sent v ns [] h
+    ap (numbersIn v n)
+    (sent-numbersIn w k (sent v ns) (sent-below v ns) (omega arith) ∙ take-all (k * w) (sent v ns) (omega arith) ∙ sym (append-nil (sent v ns)))
+    ∙ ap (λ (x : ℕ). numbersIn v x (sent v ns ++ [])) (sym l) ∙ numbersIn-sent v ns [] h
 
 -- ---- a function of each number of a list
 
@@ -87,46 +87,46 @@ word24s-below is h = map-below word24 4096 (2 ^ 24) (lit< tt) word24-lt is h
 module _ (s : List ℕ) where
   pub words-length : length (wordsOf s) ≡ 30
   unfolding wordsOf
-  words-length = taken-length 24 30 (sent 8 s)
+  words-length = numbersIn-length 24 30 (sent 8 s)
 
   pub words-below : Below (2 ^ 24) (wordsOf s)
   unfolding wordsOf
-  words-below = taken-below 24 30 (sent 8 s) (sent-below 8 s)
+  words-below = numbersIn-below 24 30 (sent 8 s) (sent-below 8 s)
 
 module _ (is : List ℕ) where
   pub data-length : length (dataOf is) ≡ 45
   unfolding dataOf
-  data-length = taken-length 8 45 (sent 12 is)
+  data-length = numbersIn-length 8 45 (sent 12 is)
 
   pub data-below : Below 256 (dataOf is)
   unfolding dataOf
-  data-below = taken-below 8 45 (sent 12 is) (sent-below 12 is)
+  data-below = numbersIn-below 8 45 (sent 12 is) (sent-below 12 is)
 
 module _ (d : List ℕ) where
-  pub segments-length : length (taken 12 30 (sent 8 d)) ≡ 30
-  segments-length = taken-length 12 30 (sent 8 d)
+  pub segments-length : length (numbersIn 12 30 (sent 8 d)) ≡ 30
+  segments-length = numbersIn-length 12 30 (sent 8 d)
 
-  pub segments-below : Below 4096 (taken 12 30 (sent 8 d))
-  segments-below = taken-below 12 30 (sent 8 d) (sent-below 8 d)
+  pub segments-below : Below 4096 (numbersIn 12 30 (sent 8 d))
+  segments-below = numbersIn-below 12 30 (sent 8 d) (sent-below 8 d)
 
   pub protected-length : length (protected d) ≡ 90
   unfolding protected
-  protected-length = taken-length 8 90 (sent 24 (map word24 (taken 12 30 (sent 8 d))))
+  protected-length = numbersIn-length 8 90 (sent 24 (map word24 (numbersIn 12 30 (sent 8 d))))
 
   pub protected-below : Below 256 (protected d)
   unfolding protected
   protected-below =
-      taken-below 8 90 (sent 24 (map word24 (taken 12 30 (sent 8 d)))) (sent-below 24 (map word24 (taken 12 30 (sent 8 d))))
+      numbersIn-below 8 90 (sent 24 (map word24 (numbersIn 12 30 (sent 8 d)))) (sent-below 24 (map word24 (numbersIn 12 30 (sent 8 d))))
 
   -- ---- back again
 
-  pub words-protected : wordsOf (protected d) ≡ map word24 (taken 12 30 (sent 8 d))
+  pub words-protected : wordsOf (protected d) ≡ map word24 (numbersIn 12 30 (sent 8 d))
   unfolding wordsOf protected
   words-protected =
-      back 8 24 90 30 (map word24 (taken 12 30 (sent 8 d))) (word24s-below (taken 12 30 (sent 8 d)) segments-below)
-      (length-map (taken 12 30 (sent 8 d)) word24 ∙ segments-length) refl
+      back 8 24 90 30 (map word24 (numbersIn 12 30 (sent 8 d))) (word24s-below (numbersIn 12 30 (sent 8 d)) segments-below)
+      (length-map (numbersIn 12 30 (sent 8 d)) word24 ∙ segments-length) refl
 
-  pub data-segments : length d ≡ 45 → Below 256 d → dataOf (taken 12 30 (sent 8 d)) ≡ d
+  pub data-segments : length d ≡ 45 → Below 256 d → dataOf (numbersIn 12 30 (sent 8 d)) ≡ d
   unfolding dataOf
   data-segments l h = back 12 8 30 45 d h l refl
 
@@ -142,7 +142,7 @@ word-gathered s h w l =
     ∙ or-above 8 16 32 (getD s (w * 3) 0 + 256 * getD s (w * 3 + 1) 0) (getD s (w * 3 + 2) 0)
     (omega (arith, h (w * 3), h (w * 3 + 1))) (h (w * 3 + 2)) (lit≤ tt)
     ∙ sym
-    (taken-at 24 30 w (sent 8 s) l
+    (numbersIn-at 24 30 w (sent 8 s) l
     ∙ ap (λ (x : ℕ). number (take 24 (drop x (sent 8 s)))) (mul-comm w 24)
     ∙ word-bytes w s h
     ∙ ap (λ (x : ℕ). getD s x 0 + 256 * getD s (x + 1) 0 + 65536 * getD s (x + 2) 0) (mul-comm 3 w))
@@ -170,13 +170,13 @@ module _ (is : List ℕ) (h : Below 4096 is) (v : ℕ) (l : v < 15) where
 -- three bytes, two segments
 module _ (d : List ℕ) (h : Below 256 d) (v : ℕ) (l : v < 15) where
   pub segment-first :
-      bitOr (getD d (v * 3) 0) ((bitAnd (getD d (v * 3 + 1) 0) 15 * 256) % 65536) ≡ getD (taken 12 30 (sent 8 d)) (v * 2) 0
+      bitOr (getD d (v * 3) 0) ((bitAnd (getD d (v * 3 + 1) 0) 15 * 256) % 65536) ≡ getD (numbersIn 12 30 (sent 8 d)) (v * 2) 0
   segment-first =
       or-low 4 8 16 (getD d (v * 3) 0) (getD d (v * 3 + 1) 0) (h (v * 3)) (lit≤ tt)
       ∙ omega (arith, h (v * 3), grouped 12 8 30 (v * 2) (v * 3) (v * 3 + 1) 0 d h (omega arith) (omega arith) (omega arith))
 
   pub segment-second :
-      bitOr (getD d (v * 3 + 1) 0 / 16) ((getD d (v * 3 + 2) 0 * 16) % 65536) ≡ getD (taken 12 30 (sent 8 d)) (v * 2 + 1) 0
+      bitOr (getD d (v * 3 + 1) 0 / 16) ((getD d (v * 3 + 2) 0 * 16) % 65536) ≡ getD (numbersIn 12 30 (sent 8 d)) (v * 2 + 1) 0
   segment-second =
       or-above 8 4 16 (getD d (v * 3 + 1) 0 / 16) (getD d (v * 3 + 2) 0) (omega (arith, h (v * 3 + 1))) (h (v * 3 + 2)) (lit≤ tt)
       ∙ omega (
@@ -189,15 +189,15 @@ module _ (d : List ℕ) (h : Below 256 d) (v : ℕ) (l : v < 15) where
 -- a word, three bytes
 module _ (ns : List ℕ) (h : Below (2 ^ 24) ns) (w : ℕ) (l : w < 30) (n : ℕ) (e : n ≡ getD ns w 0) where
   coded-digit : (j r : ℕ) → j * 8 ≡ w * 24 + r → r ≤ 16
-      → getD (taken 8 90 (sent 24 ns)) j 0
+      → getD (numbersIn 8 90 (sent 24 ns)) j 0
       ≡ (getD ns w 0 + 2 ^ 24 * (getD ns (suc w) 0 + 2 ^ 24 * number (sent 24 (drop (suc (suc w)) ns)))) / 2 ^ r % 256
   coded-digit j r p f = regrouped 8 24 90 j w r ns h (omega arith) p
 
-  pub coded-first : bitAnd n 255 ≡ getD (taken 8 90 (sent 24 ns)) (w * 3) 0
+  pub coded-first : bitAnd n 255 ≡ getD (numbersIn 8 90 (sent 24 ns)) (w * 3) 0
   coded-first = and-mask n 8 ∙ omega (arith, coded-digit (w * 3) 0 (omega arith) (lit≤ tt))
 
-  pub coded-second : bitAnd (n / 256) 255 ≡ getD (taken 8 90 (sent 24 ns)) (w * 3 + 1) 0
+  pub coded-second : bitAnd (n / 256) 255 ≡ getD (numbersIn 8 90 (sent 24 ns)) (w * 3 + 1) 0
   coded-second = and-mask (n / 256) 8 ∙ omega (arith, coded-digit (w * 3 + 1) 8 (omega arith) (lit≤ tt))
 
-  pub coded-third : n / 65536 ≡ getD (taken 8 90 (sent 24 ns)) (w * 3 + 2) 0
+  pub coded-third : n / 65536 ≡ getD (numbersIn 8 90 (sent 24 ns)) (w * 3 + 2) 0
   coded-third = omega (arith, h w, coded-digit (w * 3 + 2) 16 (omega arith) (lit≤ tt))

@@ -16,16 +16,16 @@ use mathlib.Core.List.{List, [], _∷_, map}
 use Prim.Native.Nat.{ℕ, suc, _+_, _/_, _%_, _<_}
 use lib.Dec.{leb, ltb}
 use lib.ListN.{getD}
-use Rattle.bits.specs.Bits.{flips, sent, taken, blank}
+use Rattle.bits.specs.Bits.{flips, sent, numbersIn, blank}
 use Rattle.golay.specs.Code.{word24, check, nearest}
 use Rattle.words.specs.declared.Data.{Data}
 use Rattle.words.specs.declared.Words.{Words}
 
 unfoldable pub protected : List ℕ → List ℕ
-protected bytes = taken 8 90 (sent 24 (map word24 (taken 12 30 (sent 8 bytes))))
+protected bytes = numbersIn 8 90 (sent 24 (map word24 (numbersIn 12 30 (sent 8 bytes))))
 
 unfoldable pub wordsOf : List ℕ → List ℕ
-wordsOf useful = taken 24 30 (sent 8 useful)
+wordsOf useful = numbersIn 24 30 (sent 8 useful)
 
 unfoldable pub informations : List ℕ → List ℕ
 informations ns = map (nearest word24) ns
@@ -39,7 +39,7 @@ turned [] = 0
 turned (n ∷ ns) = flips (word24 (nearest word24 n)) n + turned ns
 
 unfoldable pub dataOf : List ℕ → List ℕ
-dataOf is = taken 8 45 (sent 12 is)
+dataOf is = numbersIn 8 45 (sent 12 is)
 
 -- the place of the first that cannot be read, 30 where all can; where one cannot, flips and informations are 0
 unfoldable pub wordsRead : List ℕ → Words

@@ -3,7 +3,7 @@ ghost use mathlib.Core.Path.{_≡_};
 ghost use mathlib.Core.List.{map};
 ghost use Prim.Native.Nat.{ℕ, _<_};
 ghost use lib.ListN.{length, getD};
-ghost use Rattle.bits.specs.Bits.{sent, taken};
+ghost use Rattle.bits.specs.Bits.{sent, numbersIn};
 ghost use Rattle.golay.specs.Code.{word24, Checks, Patterns};
 ghost use Rattle.words.specs.Protected.{protected, wordsOf, dataOf, dataRead, wordsRead, Passed};
 use bare::Word;
@@ -169,7 +169,7 @@ pub fn protect(bytes: &[u8]) -> [u8; 90]
 // Each successive 12-bit segment of 45 bytes: three bytes are two segments.
 fn segments(bytes: &[u8]) -> [u16; 30]
     requires { ⌜ length (now bytes) ≡ 45 ⌝ }
-    ensures { λ r. ⌜ r ≡ taken 12 30 (sent 8 (now (bytes .entry))) ⌝ }
+    ensures { λ r. ⌜ r ≡ numbersIn 12 30 (sent 8 (now (bytes .entry))) ⌝ }
 {
     let mut informations = [0u16; 30];
     let mut v: usize = 0;
@@ -188,7 +188,7 @@ fn segments(bytes: &[u8]) -> [u16; 30]
 fn coded(checks: &[u16; 128], informations: [u16; 30]) -> [u8; 90]
     requires { ⌜ Checks (now checks) ⌝ }
     requires { ⌜ ((k : ℕ) → getD informations k 0 < 4096) ⌝ }
-    ensures { λ r. ⌜ r ≡ taken 8 90 (sent 24 (map word24 informations)) ⌝ }
+    ensures { λ r. ⌜ r ≡ numbersIn 8 90 (sent 24 (map word24 informations)) ⌝ }
 {
     let mut useful = [0u8; 90];
     let mut w: usize = 0;

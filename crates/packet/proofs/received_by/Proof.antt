@@ -6,7 +6,7 @@ use mathlib.Core.Bool.{Bool}
 use Prim.Native.Nat.{ℕ, _<_}
 use Rattle.bare.specs.declared.Header.{Header}
 use Rattle.words.specs.Protected.{dataRead}
-use Rattle.packet.specs.Received.{received, typeOf, partAs, dataAs}
+use Rattle.packet.specs.Received.{received, typeOf, readableAs, dataAs}
 use Rattle.packet.proofs.Answers.{IsData, isData, answer-unreadable, answer-control, answer-reserved, answer-scrambled, answer-plain, answer-protected, type-found, type-missed, useful-part}
 use borrow.Author.Needs.{needs}
 use Rattle.packet.proofs.received_by.Statement.{statement}
@@ -103,17 +103,17 @@ part-unprotected-end c = search needs
 unprotected-requires : tie.Need-unprotected-requires
 unprotected-requires c κs = search needs
 
-sub-part : tie.Need-sub-part
-sub-part c = search needs
+sub-readable : tie.Need-sub-readable
+sub-readable c = search needs
 
-part-part-start : tie.Need-part-part-start
-part-part-start c = search needs
+part-readable-start : tie.Need-part-readable-start
+part-readable-start c = search needs
 
-part-part-end : tie.Need-part-part-end
-part-part-end c = search needs
+part-readable-end : tie.Need-part-readable-end
+part-readable-end c = search needs
 
-part-requires : tie.Need-part-requires
-part-requires c κs = search needs
+readable-requires : tie.Need-readable-requires
+readable-requires c κs = search needs
 
 returns-5 : tie.Need-returns-5
 returns-5 c =
@@ -127,8 +127,8 @@ returns-6 : tie.Need-returns-6
 returns-6 c =
     let test = c .before .before .before in
     let at = made (third (test .before) .before) in
-    c .part .ensures
-    ∙ ap₂ (λ (h : Header) (u : List ℕ). partAs (h .index) u) (start at .pre .0) (useful-part (image at) (at .bytes .result) (at .bytes .ensures))
+    c .readable .ensures
+    ∙ ap₂ (λ (h : Header) (u : List ℕ). readableAs (h .index) u) (start at .pre .0) (useful-part (image at) (at .bytes .result) (at .bytes .ensures))
     ∙ sym (answer-plain (image at) (is-data (test .before))) ∙ ap (λ (b : Bool). received b (image at)) (sym (test .if5 .left))
 
 pub received-by-spec : {M : Type 1} → statement M
@@ -150,9 +150,9 @@ received-by-spec =
     part-unprotected-start
     part-unprotected-end
     unprotected-requires
-    sub-part
-    part-part-start
-    part-part-end
-    part-requires
+    sub-readable
+    part-readable-start
+    part-readable-end
+    readable-requires
     returns-5
     returns-6)

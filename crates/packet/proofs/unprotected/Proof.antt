@@ -34,11 +34,11 @@ returns c =
     let index = start read .args .index in
     c .refused .ensures ∙ sym (data-short index (read .unprotect .result) (test .if1 .taken)) ∙ ap (dataAs index) (read .unprotect .ensures)
 
-slice-aggregate-part : tie.Need-slice-aggregate-part
-slice-aggregate-part c = search needs
+slice-aggregate-readable : tie.Need-slice-aggregate-readable
+slice-aggregate-readable c = search needs
 
-part-requires : tie.Need-part-requires
-part-requires c κs =
+readable-requires : tie.Need-readable-requires
+readable-requires c κs =
     let read = whole c .before in
     omega (arith, ap (λ (d : Data). length (d .bytes)) (read .unprotect .ensures), read-length (start read .args .useful .now))
 
@@ -47,7 +47,7 @@ returns-2 c =
     let test = whole (c .before) in
     let read = test .before in
     let index = start read .args .index in
-    c .part .ensures ∙ sym (data-whole index (read .unprotect .result) (test .if1 .left)) ∙ ap (dataAs index) (read .unprotect .ensures)
+    c .readable .ensures ∙ sym (data-whole index (read .unprotect .result) (test .if1 .left)) ∙ ap (dataAs index) (read .unprotect .ensures)
 
 pub unprotected-spec : {M : Type 1} → statement M
 unprotected-spec =
@@ -56,6 +56,6 @@ unprotected-spec =
     unprotect-requires
     refused-requires
     returns
-    slice-aggregate-part
-    part-requires
+    slice-aggregate-readable
+    readable-requires
     returns-2)

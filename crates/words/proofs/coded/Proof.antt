@@ -5,8 +5,8 @@ use Prim.Native.Nat.{_+_, _*_, _/_, _≤_, _<_, _-_}
 use native.Mathlib.Omega.{arith}
 use lib.Bits.{mask-lt}
 use lib.ListN.{length, take, getD, length-set}
-use Rattle.bits.specs.Bits.{sent, taken}
-use Rattle.bits.proofs.Runs.{taken-length}
+use Rattle.bits.specs.Bits.{sent, numbersIn}
+use Rattle.bits.proofs.Runs.{numbersIn-length}
 use Rattle.bits.proofs.Storing.{agreed, getD-map}
 use Rattle.golay.specs.Code.{word24}
 use Rattle.golay.proofs.Words.{word24-lt}
@@ -17,7 +17,7 @@ use Rattle.words.proofs.coded.Tie as tie
 abbrev Inv-loop : tie.InvT-loop
 Inv-loop checks informations useful₀ w₀ useful w =
     (w ≤ 30) × (length useful ≡ 90)
-    × (take (w * 3) useful ≡ take (w * 3) (taken 8 90 (sent 24 (map word24 informations))))
+    × (take (w * 3) useful ≡ take (w * 3) (numbersIn 8 90 (sent 24 (map word24 informations))))
 
 abbrev μ-loop : tie.MeasureT-loop
 μ-loop checks informations useful₀ w₀ useful w = 30 - w
@@ -90,18 +90,18 @@ loop-again c =
     let l : w < 30 = omega arith in
     let n = c .data-word .result in
     let e : n ≡ getD ns w 0 = c .data-word .ensures ∙ sym (getD-map word24 is w (omega (arith, known (c .before .before .before)))) in
-    let long = taken-length 8 90 (sent 24 ns) in (
+    let long = numbersIn-length 8 90 (sent 24 ns) in (
       omega arith,
       simp length-set (omega arith),
-      three-stored (loop .useful) (taken 8 90 (sent 24 ns)) (w * 3) ((w + 1) * 3) _ _ _ (loop .inv .2) (omega arith) (omega arith)
+      three-stored (loop .useful) (numbersIn 8 90 (sent 24 ns)) (w * 3) ((w + 1) * 3) _ _ _ (loop .inv .2) (omega arith) (omega arith)
           (omega arith) (coded-first ns h w l n e) (coded-second ns h w l n e) (coded-third ns h w l n e),
     )
 
 returns : tie.Need-returns Inv-loop μ-loop
 returns c =
     let ns = map word24 (c .before .before .args .t2) in
-    agreed (c .before .loop .useful) (taken 8 90 (sent 24 ns)) 90 (c .before .loop .w * 3) (c .before .loop .inv .2)
-    (c .before .loop .inv .1) (taken-length 8 90 (sent 24 ns)) (omega arith)
+    agreed (c .before .loop .useful) (numbersIn 8 90 (sent 24 ns)) 90 (c .before .loop .w * 3) (c .before .loop .inv .2)
+    (c .before .loop .inv .1) (numbersIn-length 8 90 (sent 24 ns)) (omega arith)
 
 pub coded-spec : {M : Type 1} → statement M
 coded-spec =

@@ -3,7 +3,7 @@ use mathlib.Core.Path.{sym, ap, _∙_, subst}
 use mathlib.Core.List.{List, map}
 use Prim.Native.Nat.{ℕ}
 use borrow.Author.Needs.{needs}
-use Rattle.bits.specs.Bits.{sent, taken}
+use Rattle.bits.specs.Bits.{sent, numbersIn}
 use Rattle.bits.proofs.Runs.{Below}
 use Rattle.golay.specs.Code.{word24}
 use Rattle.words.specs.Protected.{protected}
@@ -24,7 +24,7 @@ coded-requires c κs =
 
 returns : tie.Need-returns
 unfolding protected
-returns c = c .coded .ensures ∙ ap (λ (is : List ℕ). taken 8 90 (sent 24 (map word24 is))) (c .before .segments .ensures)
+returns c = c .coded .ensures ∙ ap (λ (is : List ℕ). numbersIn 8 90 (sent 24 (map word24 is))) (c .before .segments .ensures)
 
 pub protect-spec : {M : Type 1} → statement M
 protect-spec = tie.close (tie.spec checks-requires segments-requires coded-requires returns)

@@ -3,7 +3,7 @@ use mathlib.Core.Path.{_≡_, refl}
 use Prim.Native.Nat.{_+_, _*_, _≤_, _<_, _-_}
 use native.Mathlib.Omega.{arith}
 use lib.ListN.{length, take, length-set}
-use Rattle.bits.specs.Bits.{sent, taken}
+use Rattle.bits.specs.Bits.{sent, numbersIn}
 use Rattle.bits.proofs.Runs.{Below}
 use Rattle.bits.proofs.Storing.{agreed}
 use Rattle.words.proofs.Packing.{two-stored, segments-length, segment-first, segment-second}
@@ -13,7 +13,7 @@ use Rattle.words.proofs.segments.Tie as tie
 abbrev Inv-loop : tie.InvT-loop
 Inv-loop bytes informations₀ v₀ informations v =
     (v ≤ 15) × (length informations ≡ 30)
-    × (take (v * 2) informations ≡ take (v * 2) (taken 12 30 (sent 8 bytes)))
+    × (take (v * 2) informations ≡ take (v * 2) (numbersIn 12 30 (sent 8 bytes)))
 
 abbrev μ-loop : tie.MeasureT-loop
 μ-loop bytes informations₀ v₀ informations v = 15 - v
@@ -91,14 +91,14 @@ loop-again c =
     let long = segments-length d in (
       omega arith,
       simp length-set (omega arith),
-      two-stored (loop .informations) (taken 12 30 (sent 8 d)) (v * 2) ((v + 1) * 2) _ _ (loop .inv .2) (omega arith) (omega arith)
+      two-stored (loop .informations) (numbersIn 12 30 (sent 8 d)) (v * 2) ((v + 1) * 2) _ _ (loop .inv .2) (omega arith) (omega arith)
           (omega arith) (segment-first d h v l) (segment-second d h v l),
     )
 
 returns : tie.Need-returns Inv-loop μ-loop
 returns c =
     let d = c .before .before .args .bytes .now in
-    agreed (c .before .loop .informations) (taken 12 30 (sent 8 d)) 30 (c .before .loop .v * 2) (c .before .loop .inv .2)
+    agreed (c .before .loop .informations) (numbersIn 12 30 (sent 8 d)) 30 (c .before .loop .v * 2) (c .before .loop .inv .2)
     (c .before .loop .inv .1) (segments-length d) (omega arith)
 
 pub segments-spec : {M : Type 1} → statement M

@@ -2,7 +2,7 @@
 use mathlib.Core.Path.{ap, _∙_}
 use lib.ListN.{drop}
 use borrow.Author.Needs.{needs}
-use Rattle.bits.specs.Bits.{taken, sent}
+use Rattle.bits.specs.Bits.{numbersIn, sent}
 use Rattle.bits.proofs.Runs.{below-take, below-drop, sent-below}
 use Rattle.image.proofs.Unpacking.{set-out-bytes}
 use Rattle.image.proofs.unpack.bytes.Statement.{statement}
@@ -18,7 +18,7 @@ gathered-requires c κs =
 
 returns : tie.Need-returns
 returns c =
-    c .gathered .ensures ∙ ap (taken 8 91) (c .before .before .set-out .ensures)
+    c .gathered .ensures ∙ ap (numbersIn 8 91) (c .before .before .set-out .ensures)
     ∙ set-out-bytes (c .before .before .before .before .args .image .now) (c .before .before .before .before .pre)
 
 pub bytes-spec : {M : Type 1} → statement M

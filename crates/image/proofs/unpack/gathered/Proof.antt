@@ -5,14 +5,14 @@ use Prim.Native.Nat.{_+_, _<_, _≤_, _-_}
 use native.Mathlib.Numerals.{add-one}
 use native.Mathlib.Omega.{arith}
 use lib.ListN.{length-set, length, take}
-use Rattle.bits.proofs.Runs.{taken-length, taken-at}
-use Rattle.bits.specs.Bits.{taken}
+use Rattle.bits.proofs.Runs.{numbersIn-length, numbersIn-at}
+use Rattle.bits.specs.Bits.{numbersIn}
 use Rattle.bits.proofs.Storing.{stored, agreed}
 use Rattle.image.proofs.unpack.gathered.Statement.{statement}
 use Rattle.image.proofs.unpack.gathered.Tie as tie
 
 abbrev Inv-loop : tie.InvT-loop
-Inv-loop bits bytes₀ j₀ bytes j = (j ≤ 91) × (length bytes ≡ 91) × (take j bytes ≡ take j (taken 8 91 bits))
+Inv-loop bits bytes₀ j₀ bytes j = (j ≤ 91) × (length bytes ≡ 91) × (take j bytes ≡ take j (numbersIn 8 91 bits))
 
 abbrev μ-loop : tie.MeasureT-loop
 μ-loop bits bytes₀ j₀ bytes j = 91 - j
@@ -42,15 +42,15 @@ loop-again c =
     let h : j < 91 = omega arith in (
       omega arith,
       simp length-set (omega arith),
-      stored (c .before .before .loop .bytes) (taken 8 91 bits) j (j + 1) (c .gathered-at .result) (c .before .before .loop .inv .2) (omega arith)
-          (omega (arith, taken-length 8 91 bits)) (add-one j) (c .gathered-at .ensures ∙ sym (taken-at 8 91 j bits h)),
+      stored (c .before .before .loop .bytes) (numbersIn 8 91 bits) j (j + 1) (c .gathered-at .result) (c .before .before .loop .inv .2) (omega arith)
+          (omega (arith, numbersIn-length 8 91 bits)) (add-one j) (c .gathered-at .ensures ∙ sym (numbersIn-at 8 91 j bits h)),
     )
 
 returns : tie.Need-returns Inv-loop μ-loop
 returns c =
     let bits = c .before .before .args .bits .now in
-    agreed (c .before .loop .bytes) (taken 8 91 bits) 91 (c .before .loop .j) (c .before .loop .inv .2)
-    (c .before .loop .inv .1) (taken-length 8 91 bits) (omega arith)
+    agreed (c .before .loop .bytes) (numbersIn 8 91 bits) 91 (c .before .loop .j) (c .before .loop .inv .2)
+    (c .before .loop .inv .1) (numbersIn-length 8 91 bits) (omega arith)
 
 pub gathered-spec : {M : Type 1} → statement M
 gathered-spec =

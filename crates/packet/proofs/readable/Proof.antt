@@ -1,4 +1,4 @@
--- `packet::part` meets its contract: the loop copies the bytes to the front of a blank room.
+-- `packet::readable` meets its contract: the loop copies the bytes to the front of a blank room.
 -- Assumes nothing.
 use mathlib.Core.Path.{_≡_, sym, _∙_}
 use Prim.Native.Nat.{_-_, _≤_}
@@ -9,8 +9,8 @@ use lib.Seq.{paste, paste-zero}
 use Rattle.bits.specs.Bits.{blank}
 use Rattle.bits.proofs.Storing.{blank-length, copied, copied-length}
 use Rattle.packet.proofs.Copying.{room-filled}
-use Rattle.packet.proofs.part.Statement.{statement}
-use Rattle.packet.proofs.part.Tie as tie
+use Rattle.packet.proofs.readable.Statement.{statement}
+use Rattle.packet.proofs.readable.Tie as tie
 
 abbrev Inv-loop : tie.InvT-loop
 Inv-loop index from bytes₀ k₀ bytes k = (k ≤ length from) × (bytes ≡ paste (blank 90) 0 from k)
@@ -40,8 +40,8 @@ loop-again c = (omega arith, copied (blank 90) (c .before .before .before .args 
 returns : tie.Need-returns Inv-loop μ-loop
 returns c = λ i. record { number = 0; place = 0; index = c .before .before .args .index; bytes = (c .before .loop .inv .1 ∙ room-filled (c .before .before .args .from .now) (c .before .loop .k) (omega arith)) i }
 
-pub part-spec : {M : Type 1} → statement M
-part-spec =
+pub readable-spec : {M : Type 1} → statement M
+readable-spec =
     tie.close
     (tie.spec
     Inv-loop
