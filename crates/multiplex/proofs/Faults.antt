@@ -19,7 +19,7 @@ use native.Mathlib.Decide.{ℕ-discrete}
 use borrow.Author.Tests.{ne-eqb}
 use lib.Dec.{T, eqb, lit<, lit≤}
 use lib.ListN.{length, getD}
-use Rattle.bits.specs.Bits.{bitsOf, number, sent, heeded as bitsTaken}
+use Rattle.bits.specs.Bits.{bitsOf, number, sent, numbersIn}
 use Rattle.field.specs.Field.{tdmsOf, fln1, lln1, fln2, lln2, fcp, lcp, badPair, badTdms, deletes, key, bitsAt, fieldOf, fieldBits, fieldBytes}
 use Rattle.frames.specs.Counts.{ahead, since, changes, until}
 use Rattle.multiplex.specs.Broadcast.{countAt, change, epoch, Linked}
@@ -65,7 +65,7 @@ near-from-one (suc (suc t)) h b = lit≤ tt
 
 listening : (h : Heeds) (a : Air) (hears : ℕ → Bool) → Near hears → Listener (reader h) a hears
 unfolding reader
-listening h a hears near = record { heeded = λ t e. refl; near = near }
+listening h a hears near = record { taken = λ t e. refl; near = near }
 
 -- ---- what is shown
 
@@ -85,19 +85,19 @@ unfolding steady both
 two-fields j e = omega (arith, e)
 
 pub never-46-not : NeverWrong (reader endless) → ⊥
-unfolding reader times heeded anew announced seven listed kept steady both fieldOn carriedAs countAt epoch change tdmsOf deletes fieldOf bitsAt fieldBytes fieldBits bitsOf number sent bitsTaken since ahead
+unfolding reader times heeded anew announced seven listed kept steady both fieldOn carriedAs countAt epoch change tdmsOf deletes fieldOf bitsAt fieldBytes fieldBits bitsOf number sent numbersIn since ahead
 never-46-not = refuted endless steady steady-orderly every near-every 0 1 refl refl refl (lit< tt) two-fields
 
 pub blocks-not : NeverWrong (reader blockless) → ⊥
-unfolding reader times heeded joined missed absent anew announced seven listed lists kept steady both fieldOn carriedAs countAt epoch change tdmsOf deletes fieldOf bitsAt fieldBytes fieldBits bitsOf number sent bitsTaken since ahead
+unfolding reader times heeded joined missed absent anew announced seven listed lists kept steady both fieldOn carriedAs countAt epoch change tdmsOf deletes fieldOf bitsAt fieldBytes fieldBits bitsOf number sent numbersIn since ahead
 blocks-not = refuted blockless steady steady-orderly every near-every 0 1 refl refl refl (lit< tt) two-fields
 
 pub gaps-not : NeverWrong (reader gapless) → ⊥
-unfolding reader times heeded joined missed absent anew announced seven listed lists kept but-one steady both fieldOn carriedAs countAt epoch change tdmsOf deletes fieldOf bitsAt fieldBytes fieldBits bitsOf number sent bitsTaken since ahead
+unfolding reader times heeded joined missed absent anew announced seven listed lists kept but-one steady both fieldOn carriedAs countAt epoch change tdmsOf deletes fieldOf bitsAt fieldBytes fieldBits bitsOf number sent numbersIn since ahead
 gaps-not = refuted gapless steady steady-orderly but-one near-but-one 2 1 refl refl refl (lit< tt) two-fields
 
 pub late-start-not : NeverWrong (reader startless) → ⊥
-unfolding reader times heeded joined goesOn missed absent anew announced seven listed lists kept from-one steady both fieldOn carriedAs countAt epoch change tdmsOf deletes key fln1 fcp fieldOf bitsAt fieldBytes fieldBits bitsOf number sent bitsTaken since ahead
+unfolding reader times heeded joined goesOn missed absent anew announced seven listed lists kept from-one steady both fieldOn carriedAs countAt epoch change tdmsOf deletes key fln1 fcp fieldOf bitsAt fieldBytes fieldBits bitsOf number sent numbersIn since ahead
 late-start-not = refuted startless steady steady-orderly from-one near-from-one 2 1 refl refl refl (lit< tt) two-fields
 
 -- ---- LINKS ignored
@@ -220,13 +220,13 @@ one-or-three zero e = omega (arith, e)
 one-or-three (suc j) e = omega (arith, e)
 
 pub links-not : NeverWrong (reader linkless) → ⊥
-unfolding reader times heeded joined goesOn missed absent anew announced seven listed lists kept from-one grown growing sprouting fieldOn carriedAs countAt epoch change tdmsOf deletes key fln1 fcp fieldOf bitsAt fieldBytes fieldBits bitsOf number sent bitsTaken since ahead
+unfolding reader times heeded joined goesOn missed absent anew announced seven listed lists kept from-one grown growing sprouting fieldOn carriedAs countAt epoch change tdmsOf deletes key fln1 fcp fieldOf bitsAt fieldBytes fieldBits bitsOf number sent numbersIn since ahead
 links-not = refuted linkless grown grown-orderly from-one near-from-one 3 2 refl refl refl (lit< tt) one-or-three
 
 -- ---- the old structure ahead of the change
 
 old-shown : kept (reader newsless) example every 10 ≡ 1 ∷ 134 ∷ 1 ∷ one ∷ two ∷ []
-unfolding reader times heeded joined goesOn missed absent anew announced seven listed lists kept example structures carried pick fieldOn carriedAs countAt epoch change tdmsOf deletes key fln1 fcp fieldOf bitsAt fieldBytes fieldBits bitsOf number sent bitsTaken since ahead
+unfolding reader times heeded joined goesOn missed absent anew announced seven listed lists kept example structures carried pick fieldOn carriedAs countAt epoch change tdmsOf deletes key fln1 fcp fieldOf bitsAt fieldBytes fieldBits bitsOf number sent numbersIn since ahead
 old-shown = refl
 
 in-6 : epoch (timed example) 6 ≡ 1
@@ -265,7 +265,7 @@ old-ahead-not s =
 
 told-in : (reader wrapless .announced (kept (reader wrapless) example every 1) 7 0 ≡ 1)
     × (reader wrapless .frames (kept (reader wrapless) example every 1) 7 0 ≡ 133)
-unfolding reader times heeded changes anew announced seven distance kept example structures carried pick fieldOn carriedAs countAt epoch change tdmsOf deletes fieldOf bitsAt fieldBytes fieldBits bitsOf number sent bitsTaken since ahead
+unfolding reader times heeded changes anew announced seven distance kept example structures carried pick fieldOn carriedAs countAt epoch change tdmsOf deletes fieldOf bitsAt fieldBytes fieldBits bitsOf number sent numbersIn since ahead
 told-in = (refl, refl)
 
 pub modulo-256-not : Announces (reader wrapless) → ⊥
@@ -281,9 +281,9 @@ pub careful-doubts : (reader careful .number (kept (reader careful) steady every
     × ((reader careful .number (kept (reader careful) steady from-one 3) 7 2 ≡ 46)
     × ((reader careful .number (kept (reader careful) grown from-one 4) 7 3 ≡ 46)
     × (reader careful .number (kept (reader careful) example every 10) 7 2 ≡ 46))))
-unfolding reader times heeded joined goesOn missed changes absent anew announced seven listed lists kept but-one from-one steady both grown growing sprouting example structures carried pick fieldOn carriedAs countAt epoch change tdmsOf deletes key fln1 fcp fieldOf bitsAt fieldBytes fieldBits bitsOf number sent bitsTaken since ahead
+unfolding reader times heeded joined goesOn missed changes absent anew announced seven listed lists kept but-one from-one steady both grown growing sprouting example structures carried pick fieldOn carriedAs countAt epoch change tdmsOf deletes key fln1 fcp fieldOf bitsAt fieldBytes fieldBits bitsOf number sent numbersIn since ahead
 careful-doubts = (refl, (refl, (refl, (refl, refl))))
 
 pub careful-when : reader careful .frames (kept (reader careful) example every 1) 7 0 ≡ 5
-unfolding reader times heeded changes anew announced seven distance until kept example structures carried pick fieldOn carriedAs countAt epoch change tdmsOf deletes fieldOf bitsAt fieldBytes fieldBits bitsOf number sent bitsTaken since ahead
+unfolding reader times heeded changes anew announced seven distance until kept example structures carried pick fieldOn carriedAs countAt epoch change tdmsOf deletes fieldOf bitsAt fieldBytes fieldBits bitsOf number sent numbersIn since ahead
 careful-when = refl
