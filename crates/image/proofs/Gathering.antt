@@ -1,6 +1,6 @@
 -- What shifts and masks gather: the code's expressions are the numbers of the definitions.
 --
---   header-gathered, spare-gathered        the header and the spare bit of an image's bytes
+--   header-gathered, spare-gathered, byte-gathered     the header, the spare bit and the 91 bytes of an image's bytes
 --   first-three, next-byte, last-byte      an image's bytes from the header and the 91 bytes
 --
 -- Assumes nothing.
@@ -17,7 +17,7 @@ use lib.Seq.{drop-drop, drop-append-le}
 use Rattle.bits.specs.Bits.{bitsOf, number, sent}
 use Rattle.bits.proofs.Runs.{Below, below-cat, bitsOf-length, number-bits-small, number-cat, number-ends, number-take, number-drop, number-at, digit, sent-below, sent-drop, sent-length, numbersIn-at, or-above}
 use Rattle.bits.proofs.Storing.{stored}
-use Rattle.image.specs.Image.{headerOf, spareOf, imageOf}
+use Rattle.image.specs.Image.{headerOf, bytesOf, spareOf, imageOf}
 use Rattle.image.proofs.Laws.{image-length, run, spare-below, run-below, run-rest}
 
 -- ---- of an image
@@ -44,6 +44,28 @@ module _ (s : List ℕ) (h : Below 256 s) where
         ap (λ (x : List ℕ). number (drop 7 x)) (sent-drop 8 93 s),
         ap number (drop-drop 7 744 (sent 8 s)),
       )
+
+  -- a byte of the 91 is the highest bit of one byte of the image and the seven lower bits of the next
+  pub byte-gathered : (j : ℕ) → j < 91 → bitOr (getD s (j + 2) 0 / 128) ((bitAnd (getD s (j + 3) 0) 127 * 2) % 256) ≡ getD (bytesOf s) j 0
+  unfolding bytesOf
+  byte-gathered j hj =
+      let bits : drop (j * 8) (drop 23 (sent 8 s)) ≡ drop 7 (sent 8 (drop (j + 2) s)) =
+      drop-drop (j * 8) 23 (sent 8 s) ∙ ap (λ (x : ℕ). drop x (sent 8 s)) (place-of j) ∙ sym (drop-drop 7 ((j + 2) * 8) (sent 8 s)) ∙ ap (drop 7) (sent-drop 8 (j + 2) s) in
+      ap (λ (x : ℕ). bitOr (getD s (j + 2) 0 / 128) ((x * 2) % 256)) (and-mask (getD s (j + 3) 0) 7)
+      ∙ or-above 7 1 8 (getD s (j + 2) 0 / 128) (getD s (j + 3) 0 % 128) (omega (arith, h (j + 2))) (mod-lt (getD s (j + 3) 0) (lit< tt)) (lit≤ tt)
+      ∙ sym
+      (numbersIn-at 8 91 j (drop 23 (sent 8 s)) hj ∙ ap (λ (x : List ℕ). number (take 8 x)) bits
+      ∙ digit 8 7 (sent 8 (drop (j + 2) s)) (sent-below 8 (drop (j + 2) s))
+      ∙ omega (arith, h (j + 2), h (j + 3), number-at 8 (j + 2) s h, next j, number-at 8 (j + 3) s h))
+    where
+      place-of : (j : ℕ) → 23 + j * 8 ≡ (j + 2) * 8 + 7
+      place-of j = omega arith
+
+      next : (j : ℕ) → number (sent 8 (drop (suc (j + 2)) s)) ≡ number (sent 8 (drop (j + 3) s))
+      next j = ap (λ (x : ℕ). number (sent 8 (drop x s))) (one-on j)
+        where
+          one-on : (j : ℕ) → suc (j + 2) ≡ j + 3
+          one-on j = omega arith
 
 -- ---- of a header and bytes
 

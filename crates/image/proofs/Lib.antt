@@ -1,4 +1,3 @@
 pub mod Gathering
 pub mod Laws
-pub mod Unpacking
 pub mod Vectors

@@ -1,27 +1,19 @@
 // The packet image (document 01, section 1; ETS 300 352, 4.3.6): its header number, its 91 bytes, its spare bit, and an
 // image made of a header number and 91 bytes. It knows no code and no state.
-//
-// unpack   the 91 bytes, by way of the single bits
 ghost use mathlib.Core.Path.{_≡_};
 ghost use Prim.Native.Nat.{_^_, _<_};
 ghost use lib.ListN.{length};
 ghost use Rattle.image.specs.Image.{headerOf, bytesOf, spareOf, imageOf};
 
-mod unpack;
-
-// Sizes of a packet (4.3.6): its image; its header in bits; the useful bytes, these with the type byte, and as bits.
+// Sizes of a packet (4.3.6): its image; the useful bytes, and these with the type byte.
 pub struct Packet {}
 
 impl Packet {
     pub const IMAGE: usize = 94;
 
-    pub const HEADER_BITS: usize = 23;
-
     pub const USEFUL: usize = 90;
 
     pub const BYTES: usize = Self::USEFUL + 1;
-
-    pub const BITS: usize = Self::BYTES * 8;
 }
 
 // The header's 23 bits: two bytes and seven bits of the third.
@@ -40,12 +32,19 @@ pub fn spare(image: &[u8]) -> u8
     image[93] >> 7
 }
 
-// The type byte and the 90 useful bytes.
+// The type byte and the 90 useful bytes. The header ends one bit before the end of image byte 2, so each of them is the highest
+// bit of one image byte and the seven lower bits of the next; bit 751 is in none.
 pub fn bytes(image: &[u8]) -> [u8; 91]
     requires { ⌜ length (now image) ≡ 94 ⌝ }
     ensures { λ r. ⌜ r ≡ bytesOf (now (image .entry)) ⌝ }
 {
-    unpack::bytes(image)
+    let mut bytes = [0u8; 91];
+    let mut j = 0;
+    while j < Packet::BYTES {
+        bytes[j] = image[j + 2] >> 7 | (image[j + 3] & 127) << 1;
+        j += 1;
+    }
+    bytes
 }
 
 // The image of a header and 91 bytes.
