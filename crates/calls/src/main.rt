@@ -3,16 +3,14 @@
 //
 // hand     what rows set by hand: state, images, message
 // state    the calls on a state
-// images   images made of a message, and what they are received as
-// codes    the bare calls, one by one and as the digest of many
+//
+// Rows that know no state are answered by the crate coderows.
 use libc::STDIN_FILENO;
 use libc::STDOUT_FILENO;
 use rows::tell;
 use rows::tell::Progress;
 
-mod codes;
 mod hand;
-mod images;
 mod state;
 
 // There is a byte more than a call takes of the state, of five images and of the message, so that too many can be lent.

@@ -7,7 +7,7 @@
 //     ask ADDRESS = NUMBER PLACE LENGTH SHOWN
 //     board ADDRESS LENGTH = NUMBER LENGTH SHOWN           so many bytes of the message are the notice
 //     write ADDRESS PROTECTION LENGTH OUTPUT = NUMBER IMAGES    so many bytes of the message and of the images are lent
-use crate::images;
+use coderows::images;
 use head::Wish;
 use rows::Answer;
 use rows::Row;

@@ -3,15 +3,13 @@
 //
 // hand     what rows set by hand: the map, a kept copy of it, a field
 // taking   the calls that may change the map
-// asking   the calls that only read it
-// fields   a field and its six numbers, read and written
+//
+// Rows that change no map are answered by the crate maprows.
 use libc::STDIN_FILENO;
 use libc::STDOUT_FILENO;
 use rows::tell;
 use rows::tell::Progress;
 
-mod asking;
-mod fields;
 mod hand;
 mod taking;
 

@@ -5,9 +5,9 @@
 //     take-field LENGTH = NUMBER MAP                                      the field as it stands, of which so many bytes are lent
 //     again TIMES = REFUSED MAP                                           the same field so many times more
 //     idle FIRST TIMES = REFUSED MAP                                      frames with counts from FIRST on, with fields of no component
-use crate::asking;
-use crate::fields;
 use field::Field;
+use maprows::asking;
+use maprows::fields;
 use rows::Answer;
 use rows::Row;
 use rows::bytes::behind;

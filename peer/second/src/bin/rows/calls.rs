@@ -1,4 +1,4 @@
-//! Calls on a state, and the bare calls. What each row means stands in the heads of `crates/calls/src`.
+//! Calls on a state, and the bare calls. What each row means stands in the heads of `crates/calls` and `crates/coderows`.
 
 use crate::row::{byte, digest, fill, front, put, turn, wide};
 use crate::Machine;

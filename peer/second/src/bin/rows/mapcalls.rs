@@ -1,4 +1,4 @@
-//! Calls on the map. What each row means stands in the heads of `crates/mapcalls/src`.
+//! Calls on the map. What each row means stands in the heads of `crates/mapcalls` and `crates/maprows`.
 
 use crate::row::{byte, digest, fill, front, put, turn, wide};
 use crate::Machine;

@@ -1,8 +1,8 @@
--- `calls::codes::many` is safe and ends. Assumes nothing.
+-- `coderows::codes::many` is safe and ends. Assumes nothing.
 use Prim.Native.Nat.{_≤_, _-_, _<_}
 use borrow.Author.Needs.{needs}
-use Rattle.calls.proofs.codes.many.Statement.{statement}
-use Rattle.calls.proofs.codes.many.Tie as tie
+use Rattle.coderows.proofs.codes.many.Statement.{statement}
+use Rattle.coderows.proofs.codes.many.Tie as tie
 
 abbrev Inv-loop : tie.InvT-loop
 Inv-loop call step times n₀ hash₀ k₀ n hash k = (times < 4294967296) × (k ≤ times)

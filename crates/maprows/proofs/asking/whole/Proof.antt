@@ -1,9 +1,9 @@
--- `mapcalls::asking::whole` is safe and ends. Assumes nothing.
+-- `maprows::asking::whole` is safe and ends. Assumes nothing.
 use Prim.Native.Nat.{_≤_, _-_}
 use lib.ListN.{length}
 use borrow.Author.Needs.{needs}
-use Rattle.mapcalls.proofs.asking.whole.Statement.{statement}
-use Rattle.mapcalls.proofs.asking.whole.Tie as tie
+use Rattle.maprows.proofs.asking.whole.Statement.{statement}
+use Rattle.maprows.proofs.asking.whole.Tie as tie
 
 abbrev Inv-loop : tie.InvT-loop
 Inv-loop map count marks hash₀ id₀ hash id = id ≤ length marks

@@ -1,9 +1,9 @@
--- `mapcalls::asking::marked` is safe and ends. Assumes nothing.
+-- `maprows::asking::marked` is safe and ends. Assumes nothing.
 use Prim.Native.Nat.{_≤_, _-_}
 use lib.ListN.{length}
 use borrow.Author.Needs.{needs}
-use Rattle.mapcalls.proofs.asking.marked.Statement.{statement}
-use Rattle.mapcalls.proofs.asking.marked.Tie as tie
+use Rattle.maprows.proofs.asking.marked.Statement.{statement}
+use Rattle.maprows.proofs.asking.marked.Tie as tie
 
 abbrev Inv-loop : tie.InvT-loop
 Inv-loop out mark marked₀ k₀ marked k = k ≤ length out
