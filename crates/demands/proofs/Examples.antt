@@ -28,7 +28,7 @@ use Rattle.packet.specs.declared.Reading.{Reading}
 use Rattle.packet.proofs.Damages.{sent-corrected, corrected-came, sent-spare, received-sent, header-came}
 use Rattle.head.specs.Head.{wishOf}
 use Rattle.head.proofs.Wishes.{wish-0}
-use Rattle.slot.specs.Slot.{headOf}
+use Rattle.slot.specs.Slot.{slotSize, headOf}
 use Rattle.head.specs.declared.Head.{Head}
 use Rattle.runs.proofs.Parts.{blank-at}
 use Rattle.slot.proofs.Goods.{head-blank}
@@ -54,7 +54,7 @@ empty-state = blank stateSize
 -- no slot of it has an address
 pub empty-address : (k : ℕ) → k < slots → addressAt empty-state k ≡ 0
 empty-address k h =
-    sym (address-is empty-state k) ∙ ap (λ (x : List ℕ). headOf x .wish .address) (slot-blank k h) ∙ ap (λ (h : Head). h .wish .address) (head-blank 736)
+    sym (address-is empty-state k) ∙ ap (λ (x : List ℕ). headOf x .wish .address) (slot-blank k h) ∙ ap (λ (h : Head). h .wish .address) (head-blank slotSize)
 
 pub empty-passed : Passed empty-state
 empty-passed = record { size = blank-length stateSize; all-good = each-good empty-state blank-good }
