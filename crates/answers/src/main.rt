@@ -12,12 +12,13 @@ use chunk::Progress;
 use libc::STDERR_FILENO;
 use libc::STDIN_FILENO;
 use libc::STDOUT_FILENO;
+use table::Table;
 
 mod chunk;
 mod text;
 
 fn main() {
-    let mut state = [0u8; 11776];
+    let mut state = [0u8; Table::SIZE];
     table::start(&mut state);
     let mut buffer = io::buffer();
     let mut out = io::large_buffer();

@@ -9,6 +9,7 @@ use libc::STDIN_FILENO;
 use libc::STDOUT_FILENO;
 use rows::tell;
 use rows::tell::Progress;
+use table::Table;
 
 mod hand;
 mod state;
@@ -19,14 +20,14 @@ fn main() {
     let mut text = [0u8; 131072];
     let len = io::read_full(STDIN_FILENO, &mut text);
     tell::fits(len, 131072);
-    let mut state = [0u8; 11777];
+    let mut state = [0u8; Table::SIZE + 1];
     let mut images = [0u8; 471];
     let mut message = [0u8; 361];
     run(&text[..len], &mut state, &mut images, &mut message);
 }
 
 fn run(text: &[u8], state: &mut [u8], images: &mut [u8], message: &mut [u8]) {
-    let mut progress = Progress::new(11776);
+    let mut progress = Progress::new(Table::SIZE);
     let mut k: usize = 0;
     while k < text.len() {
         progress = step(progress, text[k], state, images, message);

@@ -21,7 +21,7 @@ use Rattle.packet.specs.Received.{received}
 use Rattle.packet.specs.Damage.{dataSize, Refused}
 use Rattle.packet.specs.declared.Reading.{Reading}
 use Rattle.packet.proofs.Answers.{received-length, received-either}
-use Rattle.slot.specs.Slot.{headOf, goodSlot}
+use Rattle.slot.specs.Slot.{slotSize, headOf, goodSlot}
 use Rattle.head.specs.Head.{droppedHead, goodHead}
 use Rattle.head.specs.Move.{Move, movedHead, rowAt, placeAt}
 use Rattle.head.specs.declared.Head.{Head}
@@ -75,13 +75,13 @@ event-refused p image ne = go (received p image .number) ne
 -- ---- at the slot of its address
 
 pub record Does (e : Event) (x y : List ℕ) (n : ℕ) : Type 0 where
-  pub size : length y ≡ 736
+  pub size : length y ≡ slotSize
   pub good : goodSlot y ≡ true
   pub address : headOf y .wish .address ≡ headOf x .wish .address
   pub seen : seenIn y ≡ after e (seenIn x)
   pub number : n ≡ answer e (seenIn x)
 
-module _ (x image : List ℕ) (l : length x ≡ 736) (g : goodHead (headOf x) ≡ true) where
+module _ (x image : List ℕ) (l : length x ≡ slotSize) (g : goodHead (headOf x) ≡ true) where
   abbrev p : Bool
   p = eqb (headOf x .wish .protection) 1
 

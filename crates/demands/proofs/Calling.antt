@@ -20,7 +20,7 @@ use Rattle.bits.proofs.Rows.{refusal-none, done-passed, done-either}
 use Rattle.bits.proofs.Storing.{blank-length}
 use Rattle.bits.proofs.Search.{and-left, and-right}
 use Rattle.image.specs.Image.{spareOf}
-use Rattle.slot.specs.Slot.{headOf, withHead}
+use Rattle.slot.specs.Slot.{slotSize, headOf, withHead}
 use Rattle.head.specs.Head.{newHead}
 use Rattle.head.specs.declared.Head.{Head}
 use Rattle.head.specs.declared.Wish.{Wish}
@@ -163,15 +163,15 @@ module _ (s : List ℕ) (a : ℕ) (v : Serves s a) where
   leave-acts : (b : ℕ) → (b ≡ a → ⊥) → Kept (leaveAfter s b) a (view s a)
   unfolding leaveAfter
   leave-acts b ne =
-      done-either (λ (t : List ℕ). Kept t a (view s a)) (leaveAnswer s b) (withSlot (find s b) (blank 736) s) s
+      done-either (λ (t : List ℕ). Kept t a (view s a)) (leaveAnswer s b) (withSlot (find s b) (blank slotSize) s) s
       (λ e. go (leave-passed s b e .2) e) (change-none s a v)
     where
-      go : find s b < slots → leaveAnswer s b ≡ 0 → Kept (withSlot (find s b) (blank 736) s) a (view s a)
+      go : find s b < slots → leaveAnswer s b ≡ 0 → Kept (withSlot (find s b) (blank slotSize) s) a (view s a)
       go h e =
-          change-apart s a v (find s b) (blank 736) h (blank-length 736)
+          change-apart s a v (find s b) (blank slotSize) h (blank-length slotSize)
           (λ q. ne (sym (find-has s b h) ∙ ap (addressAt s) q ∙ find-has s a (v .found)))
           (good-each _ (sym (ap good (done-passed (leaveAnswer s b) _ s e)) ∙ leave-good s b (each-good s (v .all))))
-          (ne-eqb (headOf (blank 736) .wish .address) a (λ q. omega (arith, sym (ap (λ (y : Head). y .wish .address) (head-blank 736)) ∙ q, v .pos))
+          (ne-eqb (headOf (blank slotSize) .wish .address) a (λ q. omega (arith, sym (ap (λ (y : Head). y .wish .address) (head-blank slotSize)) ∙ q, v .pos))
           ∙ sym (ne-eqb (addressAt s (find s b)) a (λ q. ne (sym (find-has s b h) ∙ q))))
 
   pub end-zero : endAnswer s ≡ 0
@@ -206,7 +206,7 @@ module _ (s : List ℕ) (a : ℕ) (v : Serves s a) where
 -- ---- follow
 
 -- no other slot has the new address
-only-slot : (s : List ℕ) (a k : ℕ) (b : List ℕ) (l : length s ≡ stateSize) (h : k < slots) (lb : length b ≡ 736) → slots ≤ find s a
+only-slot : (s : List ℕ) (a k : ℕ) (b : List ℕ) (l : length s ≡ stateSize) (h : k < slots) (lb : length b ≡ slotSize) → slots ≤ find s a
     → (j : ℕ) → j < slots → addressAt (withSlot k b s) j ≡ a → Dec (j ≡ k) → j ≡ k
 only-slot s a k b l h lb none j hj q (yes e) = e
 only-slot s a k b l h lb none j hj q (no e) = absurd (find-none s a none j hj (sym (address-other s l k b h lb j e) ∙ q))

@@ -18,6 +18,7 @@ use Prim.Native.Nat.{ℕ, zero, suc, _≤_, _<_}
 use native.Mathlib.Omega.{arith}
 use native.Mathlib.Decide.{decLt}
 use lib.Dec.{ltb, eqb, lit≤, lit<}
+use borrow.Author.Tests.{not-false}
 use Rattle.bits.specs.Bits.{blank}
 use Rattle.bits.proofs.Storing.{blank-length}
 use Rattle.bare.specs.Bare.{headerRead}
@@ -26,9 +27,9 @@ use Rattle.packet.specs.Received.{received, readableAs}
 use Rattle.packet.specs.Damage.{sentImage}
 use Rattle.packet.specs.declared.Reading.{Reading}
 use Rattle.packet.proofs.Damages.{sent-corrected, corrected-came, sent-spare, received-sent, header-came}
-use Rattle.head.specs.Head.{wishOf}
-use Rattle.head.proofs.Wishes.{wish-0}
-use Rattle.slot.specs.Slot.{headOf}
+use Rattle.head.specs.Head.{within, wishOf, goodWish}
+use Rattle.head.proofs.Wishes.{outside, wish-passes}
+use Rattle.slot.specs.Slot.{slotSize, headOf}
 use Rattle.head.specs.declared.Head.{Head}
 use Rattle.runs.proofs.Parts.{blank-at}
 use Rattle.slot.proofs.Goods.{head-blank}
@@ -54,7 +55,7 @@ empty-state = blank stateSize
 -- no slot of it has an address
 pub empty-address : (k : ℕ) → k < slots → addressAt empty-state k ≡ 0
 empty-address k h =
-    sym (address-is empty-state k) ∙ ap (λ (x : List ℕ). headOf x .wish .address) (slot-blank k h) ∙ ap (λ (h : Head). h .wish .address) (head-blank 736)
+    sym (address-is empty-state k) ∙ ap (λ (x : List ℕ). headOf x .wish .address) (slot-blank k h) ∙ ap (λ (h : Head). h .wish .address) (head-blank slotSize)
 
 pub empty-passed : Passed empty-state
 empty-passed = record { size = blank-length stateSize; all-good = each-good empty-state blank-good }
@@ -74,7 +75,8 @@ empty-free = go (decLt (find empty-state 0) slots)
     go (no q) = absurd (find-none empty-state 0 (omega arith) 0 (lit< tt) (empty-address 0 (lit< tt)))
 
 pub accepted : (l : ℕ) → (ltb l 1 || ltb 1500 l) ≡ false → followAnswer empty-state (wishOf 17 0 l) ≡ 0
-accepted l t = follow-0 empty-state (wishOf 17 0 l) empty-passed (sym (wish-0 (wishOf 17 0 l) refl (lit≤ tt) t)) (find empty-state 17) refl (empty-absent 17 (lit< tt)) (find empty-state 0) refl empty-free
+unfolding goodWish
+accepted l t = follow-0 empty-state (wishOf 17 0 l) empty-passed (wish-passes (wishOf 17 0 l) (not-false (within 1 1500 l) (sym (outside 1 1500 l) ∙ t))) (find empty-state 17) refl (empty-absent 17 (lit< tt)) (find empty-state 0) refl empty-free
 
 pub yes-2 : followAnswer empty-state (wishOf 17 0 2) ≡ 0
 yes-2 = accepted 2 refl

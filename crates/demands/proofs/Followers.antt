@@ -8,7 +8,7 @@
 --
 -- Assumes nothing.
 use mathlib.Core.Path.{_≡_, refl, sym, ap, ap₂, _∙_, subst}
-use mathlib.Core.Bool.{Bool, true, false, cond, not, _&&_, _||_}
+use mathlib.Core.Bool.{Bool, true, false, cond, not, _&&_, _||_, and-assoc}
 use mathlib.Core.List.{List, [], _∷_}
 use Prim.Native.Nat.{ℕ, zero, suc, _≤_, _<_}
 use native.Mathlib.Omega.{arith}
@@ -18,10 +18,12 @@ use lib.Dec.{T, leb, ltb, eqb}
 use lib.ListN.{length}
 use Rattle.bits.specs.Bits.{blank}
 use Rattle.bits.specs.Rows.{Row, row, refusal}
+use Rattle.bits.proofs.Rows.{refusal-hit}
 use Rattle.bits.proofs.Search.{and-left, and-right}
 use Rattle.image.specs.Image.{spareOf}
-use Rattle.head.specs.Head.{within, wishOf, goodWish}
+use Rattle.head.specs.Head.{within, goodWish}
 use Rattle.head.proofs.Bounds.{wish-bounds}
+use Rattle.head.proofs.Wishes.{wish-rest, wish-passes}
 use Rattle.head.specs.declared.Wish.{Wish}
 use Rattle.table.specs.State.{stateSize, slots, addressAt, find, good}
 use Rattle.table.specs.Calls.{startAnswer, followAnswer, leaveAnswer}
@@ -213,6 +215,9 @@ module _ (l s t : List ℕ) (k : Lists l s) (g : Good t) (a : ℕ) (pos : 0 < a)
 
 -- ---- what the calls answer
 
+refused-22 : (w : Wish) (taken full : Bool) → not (within 1 1022 (w .address)) ≡ true → refusal (wishRows w taken full) ≡ 22
+refused-22 w taken full e = refusal-hit (not (within 1 1022 (w .address))) 22 _ e
+
 module _ (l s : List ℕ) (k : Lists l s) where
   full : not (ltb (find s 0) 16) ≡ eqb (length l) 16
   full = used-full s ∙ ap (λ (n : ℕ). eqb n 16) (sym (k .size))
@@ -221,14 +226,17 @@ module _ (l s : List ℕ) (k : Lists l s) where
   unfolding followAnswer refusal
   follow-by w =
       state-rest s (wishRows w (ltb (find s (w .address)) 16) (not (ltb (find s 0) 16))) (k .state .size) (k .state .good)
-      ∙ ap (λ (b : Bool). refusal (wishRows w (ltb (find s (w .address)) 16) b)) full ∙ at (w .address)
+      ∙ ap (λ (b : Bool). refusal (wishRows w (ltb (find s (w .address)) 16) b)) full ∙ at (w .address) refl
     where
-      rows : ℕ → Bool → List Row
-      rows a b = wishRows (wishOf a (w .protection) (w .limit)) b (eqb (length l) 16)
+      rows : Bool → List Row
+      rows b = wishRows w b (eqb (length l) 16)
 
-      at : (a : ℕ) → refusal (rows a (ltb (find s a) 16)) ≡ refusal (rows a (member a l))
-      at zero = refl
-      at (suc n) = ap (λ (b : Bool). refusal (rows (suc n) b)) (sym (k .same (suc n) (omega arith)))
+      -- at address 0 the first row holds, and the others are not asked
+      at : (a : ℕ) → w .address ≡ a → refusal (rows (ltb (find s (w .address)) 16)) ≡ refusal (rows (member (w .address) l))
+      at zero e =
+          let first : not (within 1 1022 (w .address)) ≡ true = ap (λ (n : ℕ). not (within 1 1022 n)) e in
+          refused-22 w (ltb (find s (w .address)) 16) (eqb (length l) 16) first ∙ sym (refused-22 w (member (w .address) l) (eqb (length l) 16) first)
+      at (suc n) e = ap (λ (b : Bool). refusal (rows b)) (sym (k .same (w .address) (omega (arith, e))))
 
   leave-by : (a : ℕ) → leaveAnswer s a ≡ refusal (addressRows a (not (member a l)))
   unfolding leaveAnswer refusal
@@ -296,42 +304,39 @@ module _ (l s : List ℕ) (k : Lists l s) where
 
 -- ---- each call keeps it
 
+-- what is accepted, by whether the wish is good
+accepts-good : (w : Wish) (l : List ℕ) → accepts w l ≡ (goodWish w && (not (member (w .address) l) && ltb (length l) 16))
+unfolding accepts goodWish
+accepts-good w l =
+    let a = within 1 1022 (w .address) in
+    let p = leb (w .protection) 1 in
+    let n = within 1 1500 (w .limit) in
+    let b = not (member (w .address) l) && ltb (length l) 16 in
+    sym (and-assoc a (p && n) b ∙ ap (λ (x : Bool). a && x) (and-assoc p n b))
+
 -- a follow that the list takes is accepted
 wish-taken : (w : Wish) (l : List ℕ) → accepts w l ≡ true → refusal (wishRows w (member (w .address) l) (eqb (length l) 16)) ≡ 0
-unfolding accepts refusal
+unfolding refusal
 wish-taken w l e =
     let a = w .address in
-    let p = w .protection in
-    let limit = w .limit in
-    let r1 = and-right (within 1 1022 a) _ e in
-    let r2 = and-right (leb p 1) _ r1 in
-    let r3 = and-right (within 1 1500 limit) _ r2 in
-    λ i. refusal (row (not (and-left (within 1 1022 a) _ e i)) 22 ∷ row (low (and-left (leb p 1) _ r1) i) 23
-    ∷ row (not (and-left (within 1 1500 limit) _ r2 i)) 24 ∷ row (not-true (member a l) (and-left (not (member a l)) _ r3) i) 25
-    ∷ row (ne-eqb (length l) 16 (λ q. omega (arith, q, ltb-true (length l) 16 (and-right (not (member a l)) _ r3))) i) 26 ∷ [])
-  where
-    low : leb (w .protection) 1 ≡ true → ltb 1 (w .protection) ≡ false
-    low q = le-ltb 1 (w .protection) (leb-true (w .protection) 1 q)
+    let g = sym (accepts-good w l) ∙ e in
+    let r = and-right (goodWish w) _ g in
+    wish-rest w (row (member a l) 25 ∷ row (eqb (length l) 16) 26 ∷ []) (wish-passes w (and-left (goodWish w) _ g))
+    ∙ (λ i. refusal (row (not-true (member a l) (and-left (not (member a l)) _ r) i) 25
+    ∷ row (ne-eqb (length l) 16 (λ q. omega (arith, q, ltb-true (length l) 16 (and-right (not (member a l)) _ r))) i) 26 ∷ []))
 
 module _ (l s : List ℕ) (k : Lists l s) where
   keeps : (x : Call) → ((j : ℕ) → j < slots → addressAfter x s j ≡ addressAt s j) → Lists l (ourAfter x s)
   keeps x e = lists-same l s (ourAfter x s) k (keeps-good x s (k .state)) (λ j h. keeps-addresses x s (k .state) j h ∙ e j h)
 
   is-taken : (w : Wish) → Followed s w → accepts w l ≡ true
-  unfolding accepts goodWish
   is-taken w f =
       let a = w .address in
       let less : length l < 16 = room (eqb-false (length l) 16 (sym (full l s k) ∙ ap not (lt-ltb (find s 0) 16 (f .room)))) in
       let same : goodWish w && (not (member a l) && ltb (length l) 16) ≡ true =
       λ i. f .wish i && (not ((k .same a (wish-bounds w (f .wish) .address-from) ∙ le-ltb (find s a) 16 (f .absent)) i) && lt-ltb (length l) 16 less i) in
-      three (within 1 1022 a) (leb (w .protection) 1) (within 1 1500 (w .limit)) (not (member a l) && ltb (length l) 16) ∙ same
+      accepts-good w l ∙ same
     where
-      three : (a p n b : Bool) → (a && (p && (n && b))) ≡ ((a && (p && n)) && b)
-      three true true true b = refl
-      three true true false b = refl
-      three true false n b = refl
-      three false p n b = refl
-
       room : (length l ≡ 16 → ⊥) → length l < 16
       room ne = omega (arith, ne, k .size, used-le s)
 

@@ -19,7 +19,7 @@ use native.Mathlib.Decide.{ℕ-discrete}
 use lib.Dec.{eqb}
 use lib.ListN.{length}
 use Rattle.bits.specs.Bits.{blank}
-use Rattle.slot.specs.Slot.{headOf, withHead, goodSlot}
+use Rattle.slot.specs.Slot.{slotSize, headOf, withHead, goodSlot}
 use Rattle.head.specs.Head.{agedHead, goodHead}
 use Rattle.head.specs.declared.Head.{Head}
 use Rattle.head.proofs.Bounds.{Bounds, good-bounds, WishBounds, wish-bounds}
@@ -53,7 +53,7 @@ used-head x g h = go (good-cases x g)
     go (inl e) = absurd (omega (arith, ap (λ (y : List ℕ). headOf y .wish .address) e, ap (λ (y : Head). y .wish .address) (head-blank (length x))))
 
 module _ (s : List ℕ) (a : ℕ) (v : Serves s a) where
-  pub here-size : length (slotAt (find s a) s) ≡ 736
+  pub here-size : length (slotAt (find s a) s) ≡ slotSize
   here-size = slot-length s (v .size) (find s a) (v .found)
 
   pub here-address : headOf (slotAt (find s a) s) .wish .address ≡ a
@@ -80,7 +80,7 @@ module _ (s : List ℕ) (a : ℕ) (v : Serves s a) where
         seen = ap (λ (k : ℕ). seenIn (slotAt k t)) e ∙ ap seenIn here;
       }
 
-  pub change-here : (b : List ℕ) → length b ≡ 736 → goodSlot b ≡ true → headOf b .wish .address ≡ a → Kept (withSlot (find s a) b s) a (seenIn b)
+  pub change-here : (b : List ℕ) → length b ≡ slotSize → goodSlot b ≡ true → headOf b .wish .address ≡ a → Kept (withSlot (find s a) b s) a (seenIn b)
   change-here b lb gb e =
       let k = find s a in
       let at : headOf b .wish .address ≡ addressAt s k = e ∙ sym (find-has s a (v .found)) in
@@ -96,7 +96,7 @@ module _ (s : List ℕ) (a : ℕ) (v : Serves s a) where
       same j (no q) at = ap (λ (n : ℕ). eqb n a) (address-other s (v .size) (find s a) b (v .found) lb j q)
 
   -- another slot, which neither had the address nor has it
-  pub change-apart : (k : ℕ) (b : List ℕ) → k < slots → length b ≡ 736 → (k ≡ find s a → ⊥) → Good (withSlot k b s)
+  pub change-apart : (k : ℕ) (b : List ℕ) → k < slots → length b ≡ slotSize → (k ≡ find s a → ⊥) → Good (withSlot k b s)
       → eqb (headOf b .wish .address) a ≡ eqb (addressAt s k) a → Kept (withSlot k b s) a (view s a)
   unfolding view
   change-apart k b hk lb ne gt at =
@@ -117,7 +117,7 @@ module _ (s : List ℕ) (a : ℕ) (v : Serves s a) where
 abbrev pub older : List ℕ → List ℕ
 older x = withHead (agedHead (headOf x)) x
 
-older-size : (s : List ℕ) (l : length s ≡ stateSize) (k : ℕ) → k < slots → length (older (slotAt k s)) ≡ 736
+older-size : (s : List ℕ) (l : length s ≡ stateSize) (k : ℕ) → k < slots → length (older (slotAt k s)) ≡ slotSize
 older-size s l k h = withHead-length (agedHead (headOf (slotAt k s))) (slotAt k s) (slot-length s l k h) ∙ slot-length s l k h
 
 pub ages-long : (n k : ℕ) (s : List ℕ) → n + k ≤ slots → length s ≡ stateSize → length (ages n k s) ≡ stateSize

@@ -10,7 +10,7 @@
 use mathlib.Core.Path.{_≡_, refl, sym, ap, ap₂, _∙_, subst}
 use mathlib.Core.Bool.{Bool, true, false, cond, _&&_, _||_}
 use mathlib.Core.List.{List, [], _∷_, _++_}
-use Prim.Native.Nat.{ℕ, zero, suc, _≤_, _<_}
+use Prim.Native.Nat.{ℕ, zero, suc, _-_, _≤_, _<_}
 use native.Mathlib.Omega.{arith}
 use native.Mathlib.Decide.{ℕ-discrete}
 use lib.Dec.{ltb, eqb, lit≤, lit<}
@@ -173,7 +173,7 @@ abbrev hand : Head
 hand = record { wish = wishOf 17 0 1; age = 0; awaited = 0; group = 1; gap = 1 }
 
 abbrev bytes : List ℕ
-bytes = 1 ∷ blank 735
+bytes = 1 ∷ blank (slotSize - 1)
 
 abbrev slot : List ℕ
 slot = withHead hand bytes
@@ -186,7 +186,7 @@ unfolding goodWish goodHead
 hand-good = refl
 
 bytes-length : length bytes ≡ slotSize
-bytes-length = ap suc (blank-length 735)
+bytes-length = ap suc (blank-length (slotSize - 1))
 
 slot-head : headOf slot ≡ hand
 slot-head = good-load hand hand-good bytes bytes-length

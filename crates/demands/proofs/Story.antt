@@ -17,9 +17,9 @@ use lib.Dec.{lit≤, lit<}
 use Rattle.bits.specs.Bits.{blank}
 use Rattle.bits.proofs.Rows.{done-passed}
 use Rattle.bits.proofs.Storing.{blank-length}
-use Rattle.head.specs.Head.{askNumber, newHead, wishOf}
+use Rattle.head.specs.Head.{askNumber, newHead, wishOf, goodWish}
 use Rattle.head.specs.Move.{perOf, needsOf, rowOf, moveOf, movedHead}
-use Rattle.head.proofs.Wishes.{wish-0}
+use Rattle.head.proofs.Wishes.{wish-passes}
 use Rattle.slot.specs.Slot.{withHead}
 use Rattle.head.specs.declared.Head.{Head}
 use Rattle.head.proofs.Bounds.{good-new}
@@ -210,9 +210,10 @@ after-17 j hj =
     )
 
 pub second-follow : followAnswer (followAfter empty-state (wishOf 17 0 2)) (wishOf 18 0 2) ≡ 0
+unfolding goodWish
 second-follow =
     let k = follow-serves empty-state (wishOf 17 0 2) yes-2 in
-    follow-0 t (wishOf 18 0 2) (passed t 17 (k .serves)) (sym (wish-0 (wishOf 18 0 2) refl (lit≤ tt) refl)) (find t 18) refl (absent (decLt (find t 18) slots)) (find t 0) refl (room (decLt (find t 0) slots))
+    follow-0 t (wishOf 18 0 2) (passed t 17 (k .serves)) (wish-passes (wishOf 18 0 2) refl) (find t 18) refl (absent (decLt (find t 18) slots)) (find t 0) refl (room (decLt (find t 0) slots))
   where
     t : List ℕ
     t = followAfter empty-state (wishOf 17 0 2)

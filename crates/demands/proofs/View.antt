@@ -15,7 +15,7 @@ use native.Mathlib.Omega.{arith}
 use lib.Dec.{eqb}
 use lib.ListN.{length}
 use Rattle.runs.specs.Part.{part}
-use Rattle.slot.specs.Slot.{headOf, withHead, unfinished, stored}
+use Rattle.slot.specs.Slot.{slotSize, headOf, withHead, unfinished, stored}
 use Rattle.head.specs.Head.{newHead, droppedHead, agedHead, goodHead}
 use Rattle.head.specs.Move.{Move, started, held, whole, outOfStep, perOf, needsOf, movedHead}
 use Rattle.head.specs.declared.Head.{Head}
@@ -73,7 +73,7 @@ unfolding lastIn
 last-by h room n e en =
     ap₂ (λ (m k : ℕ). cond (eqb m 0) [] (part 0 k room)) e (group-four h ∙ en)
 
-dropped-view : (x : List ℕ) → length x ≡ 736 → goodHead (headOf x) ≡ true → let h = headOf x in
+dropped-view : (x : List ℕ) → length x ≡ slotSize → goodHead (headOf x) ≡ true → let h = headOf x in
     seenIn (slotDropped x)
     ≡ record { per = perOf h; needs = needsOf h; head = droppedHead h; unfinished = []; last = lastIn h (stored x) }
 dropped-view x l g =
@@ -81,7 +81,7 @@ dropped-view x l g =
     view-is (slotDropped x) (perOf h) (needsOf h) (droppedHead h) [] _ (dropped-head x l g) (dropped-sizes h) (held-none (droppedHead h) _ refl)
     (last-same (droppedHead h) h _ _ refl refl (dropped-stored x l g))
 
-pub view-dropped : (x : List ℕ) → length x ≡ 736 → goodHead (headOf x) ≡ true → seenIn (slotDropped x) ≡ dropped (seenIn x)
+pub view-dropped : (x : List ℕ) → length x ≡ slotSize → goodHead (headOf x) ≡ true → seenIn (slotDropped x) ≡ dropped (seenIn x)
 unfolding dropped seenIn
 view-dropped x l g = dropped-view x l g
 
@@ -125,7 +125,7 @@ view-moved whole c b x f =
     ∙ whole-group c b x f ((c + 1) * length b) refl ∙ ap (λ (y : List ℕ). y ++ b) (begun-view c b x (f .row .0) (f .block)))
 view-moved outOfStep c b x f = ap seenIn (sym (out-drops c b x)) ∙ dropped-view x (f .size) (f .good)
 
-pub view-aged : (x : List ℕ) → length x ≡ 736 → goodHead (headOf x) ≡ true → seenIn (withHead (agedHead (headOf x)) x) ≡ aged (seenIn x)
+pub view-aged : (x : List ℕ) → length x ≡ slotSize → goodHead (headOf x) ≡ true → seenIn (withHead (agedHead (headOf x)) x) ≡ aged (seenIn x)
 unfolding aged seenIn
 view-aged x l g =
     let h = agedHead (headOf x) in
@@ -135,7 +135,7 @@ view-aged x l g =
     ∙ sym (held-by (headOf x) (unfinished x) (headOf x .awaited * blockOf (headOf x)) refl))
     (last-same h (headOf x) _ _ refl refl (store-stored h x l))
 
-pub view-new : (w : Wish) (x : List ℕ) → length x ≡ 736 → goodHead (newHead w) ≡ true → seenIn (withHead (newHead w) x) ≡ followed w
+pub view-new : (w : Wish) (x : List ℕ) → length x ≡ slotSize → goodHead (newHead w) ≡ true → seenIn (withHead (newHead w) x) ≡ followed w
 unfolding followed lastIn
 view-new w x lx g =
     view-is (withHead (newHead w) x) _ _ (newHead w) [] [] (good-load (newHead w) g x lx) (refl, refl) (held-none (newHead w) _ refl) refl

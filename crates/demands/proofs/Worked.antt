@@ -16,8 +16,8 @@ use native.Mathlib.Omega.{arith}
 use lib.Dec.{eqb, lit<, lit≤}
 use borrow.Author.Tests.{eq-eqb, eqb-true}
 use Rattle.head.specs.Move.{perOf, needsOf, rowOf, moveOf, moveNumber, movedHead}
-use Rattle.head.specs.Head.{wishOf}
-use Rattle.head.proofs.Wishes.{wish-0}
+use Rattle.head.specs.Head.{wishOf, goodWish}
+use Rattle.head.proofs.Wishes.{wish-passes}
 use Rattle.table.specs.State.{find}
 use Rattle.table.specs.Calls.{followAnswer, followAfter}
 use Rattle.table.proofs.Looking.{follow-0}
@@ -198,8 +198,9 @@ unfolding worked-came came-1 came-2 came-3 came-4 came-5 worked-sent events even
 worked-out = refl
 
 pub worked-accepted : followAnswer empty-state (wishOf 17 1 2) ≡ 0
+unfolding goodWish
 worked-accepted =
-    follow-0 empty-state (wishOf 17 1 2) empty-passed (sym (wish-0 (wishOf 17 1 2) refl (lit≤ tt) refl)) (find empty-state 17) refl (empty-absent 17 (lit< tt)) (find empty-state 0) refl
+    follow-0 empty-state (wishOf 17 1 2) empty-passed (wish-passes (wishOf 17 1 2) refl) (find empty-state 17) refl (empty-absent 17 (lit< tt)) (find empty-state 0) refl
     (follow-passed empty-state (wishOf 17 0 2) (accepted 2 refl) .room)
 
 -- the same of our calls, on bytes

@@ -28,7 +28,7 @@ use Rattle.bits.proofs.Rows.{further-refused, further-passed, done-refused, don
 use Rattle.bits.proofs.Search.{and-left, and-right}
 use Rattle.bits.proofs.Storing.{blank-length}
 use Rattle.runs.specs.Part.{put}
-use Rattle.slot.specs.Slot.{headOf, withHead, unfinished, withUnfinished}
+use Rattle.slot.specs.Slot.{roomSize, slotSize, headOf, withHead, unfinished, withUnfinished}
 use Rattle.head.specs.Head.{startedHead, heldHead, wholeHead, droppedHead}
 use Rattle.head.specs.Move.{Move, started, held, whole, outOfStep, moveNumber, movedHead, rowAt, placeAt}
 use Rattle.head.specs.declared.Head.{Head}
@@ -49,29 +49,29 @@ put-front at n b r x h =
     ∙ sym (append-assoc (take at r) (b ++ drop n (drop at r)) x)
 
 -- the room stands at the front of the slot
-room-front : (r s : List ℕ) → withUnfinished r s ≡ r ++ drop 360 s
+room-front : (r s : List ℕ) → withUnfinished r s ≡ r ++ drop roomSize s
 unfolding withUnfinished put
 room-front r s = refl
 
-pub room-put : (at n : ℕ) (b r s : List ℕ) → length r ≡ 360 → at + n ≤ 360 → put at n b (withUnfinished r s) ≡ withUnfinished (put at n b r) s
+pub room-put : (at n : ℕ) (b r s : List ℕ) → length r ≡ roomSize → at + n ≤ roomSize → put at n b (withUnfinished r s) ≡ withUnfinished (put at n b r) s
 room-put at n b r s l h =
-    ap (put at n b) (room-front r s) ∙ put-front at n b r (drop 360 s) (omega arith) ∙ sym (room-front (put at n b r) s)
+    ap (put at n b) (room-front r s) ∙ put-front at n b r (drop roomSize s) (omega arith) ∙ sym (room-front (put at n b r) s)
 
 room-same : (s : List ℕ) → withUnfinished (unfinished s) s ≡ s
 unfolding withUnfinished unfinished
-room-same s = put-part 0 360 s
+room-same s = put-part 0 roomSize s
 
-pub room-joined : (at n : ℕ) (b s : List ℕ) → length s ≡ 736 → at + n ≤ 360 → put at n b s ≡ withUnfinished (put at n b (unfinished s)) s
+pub room-joined : (at n : ℕ) (b s : List ℕ) → length s ≡ slotSize → at + n ≤ roomSize → put at n b s ≡ withUnfinished (put at n b (unfinished s)) s
 room-joined at n b s l h = ap (put at n b) (sym (room-same s)) ∙ room-put at n b (unfinished s) s (unfinished-room s l) h
 
-pub placed-length : (c : ℕ) (b r : List ℕ) → length r ≡ 360 → c ≤ 3 → length b ≤ 90 → length (placed c b r) ≡ 360
+pub placed-length : (c : ℕ) (b r : List ℕ) → length r ≡ roomSize → c ≤ 3 → length b ≤ 90 → length (placed c b r) ≡ roomSize
 unfolding placed
 placed-length c b r l h lb =
     put-length (c * length b) (length b) b r (omega (arith, mul-le-mul-right (length b) h)) refl ∙ l
 
-pub begun-length : (c : ℕ) (r : List ℕ) → length r ≡ 360 → length (begunRoom c r) ≡ 360
+pub begun-length : (c : ℕ) (r : List ℕ) → length r ≡ roomSize → length (begunRoom c r) ≡ roomSize
 unfolding begunRoom
-begun-length zero r l = blank-length 360
+begun-length zero r l = blank-length roomSize
 begun-length (suc c) r l = l
 
 begun-later : (c : ℕ) (r : List ℕ) → (c ≡ 0 → ⊥) → begunRoom c r ≡ r
@@ -82,27 +82,27 @@ begun-later (suc c) r n = refl
 -- ---- a packet is joined on
 
 abbrev pub Begun : ℕ → List ℕ → List ℕ → Type 0
-Begun c s t = ((c ≡ 0) × (t ≡ withUnfinished (blank 360) s)) ⊎ ((c ≡ 0 → ⊥) × (t ≡ s))
+Begun c s t = ((c ≡ 0) × (t ≡ withUnfinished (blank roomSize) s)) ⊎ ((c ≡ 0 → ⊥) × (t ≡ s))
 
-pub begun-long : (c : ℕ) (s t : List ℕ) → length s ≡ 736 → Begun c s t → length t ≡ 736
-begun-long c s t l (inl (z, e)) = ap length e ∙ unfinished-length (blank 360) s l (blank-length 360) ∙ l
+pub begun-long : (c : ℕ) (s t : List ℕ) → length s ≡ slotSize → Begun c s t → length t ≡ slotSize
+begun-long c s t l (inl (z, e)) = ap length e ∙ unfinished-length (blank roomSize) s l (blank-length roomSize) ∙ l
 begun-long c s t l (inr (n, e)) = ap length e ∙ l
 
-module _ (c : ℕ) (s b : List ℕ) (l : length s ≡ 736) (h : c ≤ 3) (lb : length b ≤ 90) where
-  pub place-ends : c * length b + length b ≤ 360
+module _ (c : ℕ) (s b : List ℕ) (l : length s ≡ slotSize) (h : c ≤ 3) (lb : length b ≤ 90) where
+  pub place-ends : c * length b + length b ≤ roomSize
   place-ends = omega (arith, mul-le-mul-right (length b) h)
 
-  pub room-length : length (placed c b (begunRoom c (unfinished s))) ≡ 360
+  pub room-length : length (placed c b (begunRoom c (unfinished s))) ≡ roomSize
   room-length = placed-length c b (begunRoom c (unfinished s)) (begun-length c (unfinished s) (unfinished-room s l)) h lb
 
-  pub joined-length : length (slotJoined c b s) ≡ 736
+  pub joined-length : length (slotJoined c b s) ≡ slotSize
   unfolding slotJoined
   joined-length = unfinished-length (placed c b (begunRoom c (unfinished s))) s l room-length ∙ l
 
   pub joined-does : (t u : List ℕ) → Begun c s t → u ≡ put (c * length b) (length b) b t → u ≡ slotJoined c b s
   unfolding slotJoined placed begunRoom
   joined-does t u (inl (z, et)) eu =
-      eu ∙ ap (put (c * length b) (length b) b) et ∙ room-put (c * length b) (length b) b (blank 360) s (blank-length 360) place-ends
+      eu ∙ ap (put (c * length b) (length b) b) et ∙ room-put (c * length b) (length b) b (blank roomSize) s (blank-length roomSize) place-ends
       ∙ ap (λ (x : ℕ). withUnfinished (put (c * length b) (length b) b (begunRoom x (unfinished s))) s) (sym z)
   joined-does t u (inr (n, et)) eu =
       eu ∙ ap (put (c * length b) (length b) b) et ∙ room-joined (c * length b) (length b) b s l place-ends
@@ -123,7 +123,7 @@ module _ (c : ℕ) (s b : List ℕ) (h : Head) (e : h ≡ headOf s) (t v : List 
   unfolding slotMoved movedHead roomsMoved
   whole-does n en ev = ev ∙ ap₂ withHead (ap wholeHead e) (ap₂ roomsKept en et)
 
-pub drop-does : (s : List ℕ) (h : Head) → h ≡ headOf s → (t v : List ℕ) (g : Head) → t ≡ withUnfinished (blank 360) s → g ≡ droppedHead h
+pub drop-does : (s : List ℕ) (h : Head) → h ≡ headOf s → (t v : List ℕ) (g : Head) → t ≡ withUnfinished (blank roomSize) s → g ≡ droppedHead h
     → v ≡ withHead g t → v ≡ slotDropped s
 unfolding slotDropped
 drop-does s h e t v g et eg ev = ev ∙ ap₂ withHead (eg ∙ ap droppedHead e) et

@@ -19,7 +19,7 @@ use lib.ListN.{length, length-append}
 use Rattle.bits.specs.Bits.{blank}
 use Rattle.bits.proofs.Storing.{blank-length}
 use Rattle.runs.specs.Part.{part, put}
-use Rattle.slot.specs.Slot.{headOf, withHead, unfinished, stored, withUnfinished, withStored, keptRoom}
+use Rattle.slot.specs.Slot.{roomSize, slotSize, headOf, withHead, unfinished, stored, withUnfinished, withStored, keptRoom}
 use Rattle.head.specs.Head.{droppedHead, goodHead}
 use Rattle.head.specs.Move.{Move, started, held, whole, outOfStep, needsOf, movedHead, rowAt, placeAt}
 use Rattle.head.specs.declared.Head.{Head}
@@ -33,14 +33,14 @@ use Rattle.group.specs.Group.{blockOf, placed, begunRoom, slotJoined, ro
 use Rattle.group.proofs.Doing.{begun-length, room-length, joined-length, block-le}
 
 pub record Fits (mv : Move) (c : ℕ) (b x : List ℕ) : Type 0 where
-  pub size : length x ≡ 736
+  pub size : length x ≡ slotSize
   pub good : goodHead (headOf x) ≡ true
   pub block : length b ≡ blockOf (headOf x)
   pub place : c ≤ 3
   pub row : Row (needsOf (headOf x)) (headOf x .awaited) c mv
 
 -- the row of section 4's table
-pub row-fits : (i : ℕ) (b x : List ℕ) → length x ≡ 736 → goodHead (headOf x) ≡ true → length b ≡ blockOf (headOf x)
+pub row-fits : (i : ℕ) (b x : List ℕ) → length x ≡ slotSize → goodHead (headOf x) ≡ true → length b ≡ blockOf (headOf x)
     → Fits (rowAt (headOf x) i) (placeAt (headOf x) i) b x
 row-fits i b x l g e =
     let h = headOf x in
@@ -54,64 +54,64 @@ row-fits i b x l g e =
     }
 
 -- a room in which c packets and one more stand begins with them
-placed-begins : (c m : ℕ) (b r : List ℕ) → length r ≡ 360 → c ≤ 3 → length b ≤ 90 → m ≡ c * length b + length b
+placed-begins : (c m : ℕ) (b r : List ℕ) → length r ≡ roomSize → c ≤ 3 → length b ≤ 90 → m ≡ c * length b + length b
     → part 0 m (placed c b r) ≡ part 0 (c * length b) r ++ b
 unfolding placed
 placed-begins c m b r l h lb e =
     let n = length b in
-    let fits : c * n + n ≤ 360 = omega (arith, mul-le-mul-right n h) in
+    let fits : c * n + n ≤ roomSize = omega (arith, mul-le-mul-right n h) in
     let there : part (0 + c * n) n (put (c * n) n b r) ≡ b =
     ap (λ (k : ℕ). part k n (put (c * n) n b r)) (zero-add (c * n)) ∙ part-put (c * n) n b r (omega arith) refl in
     ap (λ (k : ℕ). part 0 k (put (c * n) n b r)) e
     ∙ part-cat 0 (c * n) n (put (c * n) n b r)
     ∙ ap₂ (λ (u v : List ℕ). u ++ v) (part-put-before (c * n) n b r 0 (c * n) (omega arith) (omega arith)) there
 
-kept-length : (n : ℕ) (r : List ℕ) → n ≤ 360 → length r ≡ 360 → length (keptRoom n r) ≡ 360
+kept-length : (n : ℕ) (r : List ℕ) → n ≤ roomSize → length r ≡ roomSize → length (keptRoom n r) ≡ roomSize
 unfolding keptRoom
 kept-length n r h l =
-    length-append (part 0 n r) (blank (360 - n)) ∙ omega (arith, part-length 0 n r (omega arith), blank-length (360 - n))
+    length-append (part 0 n r) (blank (roomSize - n)) ∙ omega (arith, part-length 0 n r (omega arith), blank-length (roomSize - n))
 
-kept-begins : (n : ℕ) (r : List ℕ) → n ≤ 360 → length r ≡ 360 → part 0 n (keptRoom n r) ≡ part 0 n r
+kept-begins : (n : ℕ) (r : List ℕ) → n ≤ roomSize → length r ≡ roomSize → part 0 n (keptRoom n r) ≡ part 0 n r
 unfolding keptRoom
 kept-begins n r h l =
     let ln = part-length 0 n r (omega arith) in
-    part-front 0 n (part 0 n r) (blank (360 - n)) (omega arith) ∙ part-part 0 n 0 n r (omega arith) ∙ refl
+    part-front 0 n (part 0 n r) (blank (roomSize - n)) (omega arith) ∙ part-part 0 n 0 n r (omega arith) ∙ refl
 
 -- ---- the slot after a row
 
-module _ (n : ℕ) (t : List ℕ) (l : length t ≡ 736) (h : n ≤ 360) where
+module _ (n : ℕ) (t : List ℕ) (l : length t ≡ slotSize) (h : n ≤ roomSize) where
   -- the room that is kept, and the slot with it
-  kept-room : length (keptRoom n (unfinished t)) ≡ 360
+  kept-room : length (keptRoom n (unfinished t)) ≡ roomSize
   kept-room = kept-length n (unfinished t) h (unfinished-room t l)
 
-  stored-long : length (withStored (keptRoom n (unfinished t)) t) ≡ 736
+  stored-long : length (withStored (keptRoom n (unfinished t)) t) ≡ slotSize
   stored-long = stored-length (keptRoom n (unfinished t)) t l kept-room ∙ l
 
-  keeps-size : length (roomsKept n t) ≡ 736
+  keeps-size : length (roomsKept n t) ≡ slotSize
   unfolding roomsKept
-  keeps-size = unfinished-length (blank 360) _ stored-long (blank-length 360) ∙ stored-long
+  keeps-size = unfinished-length (blank roomSize) _ stored-long (blank-length roomSize) ∙ stored-long
 
-  keeps-room : unfinished (roomsKept n t) ≡ blank 360
+  keeps-room : unfinished (roomsKept n t) ≡ blank roomSize
   unfolding roomsKept
-  keeps-room = unfinished-put (blank 360) _ stored-long (blank-length 360)
+  keeps-room = unfinished-put (blank roomSize) _ stored-long (blank-length roomSize)
 
   keeps-stored : stored (roomsKept n t) ≡ keptRoom n (unfinished t)
   unfolding roomsKept
-  keeps-stored = unfinished-stored (blank 360) _ stored-long (blank-length 360) ∙ stored-put (keptRoom n (unfinished t)) t l kept-room
+  keeps-stored = unfinished-stored (blank roomSize) _ stored-long (blank-length roomSize) ∙ stored-put (keptRoom n (unfinished t)) t l kept-room
 
 -- c packets and one more
 packets : (c : ℕ) (b : List ℕ) → (c + 1) * length b ≡ c * length b + length b
 packets c b = add-mul c 1 (length b) ∙ ap (λ (k : ℕ). c * length b + k) (one-mul (length b))
 
-within : (c : ℕ) (b : List ℕ) → c ≤ 3 → length b ≤ 90 → (c + 1) * length b ≤ 360
+within : (c : ℕ) (b : List ℕ) → c ≤ 3 → length b ≤ 90 → (c + 1) * length b ≤ roomSize
 within c b h lb = omega (arith, packets c b, mul-le-mul-right (length b) h)
 
-rooms-size : (mv : Move) (c : ℕ) (b x : List ℕ) → length x ≡ 736 → c ≤ 3 → length b ≤ 90 → length (roomsMoved mv c b x) ≡ 736
+rooms-size : (mv : Move) (c : ℕ) (b x : List ℕ) → length x ≡ slotSize → c ≤ 3 → length b ≤ 90 → length (roomsMoved mv c b x) ≡ slotSize
 unfolding roomsMoved
 rooms-size started c b x l h lb = joined-length c x b l h lb
 rooms-size held c b x l h lb = joined-length c x b l h lb
 rooms-size whole c b x l h lb = keeps-size ((c + 1) * length b) (slotJoined c b x) (joined-length c x b l h lb) (within c b h lb)
-rooms-size outOfStep c b x l h lb = unfinished-length (blank 360) x l (blank-length 360) ∙ l
+rooms-size outOfStep c b x l h lb = unfinished-length (blank roomSize) x l (blank-length roomSize) ∙ l
 
 movedHead-good : (mv : Move) (c : ℕ) (h : Head) → goodHead h ≡ true → c ≤ 3 → Row (needsOf h) (h .awaited) c mv → goodHead (movedHead mv h) ≡ true
 unfolding movedHead
@@ -124,10 +124,10 @@ short : (mv : Move) (c : ℕ) (b x : List ℕ) → Fits mv c b x → length b �
 short mv c b x f = omega (arith, f .block, block-le (headOf x))
 
 module _ (mv : Move) (c : ℕ) (b x : List ℕ) (f : Fits mv c b x) where
-  rooms : length (roomsMoved mv c b x) ≡ 736
+  rooms : length (roomsMoved mv c b x) ≡ slotSize
   rooms = rooms-size mv c b x (f .size) (f .place) (short mv c b x f)
 
-  pub moved-size : length (slotMoved mv c b x) ≡ 736
+  pub moved-size : length (slotMoved mv c b x) ≡ slotSize
   unfolding slotMoved
   moved-size = withHead-length (movedHead mv (headOf x)) (roomsMoved mv c b x) rooms ∙ rooms
 
@@ -166,7 +166,7 @@ module _ (mv : Move) (c : ℕ) (b x : List ℕ) (f : Fits mv c b x) where
   unfolding slotJoined
   joined-stored = unfinished-stored (placed c b (begunRoom c (unfinished x))) x (f .size) (room-length c x b (f .size) (f .place) lb)
 
-  joined-size : length (slotJoined c b x) ≡ 736
+  joined-size : length (slotJoined c b x) ≡ slotSize
   joined-size = joined-length c x b (f .size) (f .place) lb
 
 module _ (c : ℕ) (b x : List ℕ) where
@@ -188,7 +188,7 @@ module _ (c : ℕ) (b x : List ℕ) where
   unfolding roomsMoved
   held-stored f = moved-stored held c b x f ∙ joined-stored held c b x f
 
-  pub whole-room : Fits whole c b x → unfinished (slotMoved whole c b x) ≡ blank 360
+  pub whole-room : Fits whole c b x → unfinished (slotMoved whole c b x) ≡ blank roomSize
   unfolding roomsMoved
   whole-room f =
       moved-unfinished whole c b x f
@@ -211,22 +211,22 @@ module _ (c : ℕ) (b x : List ℕ) where
 
 -- ---- a drop
 
-module _ (x : List ℕ) (l : length x ≡ 736) (g : goodHead (headOf x) ≡ true) where
-  emptied : length (withUnfinished (blank 360) x) ≡ 736
-  emptied = unfinished-length (blank 360) x l (blank-length 360) ∙ l
+module _ (x : List ℕ) (l : length x ≡ slotSize) (g : goodHead (headOf x) ≡ true) where
+  emptied : length (withUnfinished (blank roomSize) x) ≡ slotSize
+  emptied = unfinished-length (blank roomSize) x l (blank-length roomSize) ∙ l
 
-  pub dropped-size : length (slotDropped x) ≡ 736
+  pub dropped-size : length (slotDropped x) ≡ slotSize
   unfolding slotDropped
-  dropped-size = withHead-length (droppedHead (headOf x)) (withUnfinished (blank 360) x) emptied ∙ emptied
+  dropped-size = withHead-length (droppedHead (headOf x)) (withUnfinished (blank roomSize) x) emptied ∙ emptied
 
   pub dropped-head : headOf (slotDropped x) ≡ droppedHead (headOf x)
   unfolding slotDropped
-  dropped-head = good-load (droppedHead (headOf x)) (good-dropped (headOf x) g) (withUnfinished (blank 360) x) emptied
+  dropped-head = good-load (droppedHead (headOf x)) (good-dropped (headOf x) g) (withUnfinished (blank roomSize) x) emptied
 
-  pub dropped-room : unfinished (slotDropped x) ≡ blank 360
+  pub dropped-room : unfinished (slotDropped x) ≡ blank roomSize
   unfolding slotDropped
-  dropped-room = store-unfinished (droppedHead (headOf x)) (withUnfinished (blank 360) x) emptied ∙ unfinished-put (blank 360) x l (blank-length 360)
+  dropped-room = store-unfinished (droppedHead (headOf x)) (withUnfinished (blank roomSize) x) emptied ∙ unfinished-put (blank roomSize) x l (blank-length roomSize)
 
   pub dropped-stored : stored (slotDropped x) ≡ stored x
   unfolding slotDropped
-  dropped-stored = store-stored (droppedHead (headOf x)) (withUnfinished (blank 360) x) emptied ∙ unfinished-stored (blank 360) x l (blank-length 360)
+  dropped-stored = store-stored (droppedHead (headOf x)) (withUnfinished (blank roomSize) x) emptied ∙ unfinished-stored (blank roomSize) x l (blank-length roomSize)

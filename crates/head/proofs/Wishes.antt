@@ -2,6 +2,7 @@
 --
 --   outside          the tests of a bound, as the code makes them
 --   wish-22, wish-23, wish-24, wish-0      what is answered, row by row
+--   wish-passes                            a good wish is not refused
 --   rows-refused, rows-rest                rows with others behind them, by what the first are answered
 --   wish-refused, wish-rest                so for the wish's rows
 --   wish-passed                            where nothing is refused, the wish is good, nor is anything refused by the rest
@@ -19,6 +20,7 @@ use Rattle.bits.specs.Rows.{Row, row, refusal}
 use Rattle.bits.proofs.Rows.{refusal-hit, refusal-miss, refusal-none, refusal-passed}
 use Rattle.head.specs.Head.{within, goodWish, wishRows, wishAnswer}
 use Rattle.head.specs.declared.Wish.{Wish}
+use Rattle.head.proofs.Bounds.{wish-bounds}
 
 pub outside : (least most a : ℕ) → (ltb a least || ltb most a) ≡ not (within least most a)
 outside least most a = go (decLt a least) (decLt most a)
@@ -63,6 +65,15 @@ module _ (w : Wish) where
       pub wish-0 : (ltb (w .limit) 1 || ltb 1500 (w .limit)) ≡ false → 0 ≡ wishAnswer w
       wish-0 t =
           sym (past23 ∙ refusal-miss (not (within 1 1500 (w .limit))) 24 [] (sym (outside 1 1500 (w .limit)) ∙ t) ∙ refusal-none)
+
+inside : (least most a : ℕ) → least ≤ a → a ≤ most → (ltb a least || ltb most a) ≡ false
+inside least most a p q = ap₂ _||_ (le-ltb a least p) (le-ltb most a q)
+
+pub wish-passes : (w : Wish) → goodWish w ≡ true → wishAnswer w ≡ 0
+wish-passes w e =
+    let b = wish-bounds w e in
+    sym (wish-0 w (inside 1 1022 (w .address) (b .address-from) (b .address-to)) (b .protection-to)
+    (inside 1 1500 (w .limit) (b .limit-from) (b .limit-to)))
 
 -- ---- with others behind them
 

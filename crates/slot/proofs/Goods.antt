@@ -22,7 +22,7 @@ use Rattle.runs.proofs.Parts.{blank-at}
 use Rattle.head.specs.Head.{freeHead, goodWish, goodHead}
 use Rattle.head.specs.declared.Head.{Head}
 use Rattle.head.proofs.Bounds.{wish-bounds, good-bounds}
-use Rattle.slot.specs.Slot.{slotSize, headOf, withHead, free, goodSlot}
+use Rattle.slot.specs.Slot.{headAt, slotSize, headOf, withHead, free, goodSlot}
 use Rattle.slot.proofs.Heads.{load-store, withHead-below}
 
 pub free-blank : (s : List ℕ) → free s ≡ true → s ≡ blank (length s)
@@ -42,11 +42,11 @@ head-blank n =
     let z : (k : ℕ) → getD (blank n) k 0 ≡ 0 = blank-at n in
     let q : (k : ℕ) → fourAt k (blank n) ≡ 0 = λ k. omega (arith, z k, z (k + 1), z (k + 2), z (k + 3)) in
     λ i. record {
-      wish = record { address = q 720 i; limit = q 724 i; protection = z 732 i };
-      age = q 728 i;
-      awaited = z 733 i;
-      group = z 734 i;
-      gap = z 735 i;
+      wish = record { address = q headAt i; limit = q (headAt + 4) i; protection = z (headAt + 12) i };
+      age = q (headAt + 8) i;
+      awaited = z (headAt + 13) i;
+      group = z (headAt + 14) i;
+      gap = z (headAt + 15) i;
     }
 
 pub good-free : (n : ℕ) → goodSlot (blank n) ≡ true

@@ -1,6 +1,7 @@
--- The head's sixteen bytes in a slot. `Below 256 s` says that each of s is a byte.
+-- The head's bytes in a slot. `Below 256 s` says that each of s is a byte.
 --
---   head-same, headBytes-*     the head's sixteen bytes
+--   head-same, headBytes-*     the head's bytes
+--   singles                    those that are no part of a longer number
 --   load-store, store-load     loading undoes storing, and storing loading
 --   store-*, withHead-*        a store keeps the rooms and the length, and undoes an earlier one; it stores bytes
 --
@@ -22,7 +23,11 @@ use Rattle.head.specs.declared.Head.{Head}
 mod-small : (n : ℕ) → n < 256 → n % 256 ≡ n
 mod-small n h = omega arith
 
--- sixteen bytes as a head
+-- what stands in a byte each, behind the three numbers
+abbrev pub singles : Head → List ℕ
+singles h = h .wish .protection % 256 ∷ h .awaited ∷ h .group ∷ h .gap ∷ []
+
+-- the head's bytes as a head
 abbrev read : List ℕ → Head
 read b = record {
   wish = record { address = fourAt 0 b; limit = fourAt 4 b; protection = getD b 12 0 };
@@ -37,17 +42,17 @@ unfolding headOf
 head-read s =
     λ i. record {
       wish = record {
-        address = fourAt-part 720 0 16 s (lit≤ tt) i;
-        limit = fourAt-part 720 4 16 s (lit≤ tt) i;
+        address = fourAt-part headAt 0 headSize s (lit≤ tt) i;
+        limit = fourAt-part headAt 4 headSize s (lit≤ tt) i;
         protection = sym (getD-part headAt headSize 12 s (lit< tt)) i;
       };
-      age = fourAt-part 720 8 16 s (lit≤ tt) i;
+      age = fourAt-part headAt 8 headSize s (lit≤ tt) i;
       awaited = sym (getD-part headAt headSize 13 s (lit< tt)) i;
       group = sym (getD-part headAt headSize 14 s (lit< tt)) i;
       gap = sym (getD-part headAt headSize 15 s (lit< tt)) i;
     }
 
--- the sixteen bytes alone say what the head is
+-- these bytes alone say what the head is
 pub head-same : (s t : List ℕ) → part headAt headSize s ≡ part headAt headSize t → headOf s ≡ headOf t
 head-same s t e = head-read s ∙ ap read e ∙ sym (head-read t)
 
@@ -72,20 +77,30 @@ load-store h s l ha hl hp hg =
       gap = h .gap;
     })
 
+-- the bytes from a place on, one by one
+abbrev bytesAt : ℕ → ℕ → List ℕ → List ℕ
+bytesAt at zero s = []
+bytesAt at (suc n) s = getD s at 0 ∷ bytesAt (at + 1) n s
+
+bytes-part : (at n : ℕ) (s : List ℕ) → at + n ≤ length s → bytesAt at n s ≡ part at n s
+unfolding part
+bytes-part at zero s h = refl
+bytes-part at (suc n) s h =
+    ap (λ (x : List ℕ). getD s at 0 ∷ x) (bytes-part (at + 1) n s (omega arith)) ∙ sym (part-cons at n s (omega arith))
+
 pub headBytes-part : (s : List ℕ) → length s ≡ slotSize → Below 256 s → headBytes (headOf s) ≡ part headAt headSize s
 unfolding headBytes headOf part
 headBytes-part s l h =
-    let small : getD s 732 0 % 256 ∷ getD s 733 0 ∷ getD s 734 0 ∷ getD s 735 0 ∷ [] ≡ part 732 4 s =
-    ap (λ (x : ℕ). x ∷ getD s 733 0 ∷ getD s 734 0 ∷ getD s 735 0 ∷ []) (mod-small (getD s 732 0) (h 732))
-    ∙ sym (part-cons 732 3 s (omega arith)
-    ∙ ap (λ (x : List ℕ). getD s 732 0 ∷ x) (part-cons 733 2 s (omega arith)
-    ∙ ap (λ (x : List ℕ). getD s 733 0 ∷ x) (part-cons 734 1 s (omega arith)
-    ∙ ap (λ (x : List ℕ). getD s 734 0 ∷ x) (part-cons 735 0 s (omega arith))))) in
-    ap₂ _++_ (four-fourAt 720 s (omega arith) h)
-    (ap₂ _++_ (four-fourAt 724 s (omega arith) h)
-    (ap₂ _++_ (four-fourAt 728 s (omega arith) h) small ∙ sym (part-cat 728 4 4 s))
-    ∙ sym (part-cat 724 4 8 s))
-    ∙ sym (part-cat 720 4 12 s)
+    let n = length (singles (headOf s)) in
+    let byte : (k : ℕ) → getD s k 0 % 256 ≡ getD s k 0 = λ k. mod-small (getD s k 0) (h k) in
+    let small : singles (headOf s) ≡ part (headAt + 12) n s =
+    (λ i. byte (headAt + 12) i ∷ getD s (headAt + 13) 0 ∷ getD s (headAt + 14) 0 ∷ getD s (headAt + 15) 0 ∷ [])
+    ∙ bytes-part (headAt + 12) n s (omega arith) in
+    ap₂ _++_ (four-fourAt headAt s (omega arith) h)
+    (ap₂ _++_ (four-fourAt (headAt + 4) s (omega arith) h)
+    (ap₂ _++_ (four-fourAt (headAt + 8) s (omega arith) h) small ∙ sym (part-cat (headAt + 8) 4 n s))
+    ∙ sym (part-cat (headAt + 4) 4 (4 + n) s))
+    ∙ sym (part-cat headAt 4 (8 + n) s)
 
 pub store-load : (s : List ℕ) → length s ≡ slotSize → Below 256 s → withHead (headOf s) s ≡ s
 unfolding withHead
@@ -116,7 +131,7 @@ module _ (h : Head) (ha : h .awaited < 256) (hg : h .group < 256) (hm : h .gap <
       (below-cat (four (h .wish .limit)) _ (four-below (h .wish .limit))
       (below-cat (four (h .age)) _ (four-below (h .age)) last))
     where
-      last : Below 256 (h .wish .protection % 256 ∷ h .awaited ∷ h .group ∷ h .gap ∷ [])
+      last : Below 256 (singles h)
       last zero = omega arith
       last (suc zero) = ha
       last (suc (suc zero)) = hg

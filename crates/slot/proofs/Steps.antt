@@ -1,6 +1,6 @@
 -- What the code's steps come to: stores in a row, and the fold of all bytes.
 --
---   head-stores                    three numbers and four bytes stored in a row are the head's bytes
+--   head-stores                    three numbers and single bytes stored in a row are the head's bytes
 --   fold-next, fold-end            the bytes folded so far and the bytes left say whether all are 0
 --
 -- Assumes nothing.
@@ -13,32 +13,34 @@ use native.Mathlib.Numerals.{add-one}
 use lib.Bits.{bitAnd, bitOr, and-mask, or-zero-l}
 use lib.Dec.{eqb, ltb, eqb·suc-zero, lit≤}
 use lib.ListN.{length, drop, getD, set, drop-of-length-le}
-use lib.Seq.{drop-cons}
+use lib.Seq.{drop-cons, sets}
 use borrow.Author.Tests.{ne-eqb}
 use Rattle.bits.proofs.Flips.{or-none}
 use Rattle.bits.proofs.Runs.{Below, or-above}
 use Rattle.runs.specs.Part.{put}
 use Rattle.runs.specs.Numbers.{four, fourAt}
-use Rattle.slot.specs.Slot.{slotSize, headBytes, withHead, free}
+use Rattle.slot.specs.Slot.{headAt, slotSize, headBytes, withHead, free}
 use Rattle.head.specs.Head.{agedHead}
 use Rattle.head.specs.declared.Head.{Head}
-use Rattle.runs.proofs.Parts.{put-length, put-next}
-use Rattle.runs.proofs.Numbers.{four-sets}
+use Rattle.runs.proofs.Parts.{put-length, put-next, sets-put}
+use Rattle.slot.proofs.Heads.{singles}
 
 pub head-stores : (h : Head) (s t u v : List ℕ) → length s ≡ slotSize
-    → t ≡ put 720 4 (four (h .wish .address)) s → u ≡ put 724 4 (four (h .wish .limit)) t → v ≡ put 728 4 (four (h .age)) u
-    → set (set (set (set v 732 (h .wish .protection % 256)) 733 (h .awaited)) 734 (h .group)) 735 (h .gap) ≡ withHead h s
+    → t ≡ put headAt 4 (four (h .wish .address)) s → u ≡ put (headAt + 4) 4 (four (h .wish .limit)) t
+    → v ≡ put (headAt + 8) 4 (four (h .age)) u → sets v (headAt + 12) (singles h) ≡ withHead h s
 unfolding withHead headBytes four
 head-stores h s t u v l et eu ev =
     let a = four (h .wish .address) in
     let b = four (h .wish .limit) in
     let c = four (h .age) in
-    let d : List ℕ = h .wish .protection % 256 ∷ h .awaited ∷ h .group ∷ h .gap ∷ [] in
-    let two : u ≡ put 720 8 (a ++ b) s = eu ∙ ap (put 724 4 b) et ∙ put-next 720 4 a s 4 b (omega arith) refl in
-    let three : v ≡ put 720 12 ((a ++ b) ++ c) s = ev ∙ ap (put 728 4 c) two ∙ put-next 720 8 (a ++ b) s 4 c (omega arith) refl in
-    let long : length v ≡ slotSize = ap length three ∙ put-length 720 12 ((a ++ b) ++ c) s (omega arith) refl ∙ l in
-    four-sets 732 (h .wish .protection % 256) (h .awaited) (h .group) (h .gap) v (omega arith)
-    ∙ ap (put 732 4 d) three ∙ put-next 720 12 ((a ++ b) ++ c) s 4 d (omega arith) refl
+    let d = singles h in
+    let n = length d in
+    let two : u ≡ put headAt 8 (a ++ b) s = eu ∙ ap (put (headAt + 4) 4 b) et ∙ put-next headAt 4 a s 4 b (omega arith) refl in
+    let three : v ≡ put headAt 12 ((a ++ b) ++ c) s =
+    ev ∙ ap (put (headAt + 8) 4 c) two ∙ put-next headAt 8 (a ++ b) s 4 c (omega arith) refl in
+    let long : length v ≡ slotSize = ap length three ∙ put-length headAt 12 ((a ++ b) ++ c) s (omega arith) refl ∙ l in
+    sets-put (headAt + 12) d v (omega arith)
+    ∙ ap (put (headAt + 12) n d) three ∙ put-next headAt 12 ((a ++ b) ++ c) s n d (omega arith) refl
 
 or-tests : (a b : ℕ) → eqb (bitOr a b) 0 ≡ (eqb a 0 && eqb b 0)
 or-tests zero b = ap (λ (x : ℕ). eqb x 0) (or-zero-l b)

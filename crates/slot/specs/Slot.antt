@@ -29,16 +29,16 @@ abbrev pub roomSize : ℕ
 roomSize = 360
 
 abbrev pub wholeAt : ℕ
-wholeAt = 360
+wholeAt = roomSize
 
 abbrev pub headAt : ℕ
-headAt = 720
+headAt = wholeAt + roomSize
 
 abbrev pub headSize : ℕ
 headSize = 16
 
 abbrev pub slotSize : ℕ
-slotSize = 736
+slotSize = headAt + headSize
 
 unfoldable pub headOf : List ℕ → Head
 headOf s = record {

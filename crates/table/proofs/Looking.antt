@@ -22,7 +22,7 @@ use Rattle.bits.specs.Rows.{Row, row, refusal}
 use Rattle.bits.specs.Search.{first, all}
 use Rattle.bits.proofs.Rows.{refusal-hit, refusal-miss, refusal-passed, refusal-none}
 use Rattle.runs.specs.Part.{part}
-use Rattle.slot.specs.Slot.{headOf, free, goodSlot}
+use Rattle.slot.specs.Slot.{slotSize, headOf, free, goodSlot}
 use Rattle.head.specs.Head.{within, wishRows, wishAnswer}
 use Rattle.head.specs.declared.Wish.{Wish}
 use Rattle.head.proofs.Wishes.{outside, wish-refused, wish-rest}
@@ -31,11 +31,11 @@ use Rattle.table.specs.State.{slots, stateSize, slotAt, addressAt, find,
 use Rattle.table.specs.Calls.{stateRows, endAnswer, followAnswer, leaveAnswer}
 use Rattle.table.proofs.States.{free-address, used-address, has}
 
-pub slot-part : (k : ℕ) (s : List ℕ) → take (k * 736 + 736 - k * 736) (drop (k * 736) s) ≡ slotAt k s
+pub slot-part : (k : ℕ) (s : List ℕ) → take (k * slotSize + slotSize - k * slotSize) (drop (k * slotSize) s) ≡ slotAt k s
 unfolding slotAt part
-slot-part k s = ap (λ (n : ℕ). take n (drop (k * 736) s)) count
+slot-part k s = ap (λ (n : ℕ). take n (drop (k * slotSize) s)) count
   where
-    count : k * 736 + 736 - k * 736 ≡ 736
+    count : k * slotSize + slotSize - k * slotSize ≡ slotSize
     count = omega arith
 
 -- ---- the search

@@ -12,7 +12,7 @@
 use mathlib.Core.Path.{_≡_, refl, sym, ap, ap₂, _∙_, subst}
 use mathlib.Core.Bool.{Bool, true, false, _&&_, _||_}
 use mathlib.Core.List.{List, [], _∷_}
-use Prim.Native.Nat.{ℕ, zero, suc, _*_, _≤_, _<_}
+use Prim.Native.Nat.{ℕ, zero, suc, _+_, _*_, _≤_, _<_}
 use native.Mathlib.Omega.{arith}
 use native.Mathlib.Decide.{decLt, ℕ-discrete}
 use borrow.Author.Tests.{eq-eqb, ne-eqb, eqb-true, leb-true}
@@ -22,7 +22,7 @@ use lib.Seq.{length-take-le}
 use Rattle.bits.specs.Search.{first}
 use Rattle.bits.proofs.Search.{first-le, first-holds, first-only, first-agree, first-least, all-at, all-each, and-left, and-right, or-right}
 use Rattle.runs.specs.Part.{part, put}
-use Rattle.slot.specs.Slot.{slotSize, headOf, free, goodSlot}
+use Rattle.slot.specs.Slot.{headAt, slotSize, headOf, free, goodSlot}
 use Rattle.runs.specs.Numbers.{fourAt}
 use Rattle.head.specs.Head.{within, goodHead}
 use Rattle.runs.proofs.Parts.{put-length, part-put, part-put-before, part-put-after}
@@ -124,7 +124,7 @@ free-byte (b ∷ s) e (suc k) = free-byte s (and-right (eqb b 0) (free s) e) k
 
 pub free-address : (s : List ℕ) → free s ≡ true → headOf s .wish .address ≡ 0
 unfolding headOf fourAt
-free-address s e = omega (arith, free-byte s e 720, free-byte s e 721, free-byte s e 722, free-byte s e 723)
+free-address s e = omega (arith, free-byte s e headAt, free-byte s e (headAt + 1), free-byte s e (headAt + 2), free-byte s e (headAt + 3))
 
 pub used-address : (s : List ℕ) → goodSlot s ≡ true → free s ≡ false → 0 < headOf s .wish .address
 unfolding goodSlot

@@ -12,12 +12,12 @@
 --
 -- Assumes nothing.
 use mathlib.Core.Path.{_≡_, refl, sym, ap, ap₂, _∙_, subst}
-use mathlib.Core.Bool.{Bool, true, false, cond, _||_}
+use mathlib.Core.Bool.{Bool, true, false, cond, _&&_, _||_}
 use mathlib.Core.List.{List, [], _∷_}
 use Prim.Native.Nat.{ℕ, zero, suc, _≤_, _<_, _+_, _-_}
 use native.Mathlib.Omega.{arith}
 use native.Mathlib.Decide.{ℕ-discrete, decLt}
-use borrow.Author.Tests.{eq-eqb, ne-eqb, lt-ltb, le-ltb}
+use borrow.Author.Tests.{eq-eqb, ne-eqb, lt-ltb, le-ltb, le-leb}
 use lib.Dec.{T, leb, ltb, eqb, leb→le, eqb→eq, lit<, lit≤}
 use lib.ListN.{length}
 use Rattle.bits.specs.Bits.{blank}
@@ -27,10 +27,10 @@ use Rattle.bits.proofs.Every.{both, both-left, both-right, every, every-at}
 use Rattle.bits.proofs.Storing.{blank-length}
 use Rattle.runs.specs.Part.{part}
 use Rattle.runs.specs.Numbers.{fourAt}
-use Rattle.slot.specs.Slot.{headOf, free, goodSlot}
+use Rattle.slot.specs.Slot.{slotSize, headOf, free, goodSlot}
 use Rattle.head.specs.Head.{goodHead, wishOf, goodWish, wishAnswer}
 use Rattle.head.specs.declared.Wish.{Wish}
-use Rattle.head.proofs.Wishes.{wish-0}
+use Rattle.head.proofs.Wishes.{wish-passes}
 use Rattle.table.specs.State.{slots, stateSize, startedState, slotAt, good}
 use Rattle.table.specs.Calls.{startAnswer, followAnswer, followAfter, leaveAnswer, leaveAfter, endAnswer}
 use Rattle.table.proofs.Doing.{start-refused, start-passed}
@@ -73,11 +73,11 @@ spoiled = 1 ∷ blank (stateSize - 1)
 pub spoiled-length : length spoiled ≡ stateSize
 spoiled-length = ap suc (blank-length (stateSize - 1))
 
-spoiled-slot : slotAt 0 spoiled ≡ 1 ∷ blank 735
+spoiled-slot : slotAt 0 spoiled ≡ 1 ∷ blank (slotSize - 1)
 unfolding slotAt part
-spoiled-slot = ap (λ (x : List ℕ). 1 ∷ x) (part-blank 0 735 (stateSize - 1) (lit≤ tt))
+spoiled-slot = ap (λ (x : List ℕ). 1 ∷ x) (part-blank 0 (slotSize - 1) (stateSize - 1) (lit≤ tt))
 
-spoiled-bad : goodSlot (1 ∷ blank 735) ≡ false
+spoiled-bad : goodSlot (1 ∷ blank (slotSize - 1)) ≡ false
 unfolding goodSlot free goodHead headOf fourAt blank goodWish
 spoiled-bad = refl
 
@@ -230,17 +230,18 @@ first-more n k = go (ℕ-discrete k n) (decLt k n)
         ∙ sym (ap (λ (b : Bool). cond b (suc k) 0) (le-ltb k (suc n) (omega (arith, e, l))))
 
 pub filled-accepted : (n : ℕ) → n < slots → Shows (followedTo n) (first-of n) → followAnswer (followedTo n) (wishOf (suc n) 1 2) ≡ 0
+unfolding goodWish
 filled-accepted n h v =
     let t = filled-next n h in
     let a = leb slots (place (first-of n) (suc n)) in
     let b = eqb (place (first-of n) 0) n in
     let at : place (first-of n) 0 ≡ n = eqb→eq (place (first-of n) 0) n (both-right a b t) in
     accepted (followedTo n) (first-of n) v (wishOf (suc n) 1 2)
-    (sym (wish-0 (wishOf (suc n) 1 2) (inside n h) (lit≤ tt) refl))
+    (wish-passes (wishOf (suc n) 1 2) (good n h))
     (leb→le slots (place (first-of n) (suc n)) (both-left a b t)) (subst (λ (i : ℕ). i < slots) (sym at) h)
   where
-    inside : (n : ℕ) → n < slots → (ltb (suc n) 1 || ltb 1022 (suc n)) ≡ false
-    inside n h = ap₂ (λ (x y : Bool). x || y) (le-ltb (suc n) 1 (omega arith)) (le-ltb 1022 (suc n) (omega arith))
+    good : (n : ℕ) → n < slots → goodWish (wishOf (suc n) 1 2) ≡ true
+    good n h = ap₂ (λ (x y : Bool). (x && y) && true) (le-leb 1 (suc n) (omega arith)) (le-leb (suc n) 1022 (omega arith))
 
 pub filled-shows : (n : ℕ) → n ≤ slots → Shows (followedTo n) (first-of n)
 unfolding followedTo

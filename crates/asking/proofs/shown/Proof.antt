@@ -4,6 +4,7 @@ use mathlib.Core.Path.{_≡_, sym, _∙_}
 use mathlib.Core.Logic.{⊎-elim}
 use Prim.Native.Nat.{_+_, _*_}
 use Rattle.asking.specs.Asking.{groupLength}
+use Rattle.slot.specs.Slot.{slotSize}
 use Rattle.asking.proofs.Laws.{asked-none, asked-group, length-180, length-360}
 use borrow.Author.Needs.{needs}
 use Rattle.asking.proofs.shown.Statement.{statement}
@@ -25,7 +26,7 @@ returns-2 : tie.Need-returns-2
 returns-2 c = let h = c .before .before .before .before .before .args .head in
     let size : c .before .if2 .len ≡ groupLength h =
     ⊎-elim (λ w. w .1 ∙ sym (length-180 h (w .0 .taken))) (λ w. w .1 ∙ sym (length-360 h (w .0 .left))) (c .before .if2 .came) in
-    (λ i. record { number = c .freshness .ensures (c .before .before .before .if1 .left) i; at = c .before .before .before .before .before .args .k * 736 + 360; len = size i })
+    (λ i. record { number = c .freshness .ensures (c .before .before .before .if1 .left) i; at = c .before .before .before .before .before .args .k * slotSize + 360; len = size i })
     ∙ sym (asked-group h (c .before .before .before .if1 .left) (c .before .before .before .before .before .args .k))
 
 pub shown-spec : {M : Type 1} → statement M

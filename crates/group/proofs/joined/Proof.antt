@@ -5,6 +5,7 @@ use mathlib.Core.Logic.{inl, inr, ⊎-elim}
 use Prim.Native.Nat.{_+_, _*_, _≤_}
 use native.Mathlib.Omega.{arith}
 use lib.ListN.{length}
+use Rattle.slot.specs.Slot.{roomSize, slotSize}
 use Rattle.group.proofs.Doing.{Begun, begun-long, place-ends, joined-does}
 use borrow.Author.Needs.{needs}
 use Rattle.group.proofs.joined.Statement.{statement}
@@ -16,10 +17,10 @@ start c = c .before .before .before
 begun : (c : tie.Joined1) → Begun (start c .args .place) (start c .args .slot .now) (c .if1 .slot)
 begun c = ⊎-elim (λ w. inl (w .0 .taken, w .5 ∙ w .2 .ensures)) (λ w. inr (w .0 .left, w .1)) (c .if1 .came)
 
-long : (c : tie.Joined1) → length (c .if1 .slot) ≡ 736
+long : (c : tie.Joined1) → length (c .if1 .slot) ≡ slotSize
 long c = begun-long (start c .args .place) (start c .args .slot .now) (c .if1 .slot) (start c .pre .0) (begun c)
 
-ends : (c : tie.Joined1) → start c .args .place * length (start c .args .bytes .now) + length (start c .args .bytes .now) ≤ 360
+ends : (c : tie.Joined1) → start c .args .place * length (start c .args .bytes .now) + length (start c .args .bytes .now) ≤ roomSize
 ends c = place-ends (start c .args .place) (start c .args .slot .now) (start c .args .bytes .now) (start c .pre .0) (start c .pre .1 .0) (start c .pre .1 .1)
 
 empty-requires : tie.Need-empty-requires

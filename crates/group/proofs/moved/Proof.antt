@@ -8,6 +8,7 @@ use lib.ListN.{length}
 use Rattle.head.specs.Move.{started, held, whole, outOfStep, needsOf, moveOf, placeAt}
 use Rattle.head.proofs.Moves.{row-whole, row-started, row-held, row-out, per-bounds, place-below}
 use Rattle.group.specs.Group.{slotJoined}
+use Rattle.slot.specs.Slot.{roomSize}
 use Rattle.group.proofs.Doing.{out-test, at-test, row-does, start-does, held-does, whole-does, numbers, out-drops}
 use borrow.Author.Needs.{needs}
 use Rattle.group.proofs.moved.Statement.{statement}
@@ -107,7 +108,7 @@ whole-requires : tie.Need-whole-requires
 whole-requires c κs =
     let d = c .before .before .before in
     let k = known d in
-    let within : (found k + 1) * length (start k .args .bytes .now) ≤ 360 = omega (arith, ends d, start k .pre .1 .1) in
+    let within : (found k + 1) * length (start k .args .bytes .now) ≤ roomSize = omega (arith, ends d, start k .pre .1 .1) in
     search needs
 
 same-length-2 : tie.Need-same-length-2

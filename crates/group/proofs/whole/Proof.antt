@@ -1,7 +1,7 @@
 -- `group::whole` meets its contract: the room kept and cleared, then the head. Assumes nothing.
 use mathlib.Core.Path.{ap, ap₂, _∙_}
 use Rattle.bits.specs.Bits.{blank}
-use Rattle.slot.specs.Slot.{withHead, withUnfinished}
+use Rattle.slot.specs.Slot.{roomSize, withHead, withUnfinished}
 use Rattle.group.specs.Group.{roomsKept}
 use borrow.Author.Needs.{needs}
 use Rattle.group.proofs.whole.Statement.{statement}
@@ -30,7 +30,7 @@ returns c =
     let emptied = changed .before .before .before in
     let keeps = emptied .before .before .before .before in
     stored .store .ensures
-    ∙ ap₂ withHead (changed .whole .ensures) (emptied .empty .ensures ∙ ap (withUnfinished (blank 360)) (keeps .keep .ensures))
+    ∙ ap₂ withHead (changed .whole .ensures) (emptied .empty .ensures ∙ ap (withUnfinished (blank roomSize)) (keeps .keep .ensures))
 
 pub whole-spec : {M : Type 1} → statement M
 whole-spec =

@@ -1,7 +1,8 @@
 -- `slot::Slot::load` meets its contract: each field is read where the definition has it. Assumes nothing.
+use Prim.Native.Nat.{_+_}
 use native.Mathlib.Omega.{arith}
 use borrow.Author.Needs.{needs}
-use Rattle.slot.specs.Slot.{headOf}
+use Rattle.slot.specs.Slot.{headAt, headOf}
 use Rattle.slot.proofs.Slot.load.Statement.{statement}
 use Rattle.slot.proofs.Slot.load.Tie as tie
 
@@ -21,7 +22,7 @@ shared-slice-read-t8 : tie.Need-shared-slice-read-t8
 shared-slice-read-t8 c = search needs
 
 cast-t9 : tie.Need-cast-t9
-cast-t9 c = omega (arith, c .shared-slice-known2 .given 732)
+cast-t9 c = omega (arith, c .shared-slice-known2 .given (headAt + 12))
 
 add-four-at-2 : tie.Need-add-four-at-2
 add-four-at-2 c = search needs

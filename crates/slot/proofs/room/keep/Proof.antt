@@ -6,18 +6,19 @@ use lib.ListN.{length, set, length-set}
 use lib.Seq.{paste, paste-zero}
 use borrow.Author.Needs.{needs}
 use Rattle.bits.proofs.Storing.{copied}
+use Rattle.slot.specs.Slot.{wholeAt}
 use Rattle.slot.proofs.Rooms.{keep-read, keep-lent}
 use Rattle.slot.proofs.room.keep.Statement.{statement}
 use Rattle.slot.proofs.room.keep.Tie as tie
 
 abbrev Inv-loop : tie.InvT-loop
-Inv-loop slot₀ len k₀ slot k = (k ≤ len) × (length slot ≡ length slot₀) × (slot ≡ paste slot₀ 360 slot₀ k)
+Inv-loop slot₀ len k₀ slot k = (k ≤ len) × (length slot ≡ length slot₀) × (slot ≡ paste slot₀ wholeAt slot₀ k)
 
 abbrev μ-loop : tie.MeasureT-loop
 μ-loop slot₀ len k₀ slot k = len - k
 
 loop-holds : tie.Need-loop-holds Inv-loop μ-loop
-loop-holds c = (omega arith, refl, paste-zero (c .before .args .slot .now) 360 (c .before .args .slot .now))
+loop-holds c = (omega arith, refl, paste-zero (c .before .args .slot .now) wholeAt (c .before .args .slot .now))
 
 add-slot : tie.Need-add-slot Inv-loop μ-loop
 add-slot c = omega arith
@@ -38,7 +39,7 @@ loop-less : tie.Need-loop-less Inv-loop μ-loop
 loop-less c = omega arith
 
 loop-again : tie.Need-loop-again Inv-loop μ-loop
-loop-again c = (omega arith, simp length-set (omega arith), ap (λ (x : ℕ). set (c .before .before .loop .slot) (360 + c .before .before .loop .k) x) (keep-read (c .before .before .before .before .args .slot .now) (c .before .before .loop .slot) (c .before .before .loop .k) (c .before .before .loop .inv .2) (c .before .before .before .before .pre .0) (omega arith)) ∙ copied (c .before .before .before .before .args .slot .now) (c .before .before .before .before .args .slot .now) (c .before .before .loop .slot) 360 _ (c .before .before .loop .k) (c .before .before .loop .inv .2) refl (omega arith) (omega arith))
+loop-again c = (omega arith, simp length-set (omega arith), ap (λ (x : ℕ). set (c .before .before .loop .slot) (wholeAt + c .before .before .loop .k) x) (keep-read (c .before .before .before .before .args .slot .now) (c .before .before .loop .slot) (c .before .before .loop .k) (c .before .before .loop .inv .2) (c .before .before .before .before .pre .0) (omega arith)) ∙ copied (c .before .before .before .before .args .slot .now) (c .before .before .before .before .args .slot .now) (c .before .before .loop .slot) wholeAt _ (c .before .before .loop .k) (c .before .before .loop .inv .2) refl (omega arith) (omega arith))
 
 add-clear : tie.Need-add-clear Inv-loop μ-loop
 add-clear c = omega arith
