@@ -77,7 +77,7 @@ fn one(address: u32, protected: bool, message: &[u8], index: u32, output: &mut [
 }
 
 // The image of a data packet.
-fn sent(address: u32, index: u32, protected: bool, bytes: &[u8]) -> [u8; 94]
+fn sent(address: u32, index: u32, protected: bool, bytes: &[u8]) -> [u8; Packet::IMAGE]
     requires { ⌜ address < 1024 ⌝ }
     requires { ⌜ index < 4 ⌝ }
     requires { ⌜ length (now bytes) ≡ dataSize protected ⌝ }

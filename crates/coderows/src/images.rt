@@ -4,6 +4,7 @@
 //     protect = MESSAGE                           the message's first 45 bytes become the 90 that protect them
 //     received PROTECTION LENGTH = NUMBER PLACE INDEX BYTES    so many bytes of the images are lent
 use crate::codes;
+use image::Packet;
 use rows::Answer;
 use rows::Row;
 use rows::bytes::START;
@@ -12,6 +13,7 @@ use rows::bytes::digested;
 use rows::bytes::front;
 use rows::bytes::whole;
 use rows::tell;
+use words::Data;
 
 pub fn called(row: Row, images: &mut [u8], message: &mut [u8]) -> Answer {
     let v = row.values;
@@ -24,7 +26,7 @@ pub fn called(row: Row, images: &mut [u8], message: &mut [u8]) -> Answer {
 }
 
 fn image(v: [u64; 24], images: &mut [u8], message: &[u8]) -> Answer {
-    let mut useful = [0u8; 90];
+    let mut useful = [0u8; Packet::USEFUL];
     copy(message, &mut useful);
     let kind = (v[2] % Row::BYTE) as u8;
     let image = packet::written((v[0] % 1024) as u32, (v[1] % 4) as u32, kind, &useful);
@@ -33,7 +35,7 @@ fn image(v: [u64; 24], images: &mut [u8], message: &[u8]) -> Answer {
 }
 
 fn protect(message: &mut [u8]) -> Answer {
-    let mut data = [0u8; 45];
+    let mut data = [0u8; Data::BYTES];
     copy(message, &mut data);
     let useful = words::protect(&data);
     copy(&useful, message);

@@ -34,11 +34,11 @@ pub fn spare(image: &[u8]) -> u8
 
 // The type byte and the 90 useful bytes. The header ends one bit before the end of image byte 2, so each of them is the highest
 // bit of one image byte and the seven lower bits of the next; bit 751 is in none.
-pub fn bytes(image: &[u8]) -> [u8; 91]
+pub fn bytes(image: &[u8]) -> [u8; Packet::BYTES]
     requires { ⌜ length (now image) ≡ 94 ⌝ }
     ensures { λ r. ⌜ r ≡ bytesOf (now (image .entry)) ⌝ }
 {
-    let mut bytes = [0u8; 91];
+    let mut bytes = [0u8; Packet::BYTES];
     let mut j = 0;
     while j < Packet::BYTES {
         bytes[j] = image[j + 2] >> 7 | (image[j + 3] & 127) << 1;
@@ -48,7 +48,7 @@ pub fn bytes(image: &[u8]) -> [u8; 91]
 }
 
 // The image of a header and 91 bytes.
-pub fn image(header: u32, bytes: &[u8; 91]) -> [u8; 94]
+pub fn image(header: u32, bytes: &[u8; Packet::BYTES]) -> [u8; Packet::IMAGE]
     requires { ⌜ header < 2 ^ 23 ⌝ }
     ensures { λ r. ⌜ r ≡ imageOf header (now (bytes .entry)) ⌝ }
 {
@@ -57,11 +57,11 @@ pub fn image(header: u32, bytes: &[u8; 91]) -> [u8; 94]
 
 // The same of bytes by value. Of an array that is lent the checker tells neither the length nor that its elements are
 // bytes; of one that is passed it tells both.
-fn made(header: u32, bytes: [u8; 91]) -> [u8; 94]
+fn made(header: u32, bytes: [u8; Packet::BYTES]) -> [u8; Packet::IMAGE]
     requires { ⌜ header < 2 ^ 23 ⌝ }
     ensures { λ r. ⌜ r ≡ imageOf header bytes ⌝ }
 {
-    let mut out = [0u8; 94];
+    let mut out = [0u8; Packet::IMAGE];
     out[0] = (header & 255) as u8;
     out[1] = (header >> 8 & 255) as u8;
     out[2] = (header >> 16) as u8 | (bytes[0] & 1) << 7;

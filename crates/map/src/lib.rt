@@ -6,7 +6,8 @@ ghost use mathlib.Core.Path.{_≡_};
 ghost use Prim.Native.Nat.{_<_};
 ghost use lib.ListN.{length};
 ghost use Rattle.runs.specs.Part.{part, put};
-ghost use Rattle.map.specs.Map.{framesOf, withFrames, stayed, settled, changed, eachFrom, spoiledBoth, ruled};
+ghost use Rattle.structure.specs.Structure.{structureSize};
+ghost use Rattle.map.specs.Map.{ids, blockSize, mapSize, framesOf, withFrames, stayed, settled, changed, eachFrom, spoiledBoth, ruled};
 ghost use Rattle.map.specs.Calls.{startAnswer, startAfter, putIn, takenIn, takeAnswer, takeAfter, shown, listAnswer, listAfter, heard, known};
 use field::Field;
 use field::Tdms;
@@ -67,7 +68,7 @@ pub enum Rule {
 
 // The frames, at the map's end.
 fn frames_of(map: &[u8]) -> Frames
-    requires { ⌜ length (now map) ≡ 36356 ⌝ }
+    requires { ⌜ length (now map) ≡ mapSize ⌝ }
     ensures { λ r. ⌜ r ≡ framesOf (now (map .entry)) ⌝ }
 {
     Frames {
@@ -79,7 +80,7 @@ fn frames_of(map: &[u8]) -> Frames
 }
 
 fn put_frames(map: &mut [u8], frames: Frames)
-    requires { ⌜ length (now map) ≡ 36356 ⌝ }
+    requires { ⌜ length (now map) ≡ mapSize ⌝ }
     ensures { λ _. ⌜ now (map .exit) ≡ withFrames frames (now (map .entry)) ⌝ }
 {
     map[Map::FRAMES] = frames.last;
@@ -130,8 +131,8 @@ pub fn take(map: &mut [u8], field: &[u8]) -> u8
 
 // A rule for every component.
 fn each(map: &mut [u8], rule: Rule)
-    requires { ⌜ length (now map) ≡ 36356 ⌝ }
-    ensures { λ _. ⌜ now (map .exit) ≡ eachFrom 256 0 (ruled rule) (now (map .entry)) ⌝ }
+    requires { ⌜ length (now map) ≡ mapSize ⌝ }
+    ensures { λ _. ⌜ now (map .exit) ≡ eachFrom ids 0 (ruled rule) (now (map .entry)) ⌝ }
 {
     let mut id: usize = 0;
     while id < Map::IDS {
@@ -142,7 +143,7 @@ fn each(map: &mut [u8], rule: Rule)
 }
 
 fn by_rule(block: &mut [u8], rule: Rule)
-    requires { ⌜ length (now block) ≡ 142 ⌝ }
+    requires { ⌜ length (now block) ≡ blockSize ⌝ }
     ensures { λ _. ⌜ now (block .exit) ≡ ruled rule (now (block .entry)) ⌝ }
 {
     match rule {
@@ -157,7 +158,7 @@ fn by_rule(block: &mut [u8], rule: Rule)
 
 // One component at a change.
 fn change_one(block: &mut [u8], sure: bool)
-    requires { ⌜ length (now block) ≡ 142 ⌝ }
+    requires { ⌜ length (now block) ≡ blockSize ⌝ }
     ensures { λ _. ⌜ now (block .exit) ≡ changed sure (now (block .entry)) ⌝ }
 {
     let coming = Structure::load(&block[Structure::SIZE..Map::BLOCK]);
@@ -173,7 +174,7 @@ fn change_one(block: &mut [u8], sure: bool)
 
 // What was announced comes into force; what is not whole is begun anew.
 fn settle(s: &mut [u8], sure: bool)
-    requires { ⌜ length (now s) ≡ 71 ⌝ }
+    requires { ⌜ length (now s) ≡ structureSize ⌝ }
     ensures { λ _. ⌜ now (s .exit) ≡ settled sure (now (s .entry)) ⌝ }
 {
     Structure::load(s).settled(sure).store(s);
@@ -182,7 +183,7 @@ fn settle(s: &mut [u8], sure: bool)
 
 // Nothing was announced. A change that is not sure may have cut a repetition off.
 fn stay(s: &mut [u8], sure: bool)
-    requires { ⌜ length (now s) ≡ 71 ⌝ }
+    requires { ⌜ length (now s) ≡ structureSize ⌝ }
     ensures { λ _. ⌜ now (s .exit) ≡ stayed sure (now (s .entry)) ⌝ }
 {
     Structure::load(s).marked(0, 0).store(s);
@@ -193,7 +194,7 @@ fn stay(s: &mut [u8], sure: bool)
 
 // A frame was missed: nothing that is being gathered is taken for the whole.
 fn spoil_one(block: &mut [u8])
-    requires { ⌜ length (now block) ≡ 142 ⌝ }
+    requires { ⌜ length (now block) ≡ blockSize ⌝ }
     ensures { λ _. ⌜ now (block .exit) ≡ spoiledBoth (now (block .entry)) ⌝ }
 {
     structure::spoil(&mut block[0..Structure::SIZE]);
@@ -202,8 +203,8 @@ fn spoil_one(block: &mut [u8])
 
 // The announced structure's bytes take the place of those in force.
 fn copy_down(block: &mut [u8])
-    requires { ⌜ length (now block) ≡ 142 ⌝ }
-    ensures { λ _. ⌜ now (block .exit) ≡ put 0 71 (part 71 71 (now (block .entry))) (now (block .entry)) ⌝ }
+    requires { ⌜ length (now block) ≡ blockSize ⌝ }
+    ensures { λ _. ⌜ now (block .exit) ≡ put 0 structureSize (part structureSize structureSize (now (block .entry))) (now (block .entry)) ⌝ }
 {
     let mut k: usize = 0;
     while k < Structure::SIZE {
@@ -214,7 +215,7 @@ fn copy_down(block: &mut [u8])
 
 // A field into its structure.
 fn put_in(map: &mut [u8], field: Field)
-    requires { ⌜ length (now map) ≡ 36356 ⌝ }
+    requires { ⌜ length (now map) ≡ mapSize ⌝ }
     requires { ⌜ field .flag < 2 ⌝ }
     requires { ⌜ (field .id ≡ 129 → ⊥) ⌝ }
     ensures { λ _. ⌜ now (map .exit) ≡ takenIn field (now (map .entry)) ⌝ }
@@ -224,7 +225,7 @@ fn put_in(map: &mut [u8], field: Field)
 }
 
 fn put_structure(s: &mut [u8], field: Field)
-    requires { ⌜ length (now s) ≡ 71 ⌝ }
+    requires { ⌜ length (now s) ≡ structureSize ⌝ }
     ensures { λ _. ⌜ now (s .exit) ≡ putIn field (now (s .entry)) ⌝ }
 {
     if !Tdms::deletes(field.tdms) {

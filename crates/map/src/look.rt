@@ -2,7 +2,7 @@
 ghost use mathlib.Core.Path.{_≡_};
 ghost use Prim.Native.Nat.{_<_};
 ghost use lib.ListN.{length};
-ghost use Rattle.map.specs.Map.{structureAt, goodAt, good, present, components};
+ghost use Rattle.map.specs.Map.{ids, mapSize, structureAt, goodAt, good, present, components};
 ghost use Rattle.structure.specs.Structure.{headOf};
 ghost use Rattle.map.specs.Calls.{tooMany, takeAnswer, thenWhich, thenHead, unknown, foundOf, shownAt, showAnswer, markOf, heardLen, heardAt, knownAt};
 use crate::Gathered;
@@ -16,8 +16,8 @@ use structure::Structure;
 
 // The head of the structure in force (which 0) or of the announced one (which 1).
 pub fn head(map: &[u8], id: usize, which: usize) -> Structure
-    requires { ⌜ length (now map) ≡ 36356 ⌝ }
-    requires { ⌜ id < 256 ⌝ }
+    requires { ⌜ length (now map) ≡ mapSize ⌝ }
+    requires { ⌜ id < ids ⌝ }
     requires { ⌜ which < 2 ⌝ }
     ensures { λ r. ⌜ r ≡ headOf (structureAt id which (now (map .entry))) ⌝ }
 {
@@ -26,8 +26,8 @@ pub fn head(map: &[u8], id: usize, which: usize) -> Structure
 }
 
 fn good_at(map: &[u8], id: usize) -> bool
-    requires { ⌜ length (now map) ≡ 36356 ⌝ }
-    requires { ⌜ id < 256 ⌝ }
+    requires { ⌜ length (now map) ≡ mapSize ⌝ }
+    requires { ⌜ id < ids ⌝ }
     ensures { λ r. ⌜ r ≡ goodAt (now (map .entry)) id ⌝ }
 {
     let force = head(map, id, 0);
@@ -36,7 +36,7 @@ fn good_at(map: &[u8], id: usize) -> bool
 }
 
 fn is_good(map: &[u8]) -> bool
-    requires { ⌜ length (now map) ≡ 36356 ⌝ }
+    requires { ⌜ length (now map) ≡ mapSize ⌝ }
     ensures { λ r. ⌜ r ≡ good (now (map .entry)) ⌝ }
 {
     let mut all = crate::frames_of(map).good();
@@ -60,8 +60,8 @@ pub fn checked(map: &[u8]) -> u8
 
 // A component is in its set for certain, before or behind a change.
 fn present(map: &[u8], id: usize, which: usize, change: bool, sure: bool) -> bool
-    requires { ⌜ length (now map) ≡ 36356 ⌝ }
-    requires { ⌜ id < 256 ⌝ }
+    requires { ⌜ length (now map) ≡ mapSize ⌝ }
+    requires { ⌜ id < ids ⌝ }
     ensures { λ r. ⌜ r ≡ present which change sure (now (map .entry)) id ⌝ }
 {
     let coming = head(map, id, 1);
@@ -76,7 +76,7 @@ fn present(map: &[u8], id: usize, which: usize, change: bool, sure: bool) -> boo
 }
 
 fn components(map: &[u8], which: usize, change: bool, sure: bool) -> usize
-    requires { ⌜ length (now map) ≡ 36356 ⌝ }
+    requires { ⌜ length (now map) ≡ mapSize ⌝ }
     ensures { λ r. ⌜ r ≡ components which change sure (now (map .entry)) ⌝ }
 {
     let mut count: usize = 0;
@@ -91,7 +91,7 @@ fn components(map: &[u8], which: usize, change: bool, sure: bool) -> usize
 }
 
 fn too_many(map: &[u8], field: Field) -> bool
-    requires { ⌜ length (now map) ≡ 36356 ⌝ }
+    requires { ⌜ length (now map) ≡ mapSize ⌝ }
     ensures { λ r. ⌜ r ≡ tooMany (now (map .entry)) field ⌝ }
 {
     let frames = crate::frames_of(map);
@@ -133,8 +133,8 @@ struct Then {
 }
 
 fn then_at(map: &[u8], id: usize, count: u8) -> Then
-    requires { ⌜ length (now map) ≡ 36356 ⌝ }
-    requires { ⌜ id < 256 ⌝ }
+    requires { ⌜ length (now map) ≡ mapSize ⌝ }
+    requires { ⌜ id < ids ⌝ }
     ensures { λ r. ⌜ (r .which ≡ thenWhich (now (map .entry)) id count) × (r .head ≡ thenHead (now (map .entry)) id count) ⌝ }
 {
     let frames = crate::frames_of(map);
@@ -153,8 +153,8 @@ fn then_at(map: &[u8], id: usize, count: u8) -> Then
 
 // What is known of a component in the frame with a count.
 pub fn shown_at(map: &[u8], id: usize, count: u8) -> Shown
-    requires { ⌜ length (now map) ≡ 36356 ⌝ }
-    requires { ⌜ id < 256 ⌝ }
+    requires { ⌜ length (now map) ≡ mapSize ⌝ }
+    requires { ⌜ id < ids ⌝ }
     ensures { λ r. ⌜ r ≡ shownAt (now (map .entry)) id count ⌝ }
 {
     let said = head(map, id, 1).said();
@@ -164,7 +164,7 @@ pub fn shown_at(map: &[u8], id: usize, count: u8) -> Shown
 
 // The answer of a structure: its fields where it is whole, 46 where it is not.
 fn found(frames: Frames, id: usize, which: usize, head: Structure, said: bool) -> Shown
-    requires { ⌜ id < 256 ⌝ }
+    requires { ⌜ id < ids ⌝ }
     requires { ⌜ which < 2 ⌝ }
     ensures { λ r. ⌜ r ≡ foundOf frames id which head said ⌝ }
 {
@@ -220,8 +220,8 @@ pub fn mark(shown: Shown) -> u8
 
 // How many bytes of fields were heard of a structure: none, where it was spoiled.
 fn heard_len(map: &[u8], id: usize, which: usize, head: Structure) -> usize
-    requires { ⌜ length (now map) ≡ 36356 ⌝ }
-    requires { ⌜ id < 256 ⌝ }
+    requires { ⌜ length (now map) ≡ mapSize ⌝ }
+    requires { ⌜ id < ids ⌝ }
     requires { ⌜ which < 2 ⌝ }
     ensures { λ r. ⌜ r ≡ heardLen head (structureAt id which (now (map .entry))) ⌝ }
 {
@@ -235,8 +235,8 @@ fn heard_len(map: &[u8], id: usize, which: usize, head: Structure) -> usize
 
 // What was heard of a component, in the frame with a count.
 pub fn heard_at(map: &[u8], id: usize, count: u8) -> Gathered
-    requires { ⌜ length (now map) ≡ 36356 ⌝ }
-    requires { ⌜ id < 256 ⌝ }
+    requires { ⌜ length (now map) ≡ mapSize ⌝ }
+    requires { ⌜ id < ids ⌝ }
     ensures { λ r. ⌜ r ≡ heardAt (now (map .entry)) id count ⌝ }
 {
     let then = then_at(map, id, count);
@@ -256,7 +256,7 @@ pub fn heard_at(map: &[u8], id: usize, count: u8) -> Gathered
 
 // How far what was heard reaches, and how many components are in force in the frame with a count.
 pub fn known_at(map: &[u8], count: u8) -> Reach
-    requires { ⌜ length (now map) ≡ 36356 ⌝ }
+    requires { ⌜ length (now map) ≡ mapSize ⌝ }
     ensures { λ r. ⌜ r ≡ knownAt (now (map .entry)) count ⌝ }
 {
     let mut components: usize = 0;

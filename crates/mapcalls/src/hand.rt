@@ -6,6 +6,7 @@
 //     fill-map FROM STEP                       every byte: FROM, FROM + STEP, FROM + 2 STEP, ..
 //     keep                 back                the map, of 36,356 bytes, is kept, and the kept one comes back
 use crate::taking;
+use map::Map;
 use rows::Answer;
 use rows::Row;
 use rows::bytes::copy;
@@ -31,5 +32,5 @@ pub fn called(row: Row, map: &mut [u8], kept: &mut [u8], field: &mut [u8]) -> An
 
 fn copied(from: &[u8], to: &mut [u8]) -> Answer {
     copy(from, to);
-    whole(0, front(from, 36356))
+    whole(0, front(from, Map::SIZE as u64))
 }

@@ -5,8 +5,10 @@
 // taking   the calls that may change the map
 //
 // Rows that change no map are answered by the crate maprows.
+use field::Field;
 use libc::STDIN_FILENO;
 use libc::STDOUT_FILENO;
+use map::Map;
 use rows::tell;
 use rows::tell::Progress;
 
@@ -19,14 +21,14 @@ fn main() {
     let mut text = [0u8; 262144];
     let len = io::read_full(STDIN_FILENO, &mut text);
     tell::fits(len, 262144);
-    let mut map = [0u8; 36357];
-    let mut kept = [0u8; 36357];
-    let mut field = [0u8; 11];
+    let mut map = [0u8; Map::SIZE + 1];
+    let mut kept = [0u8; Map::SIZE + 1];
+    let mut field = [0u8; Field::SIZE + 1];
     run(&text[..len], &mut map, &mut kept, &mut field);
 }
 
 fn run(text: &[u8], map: &mut [u8], kept: &mut [u8], field: &mut [u8]) {
-    let mut progress = Progress::new(36356);
+    let mut progress = Progress::new(Map::SIZE);
     let mut k: usize = 0;
     while k < text.len() {
         progress = step(progress, text[k], map, kept, field);

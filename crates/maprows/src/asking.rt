@@ -6,6 +6,7 @@
 //     list COUNT LENGTH = NUMBER NONE WHOLE UNFINISHED UNKNOWN MARKS    how many have each mark; 257 bytes of 9, so many of them lent
 //     all COUNT = DIGEST                                                of list's marks, and of what is shown where they say whole
 use crate::fields;
+use map::Map;
 use rows::Answer;
 use rows::Row;
 use rows::bytes::START;
@@ -92,7 +93,7 @@ fn known(map: &[u8], count: u8) -> Answer {
 }
 
 fn list(map: &[u8], count: u8, len: u64) -> Answer {
-    let mut out = [9u8; 257];
+    let mut out = [9u8; Map::IDS + 1];
     listed(map, count, len as usize, &mut out)
 }
 
@@ -128,7 +129,7 @@ fn marked(out: &[u8], mark: u8) -> u64 {
 }
 
 fn all(map: &[u8], count: u8) -> u64 {
-    let mut out = [9u8; 256];
+    let mut out = [9u8; Map::IDS];
     map::list(map, count, &mut out);
     whole(map, count, &out)
 }

@@ -18,7 +18,7 @@ pub struct Reading {
     pub number: u8,
     pub place: u8,
     pub index: u8,
-    pub bytes: [u8; 90],
+    pub bytes: [u8; Packet::USEFUL],
 }
 
 // What an image is read as. 20: not 94 bytes; 28: type unreadable; 29: type 3F or C7; 30: type F8; 31: a protected word
@@ -69,7 +69,7 @@ fn refused(number: u8, place: u8) -> Reading
         number,
         place,
         index: 0,
-        bytes: [0; 90],
+        bytes: [0; Packet::USEFUL],
     }
 }
 
@@ -78,7 +78,7 @@ fn readable(index: u8, from: &[u8]) -> Reading
     requires { ⌜ length (now from) ≤ 90 ⌝ }
     ensures { λ r. ⌜ r ≡ readableAs index (now (from .entry)) ⌝ }
 {
-    let mut bytes = [0u8; 90];
+    let mut bytes = [0u8; Packet::USEFUL];
     let mut k: usize = 0;
     while k < from.len() {
         bytes[k] = from[k];
@@ -107,13 +107,13 @@ fn unprotected(index: u8, useful: &[u8]) -> Reading
 }
 
 // The image of a packet.
-pub fn written(address: u32, index: u32, kind: u8, useful: &[u8]) -> [u8; 94]
+pub fn written(address: u32, index: u32, kind: u8, useful: &[u8]) -> [u8; Packet::IMAGE]
     requires { ⌜ address < 1024 ⌝ }
     requires { ⌜ index < 4 ⌝ }
     requires { ⌜ length (now useful) ≡ 90 ⌝ }
     ensures { λ r. ⌜ r ≡ written address index kind (now (useful .entry)) ⌝ }
 {
-    let mut bytes = [0u8; 91];
+    let mut bytes = [0u8; Packet::BYTES];
     bytes[0] = kind;
     let mut k: usize = 0;
     while k < Packet::USEFUL {

@@ -4,7 +4,7 @@ ghost use mathlib.Core.Path.{_≡_};
 ghost use Prim.Native.Nat.{_+_, _<_};
 ghost use lib.ListN.{length};
 ghost use Rattle.bits.specs.Bits.{blank};
-ghost use Rattle.structure.specs.Structure.{headOf, withHead, nth, withNth, stored, placeOf, nextPlace, isNext, goesOn, turnOf, gatheringHead, completedHead, markedHead, lateOf, beginning, gathered, spoiled, noneHead, deletion, absence, said, certainly, goodHead, complete, settledHead};
+ghost use Rattle.structure.specs.Structure.{structureSize, headOf, withHead, nth, withNth, stored, placeOf, nextPlace, isNext, goesOn, turnOf, gatheringHead, completedHead, markedHead, lateOf, beginning, gathered, spoiled, noneHead, deletion, absence, said, certainly, goodHead, complete, settledHead};
 use field::Tdms;
 
 // What is known of a structure beside its fields.
@@ -38,7 +38,7 @@ impl Structure {
     pub const SIZE: usize = Self::FIELDS + 8 * Self::FIELD;
 
     pub fn load(s: &[u8]) -> Self
-        requires { ⌜ length (now s) ≡ 71 ⌝ }
+        requires { ⌜ length (now s) ≡ structureSize ⌝ }
         ensures { λ r. ⌜ r ≡ headOf (now (s .entry)) ⌝ }
     {
         Self {
@@ -54,7 +54,7 @@ impl Structure {
 
     // Puts the head into a structure, and touches no field.
     pub fn store(self, s: &mut [u8])
-        requires { ⌜ length (now s) ≡ 71 ⌝ }
+        requires { ⌜ length (now s) ≡ structureSize ⌝ }
         ensures { λ _. ⌜ now (s .exit) ≡ withHead self (now (s .entry)) ⌝ }
     {
         s[0] = self.fields;
@@ -185,7 +185,7 @@ impl Structure {
 
 // Field k.
 pub fn nth(s: &[u8], k: usize) -> u64
-    requires { ⌜ length (now s) ≡ 71 ⌝ }
+    requires { ⌜ length (now s) ≡ structureSize ⌝ }
     requires { ⌜ k < 8 ⌝ }
     ensures { λ r. ⌜ r ≡ nth k (now (s .entry)) ⌝ }
 {
@@ -193,7 +193,7 @@ pub fn nth(s: &[u8], k: usize) -> u64
 }
 
 fn put_nth(s: &mut [u8], k: usize, tdms: u64)
-    requires { ⌜ length (now s) ≡ 71 ⌝ }
+    requires { ⌜ length (now s) ≡ structureSize ⌝ }
     requires { ⌜ k < 8 ⌝ }
     ensures { λ _. ⌜ now (s .exit) ≡ withNth k tdms (now (s .entry)) ⌝ }
 {
@@ -202,7 +202,7 @@ fn put_nth(s: &mut [u8], k: usize, tdms: u64)
 
 // The place of a field among the structure's. From the last to the first, so that no test ends it early.
 fn place_of(s: &[u8], tdms: u64) -> usize
-    requires { ⌜ length (now s) ≡ 71 ⌝ }
+    requires { ⌜ length (now s) ≡ structureSize ⌝ }
     ensures { λ r. ⌜ r ≡ placeOf (now (s .entry)) tdms ⌝ }
 {
     let mut k = Structure::load(s).stored();
@@ -218,7 +218,7 @@ fn place_of(s: &[u8], tdms: u64) -> usize
 
 // The field comes in turn, in a whole structure.
 fn is_next(s: &[u8], tdms: u64) -> bool
-    requires { ⌜ length (now s) ≡ 71 ⌝ }
+    requires { ⌜ length (now s) ≡ structureSize ⌝ }
     ensures { λ r. ⌜ r ≡ isNext (now (s .entry)) tdms ⌝ }
 {
     let head = Structure::load(s);
@@ -230,7 +230,7 @@ fn is_next(s: &[u8], tdms: u64) -> bool
 
 // The field goes on with the repetition that is being gathered.
 fn goes_on(s: &[u8], tdms: u64, links: u8) -> bool
-    requires { ⌜ length (now s) ≡ 71 ⌝ }
+    requires { ⌜ length (now s) ≡ structureSize ⌝ }
     ensures { λ r. ⌜ r ≡ goesOn (now (s .entry)) tdms links ⌝ }
 {
     let head = Structure::load(s);
@@ -243,7 +243,7 @@ fn goes_on(s: &[u8], tdms: u64, links: u8) -> bool
 
 // What one more field does.
 fn turn_of(s: &[u8], tdms: u64, links: u8) -> Turn
-    requires { ⌜ length (now s) ≡ 71 ⌝ }
+    requires { ⌜ length (now s) ≡ structureSize ⌝ }
     ensures { λ r. ⌜ r ≡ turnOf (now (s .entry)) tdms links ⌝ }
 {
     let head = Structure::load(s);
@@ -271,7 +271,7 @@ fn turn_of(s: &[u8], tdms: u64, links: u8) -> Turn
 
 // Begins the structure anew, with one field.
 fn begin(s: &mut [u8], late: u8, certain: u8, tdms: u64, links: u8)
-    requires { ⌜ length (now s) ≡ 71 ⌝ }
+    requires { ⌜ length (now s) ≡ structureSize ⌝ }
     ensures { λ _. ⌜ now (s .exit) ≡ beginning late certain tdms links ⌝ }
 {
     runs::clear(s);
@@ -289,7 +289,7 @@ fn begin(s: &mut [u8], late: u8, certain: u8, tdms: u64, links: u8)
 
 // Takes one more field in.
 pub fn gather(s: &mut [u8], tdms: u64, links: u8)
-    requires { ⌜ length (now s) ≡ 71 ⌝ }
+    requires { ⌜ length (now s) ≡ structureSize ⌝ }
     ensures { λ _. ⌜ now (s .exit) ≡ gathered (now (s .entry)) tdms links ⌝ }
 {
     let head = Structure::load(s);
@@ -316,7 +316,7 @@ pub fn gather(s: &mut [u8], tdms: u64, links: u8)
 
 // What is being gathered may lack a field, and whatever comes begins it anew: no key is above that of all ones.
 pub fn spoil(s: &mut [u8])
-    requires { ⌜ length (now s) ≡ 71 ⌝ }
+    requires { ⌜ length (now s) ≡ structureSize ⌝ }
     ensures { λ _. ⌜ now (s .exit) ≡ spoiled (now (s .entry)) ⌝ }
 {
     let head = Structure::load(s);
@@ -329,8 +329,8 @@ pub fn spoil(s: &mut [u8])
 
 // No field: the component is to be deleted (1), or it is not there (0).
 fn none(s: &mut [u8], deleted: u8)
-    requires { ⌜ length (now s) ≡ 71 ⌝ }
-    ensures { λ _. ⌜ now (s .exit) ≡ withHead (noneHead deleted) (blank 71) ⌝ }
+    requires { ⌜ length (now s) ≡ structureSize ⌝ }
+    ensures { λ _. ⌜ now (s .exit) ≡ withHead (noneHead deleted) (blank structureSize) ⌝ }
 {
     runs::clear(s);
     s[3] = deleted;
@@ -339,7 +339,7 @@ fn none(s: &mut [u8], deleted: u8)
 
 // The component is to be deleted.
 pub fn delete(s: &mut [u8])
-    requires { ⌜ length (now s) ≡ 71 ⌝ }
+    requires { ⌜ length (now s) ≡ structureSize ⌝ }
     ensures { λ _. ⌜ now (s .exit) ≡ deletion ⌝ }
 {
     none(s, 1);
@@ -347,7 +347,7 @@ pub fn delete(s: &mut [u8])
 
 // The component is not there.
 pub fn absent(s: &mut [u8])
-    requires { ⌜ length (now s) ≡ 71 ⌝ }
+    requires { ⌜ length (now s) ≡ structureSize ⌝ }
     ensures { λ _. ⌜ now (s .exit) ≡ absence ⌝ }
 {
     none(s, 0);

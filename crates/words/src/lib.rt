@@ -13,7 +13,7 @@ use bare::Word;
 pub struct Data {
     pub place: u8,
     pub flips: u8,
-    pub bytes: [u8; 45],
+    pub bytes: [u8; Data::BYTES],
 }
 
 // What the words are read as: the place of the first that cannot be read, 30 where all can; the flips of all; their
@@ -21,13 +21,13 @@ pub struct Data {
 pub struct Words {
     pub place: u8,
     pub flips: u8,
-    pub informations: [u16; 30],
+    pub informations: [u16; Words::COUNT],
 }
 
 // The first twelve bits of each word, and 0 if each word has the right check bits.
 pub struct Pass {
     pub wrong: u32,
-    pub informations: [u16; 30],
+    pub informations: [u16; Words::COUNT],
 }
 
 impl Words {
@@ -35,9 +35,14 @@ impl Words {
     pub const COUNT: usize = 30;
 
     pub const PAIRS: usize = Self::COUNT / 2;
+
+    // A word is three bytes.
+    pub const BYTES: usize = 3 * Self::COUNT;
 }
 
 impl Data {
+    pub const BYTES: usize = 3 * Words::PAIRS;
+
     // The place that says that every word can be read.
     pub const ALL: u8 = 30;
 }
@@ -94,7 +99,7 @@ fn passed(checks: &[u16; 128], useful: &[u8]) -> Pass
     ensures { λ r. ⌜ Passed (wordsOf (now (useful .entry))) (r .wrong) (r .informations) ⌝ }
 {
     let mut wrong: u32 = 0;
-    let mut informations = [0u16; 30];
+    let mut informations = [0u16; Words::COUNT];
     let mut w: usize = 0;
     while w < Words::COUNT {
         let n = word(useful, w);
@@ -117,7 +122,7 @@ fn read(checks: &[u16; 128], patterns: &[u32], useful: &[u8]) -> Words
     ensures { λ r. ⌜ r ≡ wordsRead (wordsOf (now (useful .entry))) ⌝ }
 {
     let mut flips: u8 = 0;
-    let mut informations = [0u16; 30];
+    let mut informations = [0u16; Words::COUNT];
     let mut w: usize = 0;
     while w < Words::COUNT {
         let one = bare::word_by(checks, patterns, word(useful, w));
@@ -125,7 +130,7 @@ fn read(checks: &[u16; 128], patterns: &[u32], useful: &[u8]) -> Words
             return Words {
                 place: w as u8,
                 flips: 0,
-                informations: [0; 30],
+                informations: [0; Words::COUNT],
             };
         }
         flips = flips + one.flips;
@@ -140,11 +145,11 @@ fn read(checks: &[u16; 128], patterns: &[u32], useful: &[u8]) -> Words
 }
 
 // The 45 bytes of thirty informations: two informations are three bytes.
-fn gathered(informations: [u16; 30]) -> [u8; 45]
+fn gathered(informations: [u16; Words::COUNT]) -> [u8; Data::BYTES]
     requires { ⌜ ((k : ℕ) → getD informations k 0 < 4096) ⌝ }
     ensures { λ r. ⌜ r ≡ dataOf informations ⌝ }
 {
-    let mut bytes = [0u8; 45];
+    let mut bytes = [0u8; Data::BYTES];
     let mut v: usize = 0;
     while v < Words::PAIRS {
         let a = informations[v * 2];
@@ -158,7 +163,7 @@ fn gathered(informations: [u16; 30]) -> [u8; 45]
 }
 
 // The 90 protected bytes of 45.
-pub fn protect(bytes: &[u8]) -> [u8; 90]
+pub fn protect(bytes: &[u8]) -> [u8; Words::BYTES]
     requires { ⌜ length (now bytes) ≡ 45 ⌝ }
     ensures { λ r. ⌜ r ≡ protected (now (bytes .entry)) ⌝ }
 {
@@ -167,11 +172,11 @@ pub fn protect(bytes: &[u8]) -> [u8; 90]
 }
 
 // Each successive 12-bit segment of 45 bytes: three bytes are two segments.
-fn segments(bytes: &[u8]) -> [u16; 30]
+fn segments(bytes: &[u8]) -> [u16; Words::COUNT]
     requires { ⌜ length (now bytes) ≡ 45 ⌝ }
     ensures { λ r. ⌜ r ≡ numbersIn 12 30 (sent 8 (now (bytes .entry))) ⌝ }
 {
-    let mut informations = [0u16; 30];
+    let mut informations = [0u16; Words::COUNT];
     let mut v: usize = 0;
     while v < Words::PAIRS {
         let a = bytes[v * 3] as u16;
@@ -185,12 +190,12 @@ fn segments(bytes: &[u8]) -> [u16; 30]
 }
 
 // The words of thirty informations, three bytes each.
-fn coded(checks: &[u16; 128], informations: [u16; 30]) -> [u8; 90]
+fn coded(checks: &[u16; 128], informations: [u16; Words::COUNT]) -> [u8; Words::BYTES]
     requires { ⌜ Checks (now checks) ⌝ }
     requires { ⌜ ((k : ℕ) → getD informations k 0 < 4096) ⌝ }
     ensures { λ r. ⌜ r ≡ numbersIn 8 90 (sent 24 (map word24 informations)) ⌝ }
 {
-    let mut useful = [0u8; 90];
+    let mut useful = [0u8; Words::BYTES];
     let mut w: usize = 0;
     while w < Words::COUNT {
         let n = bare::code::data_word(checks, informations[w] as u32);
