@@ -2,7 +2,7 @@
 --
 --   header-large, header-small, header-word    33; read as the nearest word
 --   header-address, header-index, header-written
---   word-large, word-none, word-near, word-clean, word-far, word-by
+--   word-large, word-none, word-near, word-clean, near-small, word-far, word-by
 --   word-much, word-written
 --
 -- Assumes nothing.
@@ -129,23 +129,23 @@ word-clean n h e =
     none : flips (word24 (n % 4096)) n ≡ 0
     none = ap (λ (x : ℕ). flips x n) (clean-word n e) ∙ flips-same n
 
--- by the nearest word of the first 23 bits: its word of 24, if that lies within three flips, and otherwise none
-module _ (n near word : ℕ) (h : n < 2 ^ 24) (e : near ≡ word23 (nearest word23 (n % 2 ^ 23))) (w : word ≡ word24 (near % 4096)) where
-  information : near % 4096 ≡ nearest word23 (n % 2 ^ 23)
-  information = ap (λ (x : ℕ). x % 4096) e ∙ word23-first _ (nearest23-lt (n % 2 ^ 23) (omega arith))
+pub near-small : (n i : ℕ) → i ≡ nearest word23 (n % 2 ^ 23) → i < 4096
+near-small n i e = subst (λ (x : ℕ). x < 4096) (sym e) (nearest23-lt (n % 2 ^ 23) (omega arith))
 
-  turned : ones (bitXor n word) ≡ flips (word24 (near % 4096)) n
+-- by the information nearest to the first 23 bits: its word of 24, if that lies within three flips, and otherwise none
+module _ (n i word : ℕ) (h : n < 2 ^ 24) (e : i ≡ nearest word23 (n % 2 ^ 23)) (w : word ≡ word24 i) where
+  turned : ones (bitXor n word) ≡ flips (word24 i) n
   unfolding flips
   turned = ap ones (xor-comm n word) ∙ ap (λ (x : ℕ). ones (bitXor x n)) w
 
   pub word-far : 3 < ones (bitXor n word) → wordRead n ≡ record { number = 31; information = 0; flips = 0 }
   word-far f =
-      word-none n h (nearest24-none n (subst (λ (k : ℕ). 3 < flips (word24 k) n) information (subst (λ (x : ℕ). 3 < x) turned f)))
+      word-none n h (nearest24-none n (subst (λ (k : ℕ). 3 < flips (word24 k) n) e (subst (λ (x : ℕ). 3 < x) turned f)))
 
-  pub word-by : ones (bitXor n word) ≤ 3 → wordRead n ≡ record { number = 0; information = near % 4096; flips = ones (bitXor n word) }
+  pub word-by : ones (bitXor n word) ≤ 3 → wordRead n ≡ record { number = 0; information = i; flips = ones (bitXor n word) }
   word-by f =
-      word-near n (near % 4096) h (omega arith) (subst (λ (x : ℕ). x ≤ 3) turned f)
-      ∙ (λ j. record { number = 0; information = near % 4096; flips = sym turned j })
+      word-near n i h (near-small n i e) (subst (λ (x : ℕ). x ≤ 3) turned f)
+      ∙ (λ j. record { number = 0; information = i; flips = sym turned j })
 
 word-written-answer : (i k : ℕ) → refusal (row (leb 4096 i) 33 ∷ []) ≡ k → wordWritten i ≡ record { number = k; value = given k (word24 i) }
 unfolding wordWritten writtenAs

@@ -1,10 +1,10 @@
 // The codes of ETS 300 352 as bare calls: numbers in, a number and values out. Every number is answered.
 //
-// code    what the calls are made of: check bits, remainder, the word nearest to a number
+// code    what the calls are made of: words, remainder, the information nearest to a number
 ghost use mathlib.Core.Path.{_≡_};
 ghost use Prim.Native.Nat.{_^_, _<_, _≤_};
 ghost use Rattle.bits.specs.Bits.{flips};
-ghost use Rattle.golay.specs.Code.{word23, nearest, Patterns, Checks};
+ghost use Rattle.golay.specs.Code.{word23, nearest};
 ghost use Rattle.bare.specs.Bare.{headerRead, headerWritten, wordRead, wordWritten, typeRead, typeAs, typeWritten};
 
 pub mod code;
@@ -68,7 +68,7 @@ impl TypeByte {
     pub const CORRECTED: u32 = 2;
 }
 
-// 33: a header of 2^23 or more. Below it none is refused.
+// 33: a header of 2^23 or more. Below it none is refused. By the constant table of patterns, which is set up only where the header is damaged.
 pub fn read_header(n: u32) -> Header
     ensures { λ r. ⌜ r ≡ headerRead n ⌝ }
 {
@@ -80,12 +80,19 @@ pub fn read_header(n: u32) -> Header
             flips: 0,
         };
     }
-    let checks = lookup::checks();
-    if code::remainder(&checks, n) == 0 {
+    if code::remainder(n) == 0 {
         return header_of(n, n);
     }
     let patterns = lookup::patterns();
-    header_of(n, code::corrected(&checks, &patterns, n))
+    header_of(n, code::corrected(&patterns, n))
+}
+
+// The same for 23 bits that are in hand, as an image has them, by the rows: nothing is set up.
+pub fn near_header(n: u32) -> Header
+    requires { ⌜ n < 2 ^ 23 ⌝ }
+    ensures { λ r. ⌜ r ≡ headerRead n ⌝ }
+{
+    header_of(n, code::header_word(code::near(n)))
 }
 
 // The header that 23 bits are read as, once the nearest word is known.
@@ -118,10 +125,9 @@ pub fn write_header(address: u32, index: u32) -> Written
             value: 0,
         };
     }
-    let checks = lookup::checks();
     Written {
         number: 0,
-        value: code::header_word(&checks, address + Header::ADDRESSES * index),
+        value: code::header_word(address + Header::ADDRESSES * index),
     }
 }
 
@@ -136,30 +142,32 @@ pub fn read_word(n: u32) -> Word
             flips: 0,
         };
     }
-    let checks = lookup::checks();
+    near_word(n)
+}
+
+// The word that 24 bits are read as: as it stands where its check bits are right, otherwise by the rows.
+pub fn near_word(n: u32) -> Word
+    requires { ⌜ n < 2 ^ 24 ⌝ }
+    ensures { λ r. ⌜ r ≡ wordRead n ⌝ }
+{
     let i = n % Word::INFORMATIONS;
-    if code::check(&checks, i) == n / Word::INFORMATIONS {
+    if lookup::check(i) == n / Word::INFORMATIONS {
         return Word {
             number: 0,
             information: i as u16,
             flips: 0,
         };
     }
-    let patterns = lookup::patterns();
-    word_by(&checks, &patterns, n)
+    damaged(n)
 }
 
-// The word that 24 bits are read as, by lent tables.
-pub fn word_by(checks: &[u16; 128], patterns: &[u32], n: u32) -> Word
-    requires { ⌜ Checks (now checks) ⌝ }
-    requires { ⌜ Patterns (now patterns) ⌝ }
+// The same where it is not a word: the information nearest to its first 23 bits, judged with the parity bit.
+fn damaged(n: u32) -> Word
     requires { ⌜ n < 2 ^ 24 ⌝ }
     ensures { λ r. ⌜ r ≡ wordRead n ⌝ }
 {
-    let near = code::corrected(checks, patterns, n % Header::NUMBERS);
-    let i = near % Word::INFORMATIONS;
-    let word = code::data_word(checks, i);
-    let flips = u32::count_ones(n ^ word);
+    let i = code::near(n % Header::NUMBERS);
+    let flips = u32::count_ones(n ^ code::data_word(i));
     if Word::CORRECTED < flips {
         return Word {
             number: 31,
@@ -184,10 +192,9 @@ pub fn write_word(information: u32) -> Written
             value: 0,
         };
     }
-    let checks = lookup::checks();
     Written {
         number: 0,
-        value: code::data_word(&checks, information),
+        value: code::data_word(information),
     }
 }
 

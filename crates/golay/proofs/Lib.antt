@@ -1,5 +1,6 @@
 pub mod Adding
 pub mod Division
+pub mod Fours
 pub mod Nearest
 pub mod Reading
 pub mod Rule

@@ -55,7 +55,7 @@ module _ (n e : ℕ) (h : n < 2 ^ 23) (p : Pattern (remainder n) e) where
       subst (λ (x : ℕ). flips x n ≤ 3) (none-word (bitXor n e) flipped-none)
       (subst (λ (x : ℕ). x ≤ 3) (sym (flips-comm (bitXor n e) n ∙ flips-of n e)) (p .few))
 
-  corrected-is : nearest word23 n ≡ bitXor n e % 2 ^ 12
+  pub corrected-is : nearest word23 n ≡ bitXor n e % 2 ^ 12
   corrected-is = nearest-is word23 word23-apart n (bitXor n e % 2 ^ 12) (mod-lt (bitXor n e) (lit< tt)) flipped-few
 
   pub corrected-nearest : bitXor n e ≡ word23 (nearest word23 n)

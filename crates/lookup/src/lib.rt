@@ -1,9 +1,15 @@
-// The two tables of the codes. A constant array is set up anew by each function that names it, so only `patterns` and
-// `checks` do. A reader calls them once and lends the tables to what it is made of, which asks of a table only its rule.
-ghost use Rattle.golay.specs.Code.{Patterns, Checks};
+// The table of 2,048 error patterns, and the check bits. A constant array is set up anew on the stack by each function that names it; a `match` on a
+// number stands among the program's constants, with nothing to set up. So only `patterns` names the table (the crate `fours` has it in rows), and the check bits are rows.
+//
+// checks    the check bits
+ghost use mathlib.Core.Path.{_≡_};
+ghost use Prim.Native.Nat.{_<_};
+ghost use Rattle.golay.specs.Code.{check, Patterns};
+
+mod checks;
 
 // The 2,048 error patterns, one for each remainder (document 01, section 1): entry r is the one number of 23 bits with
-// at most three ones whose remainder is r. The rule is proved over all entries at once (proofs/Rule.antt).
+// at most three ones whose remainder is r. The rule is proved over all entries at once (golay/proofs/Rule.antt).
 const PATTERNS: [u32; 2048] = [
     0,
     4096,
@@ -2061,142 +2067,11 @@ pub fn patterns() -> [u32; 2048]
     PATTERNS
 }
 
-// The check bits, the last twelve of a 24-bit word: those of an information's six low bits, then those of its six high
-// bits, to be added (the code is linear). The parity is odd, so that the check bits of 0 are not 0: they are in the
-// second half.
-const CHECKS: [u16; 128] = [
-    0,
-    2787,
-    3526,
-    1829,
-    367,
-    2956,
-    3241,
-    1610,
-    734,
-    2109,
-    3864,
-    1531,
-    945,
-    2386,
-    3703,
-    1172,
-    1468,
-    3935,
-    2170,
-    665,
-    1235,
-    3632,
-    2325,
-    1014,
-    1890,
-    3457,
-    2724,
-    71,
-    1549,
-    3310,
-    3019,
-    296,
-    2459,
-    888,
-    1117,
-    3774,
-    2292,
-    535,
-    1330,
-    4049,
-    2885,
-    422,
-    1667,
-    3168,
-    2602,
-    201,
-    2028,
-    3343,
-    3111,
-    1732,
-    481,
-    2818,
-    3400,
-    1963,
-    142,
-    2669,
-    3833,
-    1050,
-    831,
-    2524,
-    3990,
-    1397,
-    592,
-    2227,
-    2048,
-    822,
-    1644,
-    3418,
-    3643,
-    1293,
-    87,
-    2913,
-    1685,
-    3491,
-    2297,
-    975,
-    174,
-    2968,
-    3778,
-    1524,
-    4041,
-    1279,
-    421,
-    2707,
-    2546,
-    708,
-    1950,
-    3240,
-    348,
-    2666,
-    3888,
-    1030,
-    1895,
-    3153,
-    2315,
-    573,
-    1393,
-    3655,
-    2845,
-    43,
-    842,
-    2172,
-    3366,
-    1552,
-    3044,
-    210,
-    1416,
-    3774,
-    3551,
-    1769,
-    947,
-    2181,
-    696,
-    2446,
-    3284,
-    2018,
-    1155,
-    4021,
-    2799,
-    473,
-    3117,
-    1819,
-    577,
-    2423,
-    2582,
-    288,
-    1146,
-    3916,
-];
-
-pub fn checks() -> [u16; 128]
-    ensures { λ r. ⌜ Checks r ⌝ }
+// The last twelve bits of an information's 24-bit word: those of its six low bits and of its six high bits, added, since the code is
+// linear. The parity is odd, so that the check bits of 0 are not 0: they are among those of the high bits.
+pub fn check(i: u32) -> u32
+    requires { ⌜ i < 4096 ⌝ }
+    ensures { λ r. ⌜ r ≡ check i ⌝ }
 {
-    CHECKS
+    checks::low(i % 64) ^ checks::high(i / 64)
 }

@@ -10,14 +10,11 @@ use Rattle.bare.proofs.read_header.Tie as tie
 returns : tie.Need-returns
 returns c = sym (header-large (c .before .args .n) (c .if1 .taken))
 
-checks-requires : tie.Need-checks-requires
-checks-requires c κs = search needs
-
 remainder-requires : tie.Need-remainder-requires
 remainder-requires c κs = search needs
 
 header-of-requires : tie.Need-header-of-requires
-header-of-requires c κs = (c .before .before .before .before .if1 .left, clean-nearest (c .before .before .before .before .before .args .n) (sym (c .before .remainder .ensures) ∙ c .if2 .taken))
+header-of-requires c κs = (c .before .before .if1 .left, clean-nearest (c .before .before .before .args .n) (sym (c .before .remainder .ensures) ∙ c .if2 .taken))
 
 returns-2 : tie.Need-returns-2
 returns-2 c = search needs
@@ -42,7 +39,6 @@ read-header-spec =
     tie.close
     (tie.spec
     returns
-    checks-requires
     remainder-requires
     header-of-requires
     returns-2

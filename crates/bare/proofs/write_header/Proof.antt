@@ -13,9 +13,6 @@ returns c = sym (header-address (c .before .args .address) (c .before .args .ind
 returns-2 : tie.Need-returns-2
 returns-2 c = sym (header-index (c .before .before .args .address) (c .before .before .args .index) (omega arith) (omega arith))
 
-checks-requires : tie.Need-checks-requires
-checks-requires c κs = search needs
-
 mul-header-word : tie.Need-mul-header-word
 mul-header-word c = search needs
 
@@ -26,7 +23,7 @@ header-word-requires : tie.Need-header-word-requires
 header-word-requires c κs = search needs
 
 returns-3 : tie.Need-returns-3
-returns-3 c = (λ j. record { number = 0; value = c .header-word .ensures j }) ∙ sym (header-written (c .before .before .before .before .before .args .address) (c .before .before .before .before .before .args .index) (omega arith) (omega arith))
+returns-3 c = (λ j. record { number = 0; value = c .header-word .ensures j }) ∙ sym (header-written (c .before .before .before .args .address) (c .before .before .before .args .index) (omega arith) (omega arith))
 
 pub write-header-spec : {M : Type 1} → statement M
 write-header-spec =
@@ -34,7 +31,6 @@ write-header-spec =
     (tie.spec
     returns
     returns-2
-    checks-requires
     mul-header-word
     add-header-word
     header-word-requires

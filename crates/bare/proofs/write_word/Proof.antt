@@ -9,14 +9,11 @@ use Rattle.bare.proofs.write_word.Tie as tie
 returns : tie.Need-returns
 returns c = sym (word-much (c .before .args .information) (c .if1 .taken))
 
-checks-requires : tie.Need-checks-requires
-checks-requires c κs = search needs
-
 data-word-requires : tie.Need-data-word-requires
 data-word-requires c κs = search needs
 
 returns-2 : tie.Need-returns-2
-returns-2 c = (λ j. record { number = 0; value = c .data-word .ensures j }) ∙ sym (word-written (c .before .before .before .before .args .information) (c .before .before .before .if1 .left))
+returns-2 c = (λ j. record { number = 0; value = c .data-word .ensures j }) ∙ sym (word-written (c .before .before .args .information) (c .before .if1 .left))
 
 pub write-word-spec : {M : Type 1} → statement M
-write-word-spec = tie.close (tie.spec returns checks-requires data-word-requires returns-2)
+write-word-spec = tie.close (tie.spec returns data-word-requires returns-2)

@@ -22,13 +22,13 @@ mul-result : tie.Need-mul-result
 mul-result c = search needs
 
 shared-slice-read-result : tie.Need-shared-slice-read-result
-shared-slice-read-result c = omega (arith, c .before .before .before .pre .1 .0 .size, remainder-small (c .before .before .before .args .n) (c .before .before .before .pre .1 .1))
+shared-slice-read-result c = omega (arith, c .before .before .before .pre .0 .size, remainder-small (c .before .before .before .args .n) (c .before .before .before .pre .1))
 
 returns : tie.Need-returns
 returns c = let s = c .before .before .before in
     ap (λ (r : ℕ). bitXor (s .args .n) (getD (s .args .patterns .now) r 0)) (c .before .remainder .ensures)
-    ∙ corrected-nearest (s .args .n) _ (s .pre .1 .1)
-    (s .pre .1 .0 .each (remainder (s .args .n)) (remainder-small (s .args .n) (s .pre .1 .1)))
+    ∙ corrected-nearest (s .args .n) _ (s .pre .1)
+    (s .pre .0 .each (remainder (s .args .n)) (remainder-small (s .args .n) (s .pre .1)))
 
 pub corrected-spec : {M : Type 1} → statement M
 corrected-spec =

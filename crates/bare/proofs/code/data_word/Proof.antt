@@ -10,13 +10,13 @@ check-requires : tie.Need-check-requires
 check-requires c κs = search needs
 
 mul-result : tie.Need-mul-result
-mul-result c = omega (arith, check-lt (c .before .args .i) (c .before .pre .1))
+mul-result c = omega (arith, check-lt (c .before .args .i) (c .before .pre))
 
 add-result : tie.Need-add-result
-add-result c = omega (arith, check-lt (c .before .args .i) (c .before .pre .1))
+add-result c = omega (arith, check-lt (c .before .args .i) (c .before .pre))
 
 returns : tie.Need-returns
-returns c = omega (arith, check-word24 (c .before .args .i) (c .before .pre .1))
+returns c = omega (arith, check-word24 (c .before .args .i) (c .before .pre))
 
 pub data-word-spec : {M : Type 1} → statement M
 data-word-spec = tie.close (tie.spec check-requires mul-result add-result returns)

@@ -17,7 +17,7 @@ add-result : tie.Need-add-result
 add-result c = search needs
 
 returns : tie.Need-returns
-returns c = ap (λ (x : ℕ). c .before .args .i + x % 2048 * 4096) (c .check .ensures) ∙ check-word23 (c .before .args .i) (c .before .pre .1)
+returns c = ap (λ (x : ℕ). c .before .args .i + x % 2048 * 4096) (c .check .ensures) ∙ check-word23 (c .before .args .i) (c .before .pre)
 
 pub header-word-spec : {M : Type 1} → statement M
 header-word-spec = tie.close (tie.spec check-requires mul-result add-result returns)

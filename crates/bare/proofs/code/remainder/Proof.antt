@@ -1,4 +1,4 @@
--- `bare::code::remainder` meets its contract: the first twelve bits are divided by the table; the last eleven are added to what they leave.
+-- `bare::code::remainder` meets its contract: the first twelve bits are divided by the check bits; the last eleven are added to what they leave.
 -- Assumes nothing.
 use Rattle.golay.proofs.Reading.{check-divides}
 use mathlib.Core.Path.{ap, _∙_}
