@@ -1,7 +1,7 @@
 // The check bits, the last twelve of a 24-bit word, of an information's six low bits and of its six high bits. The last entry of each is the arm of
 // all other numbers.
 ghost use mathlib.Core.Path.{_≡_};
-ghost use Prim.Native.Nat.{_+_, _<_};
+ghost use Prim.Native.Nat.{_<_};
 ghost use lib.ListN.{getD, drop};
 ghost use Rattle.golay.proofs.Adding.{checks};
 

@@ -120,9 +120,8 @@ pub fn written(address: u32, index: u32, kind: u8, useful: &[u8]) -> [u8; Packet
         bytes[k + 1] = useful[k];
         k += 1;
     }
-    let checks = lookup::checks();
     image::image(
-        bare::code::header_word(&checks, address + Header::ADDRESSES * index),
+        bare::code::header_word(address + Header::ADDRESSES * index),
         &bytes,
     )
 }

@@ -1,20 +1,17 @@
--- Thirty words one by one: what is failed, turned and known after a number of them, and where all have the right check
--- bits.
+-- Thirty words one by one: what is failed, turned and known after a number of them.
 --
 --   failed-pass, failed-stop, failed-le      the place of the first that cannot be read
 --   failed-whole   where none fails, each is below 4,096
---   firsts, firsts-small    the words' first twelve bits
---   Clean, each-clean       words with the right check bits are read as their first twelve bits, with no flip
 --   Read, one-read, one-unread    one word, by its number
 --   Reached        what is known when the first w words have been read; reached-none, reached-more, reached-stop, reached-end
 --   words-short, words-whole, words-small    what is read of thirty words, by the place of the first that fails
---   data-clean, read-length       the data bytes that they carry
+--   read-length    the data bytes that they carry
 --
 -- Assumes nothing.
-use mathlib.Core.Path.{_≡_, refl, sym, ap, ap₂, _∙_, subst}
+use mathlib.Core.Path.{_≡_, refl, sym, ap, _∙_, subst}
 use mathlib.Core.Bool.{Bool, cond}
-use mathlib.Core.List.{List, [], _∷_, map}
-use Prim.Native.Nat.{ℕ, zero, suc, _+_, _*_, _/_, _%_, _^_, _≤_, _<_}
+use mathlib.Core.List.{List, [], _∷_}
+use Prim.Native.Nat.{ℕ, zero, suc, _+_, _*_, _^_, _≤_, _<_}
 use native.Mathlib.Omega.{arith}
 use native.Mathlib.Numerals.{add-one}
 use borrow.Author.Tests.{le-leb, lt-leb, lt-ltb}
@@ -23,16 +20,14 @@ use lib.Dec.{ltb}
 use lib.ListN.{length, getD, drop, length-map}
 use lib.Seq.{drop-cons, drop-length}
 use Rattle.bits.specs.Bits.{flips, blank}
-use Rattle.bits.proofs.Flips.{flips-same}
-use Rattle.golay.specs.Code.{word24, check, nearest}
+use Rattle.golay.specs.Code.{word24, nearest}
 use Rattle.bare.specs.Bare.{wordRead}
 use Rattle.bare.specs.declared.Word.{Word}
 use Rattle.bare.proofs.Theorems.{word-readable, word-unreadable}
 use Rattle.golay.proofs.Nearest.{nearest-near}
-use Rattle.golay.proofs.Reading.{clean-word, nearest24-is}
-use Rattle.words.specs.Protected.{wordsOf, informations, failed, turned, wordsRead, dataOf, dataRead}
+use Rattle.words.specs.Protected.{wordsOf, informations, failed, turned, wordsRead, dataRead}
 use Rattle.words.specs.declared.Words.{Words}
-use Rattle.words.proofs.Packing.{words-length, data-length}
+use Rattle.words.proofs.Packing.{data-length}
 
 pub failed-pass : (i : ℕ) (is : List ℕ) → i < 4096 → failed (i ∷ is) ≡ suc (failed is)
 unfolding failed
@@ -56,36 +51,6 @@ unfolding blank
 blank-small zero k = omega arith
 blank-small (suc n) zero = omega arith
 blank-small (suc n) (suc k) = blank-small n k
-
--- ---- where all have the right check bits
-
-abbrev pub firsts : List ℕ → List ℕ
-firsts ns = map (λ (n : ℕ). n % 4096) ns
-
-one-clean : (n : ℕ) → check (n % 4096) ≡ n / 4096 → nearest word24 n ≡ n % 4096
-one-clean n e =
-    nearest24-is n (n % 4096) (omega arith)
-    (omega (arith, ap (λ (x : ℕ). flips x n) (clean-word n e), flips-same n))
-
-pub record Clean (ns : List ℕ) : Type 0 where
-  pub first : informations ns ≡ firsts ns
-  pub whole : failed (informations ns) ≡ length ns
-  pub none : turned ns ≡ 0
-
-pub each-clean : (ns : List ℕ) → ((w : ℕ) → w < length ns → check (getD ns w 0 % 4096) ≡ getD ns w 0 / 4096) → Clean ns
-unfolding informations failed turned
-each-clean [] h = record { first = refl; whole = refl; none = refl }
-each-clean (n ∷ ns) h = go (each-clean ns (λ w l. h (suc w) (omega arith)))
-  where
-    here : nearest word24 n ≡ n % 4096
-    here = one-clean n (h 0 (omega arith))
-
-    go : Clean ns → Clean (n ∷ ns)
-    go rest = record {
-      first = ap₂ (λ (x : ℕ) (xs : List ℕ). x ∷ xs) here (rest .first);
-      whole = failed-pass (nearest word24 n) (informations ns) (omega (arith, here)) ∙ ap suc (rest .whole);
-      none = omega (arith, rest .none, ap (λ (x : ℕ). flips (word24 x) n) here, ap (λ (x : ℕ). flips x n) (clean-word n (h 0 (omega arith))), flips-same n);
-    }
 
 -- ---- one after the other
 
@@ -187,24 +152,6 @@ words-small ns l k = go (decLt (failed (informations ns)) 30)
         let whole = failed-whole (informations ns) (omega (arith, length-map ns (nearest word24))) in
         let e : failed (informations ns) ≡ 30 = omega (arith, failed-le (informations ns), length-map ns (nearest word24)) in
         subst (λ (r : Words). getD (r .informations) k 0 < 4096) (sym (words-whole ns e)) (whole k)
-
-pub firsts-small : (ns : List ℕ) (k : ℕ) → getD (firsts ns) k 0 < 4096
-firsts-small [] k = omega arith
-firsts-small (n ∷ ns) zero = omega arith
-firsts-small (n ∷ ns) (suc k) = firsts-small ns k
-
--- what a clean pass is read as
-pub data-clean : (s : List ℕ) → ((w : ℕ) → w < 30 → check (getD (wordsOf s) w 0 % 4096) ≡ getD (wordsOf s) w 0 / 4096)
-    → dataRead s ≡ record { place = 30; flips = 0; bytes = dataOf (firsts (wordsOf s)) }
-unfolding dataRead
-data-clean s right =
-    let clean = each-clean (wordsOf s) (λ w l. right w (omega (arith, words-length s))) in
-    let e = words-whole (wordsOf s) (clean .whole ∙ words-length s) in
-    λ i. record {
-      place = ap (λ (r : Words). r .place) e i;
-      flips = (ap (λ (r : Words). r .flips) e ∙ clean .none) i;
-      bytes = ap dataOf (ap (λ (r : Words). r .informations) e ∙ clean .first) i;
-    }
 
 pub read-length : (s : List ℕ) → length (dataRead s .bytes) ≡ 45
 unfolding dataRead

@@ -9,15 +9,12 @@
 --   dataOf is          the 45 bytes of thirty informations
 --   wordsRead ns       that place, the flips and the informations, both 0 where a word cannot be read
 --   dataRead useful    the same of 90 bytes, with the 45 bytes of the informations
---   Passed ns ..       what the pass over clean words finds
-use mathlib.Core.Path.{_≡_}
 use mathlib.Core.Bool.{cond}
 use mathlib.Core.List.{List, [], _∷_, map}
-use Prim.Native.Nat.{ℕ, suc, _+_, _/_, _%_, _<_}
+use Prim.Native.Nat.{ℕ, suc, _+_}
 use lib.Dec.{leb, ltb}
-use lib.ListN.{getD}
 use Rattle.bits.specs.Bits.{flips, sent, numbersIn, blank}
-use Rattle.golay.specs.Code.{word24, check, nearest}
+use Rattle.golay.specs.Code.{word24, nearest}
 use Rattle.words.specs.declared.Data.{Data}
 use Rattle.words.specs.declared.Words.{Words}
 
@@ -53,8 +50,3 @@ unfoldable pub dataRead : List ℕ → Data
 dataRead useful =
     let read = wordsRead (wordsOf useful) in
     record { place = read .place; flips = read .flips; bytes = dataOf (read .informations) }
-
--- the clean pass over the words: the first twelve bits of each, and that each has the right check bits if nothing is wrong
-pub record Passed (ns : List ℕ) (wrong : ℕ) (is : List ℕ) : Type 0 where
-  pub first : is ≡ map (λ (n : ℕ). n % 4096) ns
-  pub right : wrong ≡ 0 → (w : ℕ) → w < 30 → check (getD ns w 0 % 4096) ≡ getD ns w 0 / 4096

@@ -4,9 +4,8 @@ ghost use mathlib.Core.List.{map};
 ghost use Prim.Native.Nat.{ℕ, _<_};
 ghost use lib.ListN.{length, getD};
 ghost use Rattle.bits.specs.Bits.{sent, numbersIn};
-ghost use Rattle.golay.specs.Code.{word24, Checks, Patterns};
-ghost use Rattle.words.specs.Protected.{protected, wordsOf, dataOf, dataRead, wordsRead, Passed};
-use bare::Word;
+ghost use Rattle.golay.specs.Code.{word24};
+ghost use Rattle.words.specs.Protected.{protected, wordsOf, dataOf, dataRead, wordsRead};
 
 // What 90 protected bytes are read as: the place of the first word that cannot be read, 30 where all can; the flips of
 // all words; the 45 bytes. Flips and bytes are 0 where a word cannot be read.
@@ -21,12 +20,6 @@ pub struct Data {
 pub struct Words {
     pub place: u8,
     pub flips: u8,
-    pub informations: [u16; Words::COUNT],
-}
-
-// The first twelve bits of each word, and 0 if each word has the right check bits.
-pub struct Pass {
-    pub wrong: u32,
     pub informations: [u16; Words::COUNT],
 }
 
@@ -47,33 +40,12 @@ impl Data {
     pub const ALL: u8 = 30;
 }
 
-// What 90 protected bytes are read as. Where every word is right, no table of patterns is set up.
+// What 90 protected bytes are read as.
 pub fn unprotect(useful: &[u8]) -> Data
     requires { ⌜ length (now useful) ≡ 90 ⌝ }
     ensures { λ r. ⌜ r ≡ dataRead (now (useful .entry)) ⌝ }
 {
-    let checks = lookup::checks();
-    let pass = passed(&checks, useful);
-    if pass.wrong == 0 {
-        let informations = pass.informations;
-        return Data {
-            place: Data::ALL,
-            flips: 0,
-            bytes: gathered(informations),
-        };
-    }
-    let patterns = lookup::patterns();
-    corrected(&checks, &patterns, useful)
-}
-
-// The same where some word may be damaged, by the table of patterns.
-fn corrected(checks: &[u16; 128], patterns: &[u32], useful: &[u8]) -> Data
-    requires { ⌜ Checks (now checks) ⌝ }
-    requires { ⌜ Patterns (now patterns) ⌝ }
-    requires { ⌜ length (now useful) ≡ 90 ⌝ }
-    ensures { λ r. ⌜ r ≡ dataRead (now (useful .entry)) ⌝ }
-{
-    let words = read(checks, patterns, useful);
+    let words = read(useful);
     let informations = words.informations;
     Data {
         place: words.place,
@@ -92,32 +64,8 @@ fn word(useful: &[u8], w: usize) -> u32
     useful[at] as u32 | (useful[at + 1] as u32) << 8 | (useful[at + 2] as u32) << 16
 }
 
-// The clean pass: no early end, what is wrong is folded together.
-fn passed(checks: &[u16; 128], useful: &[u8]) -> Pass
-    requires { ⌜ Checks (now checks) ⌝ }
-    requires { ⌜ length (now useful) ≡ 90 ⌝ }
-    ensures { λ r. ⌜ Passed (wordsOf (now (useful .entry))) (r .wrong) (r .informations) ⌝ }
-{
-    let mut wrong: u32 = 0;
-    let mut informations = [0u16; Words::COUNT];
-    let mut w: usize = 0;
-    while w < Words::COUNT {
-        let n = word(useful, w);
-        let i = n % Word::INFORMATIONS;
-        wrong = wrong | (bare::code::check(checks, i) ^ n / Word::INFORMATIONS);
-        informations[w] = i as u16;
-        w += 1;
-    }
-    Pass {
-        wrong,
-        informations,
-    }
-}
-
 // The words one by one, up to the first that cannot be read.
-fn read(checks: &[u16; 128], patterns: &[u32], useful: &[u8]) -> Words
-    requires { ⌜ Checks (now checks) ⌝ }
-    requires { ⌜ Patterns (now patterns) ⌝ }
+fn read(useful: &[u8]) -> Words
     requires { ⌜ length (now useful) ≡ 90 ⌝ }
     ensures { λ r. ⌜ r ≡ wordsRead (wordsOf (now (useful .entry))) ⌝ }
 {
@@ -125,7 +73,7 @@ fn read(checks: &[u16; 128], patterns: &[u32], useful: &[u8]) -> Words
     let mut informations = [0u16; Words::COUNT];
     let mut w: usize = 0;
     while w < Words::COUNT {
-        let one = bare::word_by(checks, patterns, word(useful, w));
+        let one = bare::near_word(word(useful, w));
         if one.number != 0 {
             return Words {
                 place: w as u8,
@@ -167,8 +115,7 @@ pub fn protect(bytes: &[u8]) -> [u8; Words::BYTES]
     requires { ⌜ length (now bytes) ≡ 45 ⌝ }
     ensures { λ r. ⌜ r ≡ protected (now (bytes .entry)) ⌝ }
 {
-    let checks = lookup::checks();
-    coded(&checks, segments(bytes))
+    coded(segments(bytes))
 }
 
 // Each successive 12-bit segment of 45 bytes: three bytes are two segments.
@@ -190,15 +137,14 @@ fn segments(bytes: &[u8]) -> [u16; Words::COUNT]
 }
 
 // The words of thirty informations, three bytes each.
-fn coded(checks: &[u16; 128], informations: [u16; Words::COUNT]) -> [u8; Words::BYTES]
-    requires { ⌜ Checks (now checks) ⌝ }
+fn coded(informations: [u16; Words::COUNT]) -> [u8; Words::BYTES]
     requires { ⌜ ((k : ℕ) → getD informations k 0 < 4096) ⌝ }
     ensures { λ r. ⌜ r ≡ numbersIn 8 90 (sent 24 (map word24 informations)) ⌝ }
 {
     let mut useful = [0u8; Words::BYTES];
     let mut w: usize = 0;
     while w < Words::COUNT {
-        let n = bare::code::data_word(checks, informations[w] as u32);
+        let n = bare::code::data_word(informations[w] as u32);
         useful[w * 3] = (n & 255) as u8;
         useful[w * 3 + 1] = (n >> 8 & 255) as u8;
         useful[w * 3 + 2] = (n >> 16) as u8;

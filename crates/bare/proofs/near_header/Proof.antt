@@ -1,8 +1,7 @@
 -- `bare::near_header` meets its contract: the nearest information by the rows, and its word.
 -- Assumes nothing.
-use mathlib.Core.Path.{_≡_, sym, ap, _∙_, subst}
+use mathlib.Core.Path.{sym, ap, _∙_, subst}
 use Prim.Native.Nat.{ℕ, _<_}
-use native.Mathlib.Omega.{arith}
 use Rattle.golay.specs.Code.{word23}
 use Rattle.golay.proofs.Reading.{nearest23-lt}
 use borrow.Author.Needs.{needs}

@@ -1,7 +1,7 @@
 -- `lookup::check` meets its contract: the table's rule is the promise.
 -- Assumes nothing.
 use mathlib.Core.Path.{_≡_, ap, ap₂, _∙_}
-use Prim.Native.Nat.{ℕ, _+_, _/_, _%_, _<_}
+use Prim.Native.Nat.{ℕ, _/_, _%_, _<_}
 use native.Mathlib.Nat.{add-comm}
 use lib.Bits.{bitXor}
 use lib.ListN.{getD, drop}

@@ -47,9 +47,6 @@ loop-less c = omega arith
 loop-again : tie.Need-loop-again Inv-loop μ-loop
 loop-again c = (omega arith, copied (c .before .before .before .before .args .kind ∷ blank 90) (c .before .before .before .before .args .useful .now) (c .before .before .loop .bytes) 1 (c .before .before .loop .k + 1) (c .before .before .loop .k) (c .before .before .loop .inv .1) (add-comm (c .before .before .loop .k) 1) (omega (arith, blank-length 90)) (omega arith))
 
-checks-requires : tie.Need-checks-requires Inv-loop μ-loop
-checks-requires c κs = tt
-
 mul-header-word : tie.Need-mul-header-word Inv-loop μ-loop
 mul-header-word c = omega arith
 
@@ -57,14 +54,14 @@ add-header-word : tie.Need-add-header-word Inv-loop μ-loop
 add-header-word c = omega arith
 
 header-word-requires : tie.Need-header-word-requires Inv-loop μ-loop
-header-word-requires c κs = (c .before .checks .ensures, omega arith)
+header-word-requires c κs = omega arith
 
 image-requires : tie.Need-image-requires Inv-loop μ-loop
-image-requires c κs = subst (λ (x : ℕ). x < 2 ^ 23) (sym (c .before .header-word .ensures)) (word23-lt (c .before .before .before .before .before .before .before .args .address + 1024 * c .before .before .before .before .before .before .before .args .index) (omega arith))
+image-requires c κs = subst (λ (x : ℕ). x < 2 ^ 23) (sym (c .before .header-word .ensures)) (word23-lt (c .before .before .before .before .before .args .address + 1024 * c .before .before .before .before .before .args .index) (omega arith))
 
 returns : tie.Need-returns Inv-loop μ-loop
 unfolding written
-returns c = c .image .ensures ∙ ap₂ imageOf (c .before .before .header-word .ensures) (c .before .before .before .before .before .before .loop .inv .1 ∙ behind-first (c .before .before .before .before .before .before .before .before .args .kind) (c .before .before .before .before .before .before .before .before .args .useful .now) (c .before .before .before .before .before .before .loop .k) (omega arith) (omega arith))
+returns c = c .image .ensures ∙ ap₂ imageOf (c .before .before .header-word .ensures) (c .before .before .before .before .loop .inv .1 ∙ behind-first (c .before .before .before .before .before .before .args .kind) (c .before .before .before .before .before .before .args .useful .now) (c .before .before .before .before .loop .k) (omega arith) (omega arith))
 
 pub written-spec : {M : Type 1} → statement M
 written-spec =
@@ -80,7 +77,6 @@ written-spec =
     add-k
     loop-less
     loop-again
-    checks-requires
     mul-header-word
     add-header-word
     header-word-requires

@@ -15,16 +15,16 @@ use Rattle.words.proofs.coded.Statement.{statement}
 use Rattle.words.proofs.coded.Tie as tie
 
 abbrev Inv-loop : tie.InvT-loop
-Inv-loop checks informations useful₀ w₀ useful w =
+Inv-loop informations useful₀ w₀ useful w =
     (w ≤ 30) × (length useful ≡ 90)
     × (take (w * 3) useful ≡ take (w * 3) (numbersIn 8 90 (sent 24 (map word24 informations))))
 
 abbrev μ-loop : tie.MeasureT-loop
-μ-loop checks informations useful₀ w₀ useful w = 30 - w
+μ-loop informations useful₀ w₀ useful w = 30 - w
 
 -- what passing the informations tells: there are thirty
-known : (c : tie.Start Inv-loop μ-loop) → length (c .args .t2) ≡ 30
-known c = c .good .1 .0 .1 .0 .1
+known : (c : tie.Start Inv-loop μ-loop) → length (c .args .t1) ≡ 30
+known c = c .good .0 .1 .0 .1
 
 loop-holds : tie.Need-loop-holds Inv-loop μ-loop
 loop-holds c = (omega arith, refl, refl)
@@ -36,10 +36,10 @@ array-read-data-word : tie.Need-array-read-data-word Inv-loop μ-loop
 array-read-data-word c = omega arith
 
 cast-data-word : tie.Need-cast-data-word Inv-loop μ-loop
-cast-data-word c = omega (arith, c .before .before .pre .1 (c .before .loop .w))
+cast-data-word c = omega (arith, c .before .before .pre (c .before .loop .w))
 
 data-word-requires : tie.Need-data-word-requires Inv-loop μ-loop
-data-word-requires c κs = (c .before .before .pre .0, c .before .before .pre .1 (c .before .loop .w))
+data-word-requires c κs = c .before .before .pre (c .before .loop .w)
 
 cast-useful : tie.Need-cast-useful Inv-loop μ-loop
 cast-useful c = omega (arith, mask-lt (c .data-word .result) 8)
@@ -63,7 +63,7 @@ array-write-useful-2 : tie.Need-array-write-useful-2 Inv-loop μ-loop
 array-write-useful-2 c = omega arith
 
 cast-useful-3 : tie.Need-cast-useful-3 Inv-loop μ-loop
-cast-useful-3 c = omega (arith, word24-lt _ (c .before .before .before .pre .1 (c .before .before .loop .w)))
+cast-useful-3 c = omega (arith, word24-lt _ (c .before .before .before .pre (c .before .before .loop .w)))
 
 mul-useful-3 : tie.Need-mul-useful-3 Inv-loop μ-loop
 mul-useful-3 c = omega arith
@@ -83,9 +83,9 @@ loop-less c = omega arith
 loop-again : tie.Need-loop-again Inv-loop μ-loop
 loop-again c =
     let loop = c .before .before .loop in
-    let is = c .before .before .before .args .t2 in
+    let is = c .before .before .before .args .t1 in
     let ns = map word24 is in
-    let h = word24s-below is (c .before .before .before .pre .1) in
+    let h = word24s-below is (c .before .before .before .pre) in
     let w = loop .w in
     let l : w < 30 = omega arith in
     let n = c .data-word .result in
@@ -99,7 +99,7 @@ loop-again c =
 
 returns : tie.Need-returns Inv-loop μ-loop
 returns c =
-    let ns = map word24 (c .before .before .args .t2) in
+    let ns = map word24 (c .before .before .args .t1) in
     agreed (c .before .loop .useful) (numbersIn 8 90 (sent 24 ns)) 90 (c .before .loop .w * 3) (c .before .loop .inv .2)
     (c .before .loop .inv .1) (numbersIn-length 8 90 (sent 24 ns)) (omega arith)
 

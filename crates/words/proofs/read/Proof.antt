@@ -16,36 +16,36 @@ use Rattle.words.proofs.read.Statement.{statement}
 use Rattle.words.proofs.read.Tie as tie
 
 abbrev Inv-loop : tie.InvT-loop
-Inv-loop checks patterns useful flips₀ informations₀ w₀ flips informations w =
+Inv-loop useful flips₀ informations₀ w₀ flips informations w =
     (w ≤ 30) × (length informations ≡ 30) × (take w informations ≡ take w (informationsOf (wordsOf useful))) × Reached (wordsOf useful) w flips
 
 abbrev μ-loop : tie.MeasureT-loop
-μ-loop checks patterns useful flips₀ informations₀ w₀ flips informations w = 30 - w
+μ-loop useful flips₀ informations₀ w₀ flips informations w = 30 - w
 
 loop-holds : tie.Need-loop-holds Inv-loop μ-loop
 loop-holds c = (omega arith, refl, refl, reached-none _)
 
 word-requires : tie.Need-word-requires Inv-loop μ-loop
-word-requires c κs = (c .before .before .before .before .pre .1 .1, c .loop-test .taken)
+word-requires c κs = (c .before .before .before .pre, c .loop-test .taken)
 
-word-by-requires : tie.Need-word-by-requires Inv-loop μ-loop
-word-by-requires c κs = (c .before .before .before .before .before .pre .0, (c .before .before .before .before .before .pre .1 .0, subst (λ (x : ℕ). x < 2 ^ 24) (sym (c .word .ensures)) (words-below (c .before .before .before .before .before .args .useful .now) (c .before .before .loop .w))))
+near-word-requires : tie.Need-near-word-requires Inv-loop μ-loop
+near-word-requires c κs = subst (λ (x : ℕ). x < 2 ^ 24) (sym (c .word .ensures)) (words-below (c .before .before .before .before .args .useful .now) (c .before .before .loop .w))
 
-cast-t10 : tie.Need-cast-t10 Inv-loop μ-loop
-cast-t10 c = omega arith
+cast-t8 : tie.Need-cast-t8 Inv-loop μ-loop
+cast-t8 c = omega arith
 
 returns : tie.Need-returns Inv-loop μ-loop
 unfolding blank
-returns c = let s = c .before .before .before .before .before .before .before .before .args .useful .now in
+returns c = let s = c .before .before .before .before .before .before .before .args .useful .now in
     let w = c .before .before .before .before .before .loop .w in
-    let stop = one-unread (c .before .before .before .word .result) (getD (wordsOf s) w 0) (c .before .before .word-by .result) (words-below s w) (c .before .before .before .word .ensures) (c .before .before .word-by .ensures) (c .if1 .taken) in
+    let stop = one-unread (c .before .before .before .word .result) (getD (wordsOf s) w 0) (c .before .before .near-word .result) (words-below s w) (c .before .before .before .word .ensures) (c .before .before .near-word .ensures) (c .if1 .taken) in
     sym (words-short (wordsOf s) w
     (reached-stop (wordsOf s) w (c .before .before .before .before .before .loop .flips) (omega (arith, words-length s, c .before .before .before .before .loop-test .taken)) (c .before .before .before .before .before .loop .inv .3) stop) (c .before .before .before .before .loop-test .taken))
 
 add-flips : tie.Need-add-flips Inv-loop μ-loop
-add-flips c = let s = c .before .before .before .before .before .before .before .before .before .args .useful .now in
+add-flips c = let s = c .before .before .before .before .before .before .before .before .args .useful .now in
     let w = c .before .before .before .before .before .before .loop .w in
-    let r = one-read (c .before .before .before .before .word .result) (getD (wordsOf s) w 0) (c .before .before .before .word-by .result) (words-below s w) (c .before .before .before .before .word .ensures) (c .before .before .before .word-by .ensures) (c .before .if1 .left) in
+    let r = one-read (c .before .before .before .before .word .result) (getD (wordsOf s) w 0) (c .before .before .before .near-word .result) (words-below s w) (c .before .before .before .before .word .ensures) (c .before .before .before .near-word .ensures) (c .before .if1 .left) in
     omega (arith, r .few, c .before .before .before .before .before .before .loop .inv .3 .few, c .before .before .before .before .before .loop-test .taken)
 
 mul-informations : tie.Need-mul-informations Inv-loop μ-loop
@@ -62,13 +62,13 @@ loop-less c = omega arith
 
 loop-again : tie.Need-loop-again Inv-loop μ-loop
 unfolding informationsOf
-loop-again c = let s = c .before .before .before .before .before .before .before .before .before .args .useful .now in
+loop-again c = let s = c .before .before .before .before .before .before .before .before .args .useful .now in
     let w = c .before .before .before .before .before .before .loop .w in
     let l : w < length (wordsOf s) = omega (arith, words-length s, c .before .before .before .before .before .loop-test .taken) in
-    let r = one-read (c .before .before .before .before .word .result) (getD (wordsOf s) w 0) (c .before .before .before .word-by .result) (words-below s w) (c .before .before .before .before .word .ensures) (c .before .before .before .word-by .ensures) (c .before .if1 .left) in (
+    let r = one-read (c .before .before .before .before .word .result) (getD (wordsOf s) w 0) (c .before .before .before .near-word .result) (words-below s w) (c .before .before .before .before .word .ensures) (c .before .before .before .near-word .ensures) (c .before .if1 .left) in (
       omega (arith, c .before .before .before .before .before .loop-test .taken),
       simp length-set (c .before .before .before .before .before .before .loop .inv .1),
-      stored (c .before .before .before .before .before .before .loop .informations) (informationsOf (wordsOf s)) w (w + 1) (c .before .before .before .word-by .result .information) (c .before .before .before .before .before .before .loop .inv .2)
+      stored (c .before .before .before .before .before .before .loop .informations) (informationsOf (wordsOf s)) w (w + 1) (c .before .before .before .near-word .result .information) (c .before .before .before .before .before .before .loop .inv .2)
           (omega (arith, c .before .before .before .before .before .before .loop .inv .1, c .before .before .before .before .before .loop-test .taken)) (omega (arith, l, length-map (wordsOf s) (nearest word24))) (add-one w)
           (r .information ∙ sym (getD-map (nearest word24) (wordsOf s) w l)),
       subst (λ (x : ℕ). Reached (wordsOf s) (w + 1) (c .before .before .before .before .before .before .loop .flips + x)) (sym (r .flipped))
@@ -77,7 +77,7 @@ loop-again c = let s = c .before .before .before .before .before .before .before
 
 returns-2 : tie.Need-returns-2 Inv-loop μ-loop
 unfolding informationsOf
-returns-2 c = let s = c .before .before .before .before .args .useful .now in
+returns-2 c = let s = c .before .before .before .args .useful .now in
     let end : c .before .loop .w ≡ length (wordsOf s) = omega (arith, words-length s, c .before .loop .inv .0, c .loop-test .left) in
     let last = reached-end (wordsOf s) (c .before .loop .flips) (subst (λ (x : ℕ). Reached (wordsOf s) x (c .before .loop .flips)) end (c .before .loop .inv .3)) in
     let same = agreed (c .before .loop .informations) (informationsOf (wordsOf s)) 30 (c .before .loop .w) (c .before .loop .inv .2) (c .before .loop .inv .1) (length-map (wordsOf s) (nearest word24) ∙ words-length s) (omega (arith, end, words-length s)) in
@@ -91,8 +91,8 @@ read-spec =
     μ-loop
     loop-holds
     word-requires
-    word-by-requires
-    cast-t10
+    near-word-requires
+    cast-t8
     returns
     add-flips
     mul-informations

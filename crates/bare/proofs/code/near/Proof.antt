@@ -1,7 +1,7 @@
 -- `bare::code::near` meets its contract: the rows' pattern for the remainder, flipped back, gives the nearest information.
 -- Assumes nothing.
-use mathlib.Core.Path.{ap, _∙_, subst, sym}
-use Prim.Native.Nat.{ℕ, _%_, _<_}
+use mathlib.Core.Path.{ap, _∙_}
+use Prim.Native.Nat.{ℕ, _%_}
 use native.Mathlib.Omega.{arith}
 use lib.Bits.{bitXor}
 use lib.ListN.{getD}
