@@ -2,7 +2,7 @@
 --
 --   header-large, header-small, header-word    33; read as the nearest word
 --   header-address, header-index, header-written
---   word-large, word-none, word-near, word-clean, near-small, word-far, word-by
+--   word-large, word-none, word-near, word-clean, near-small, judged-clean, judged-by
 --   word-much, word-written
 --
 -- Assumes nothing.
@@ -18,7 +18,7 @@ use Rattle.bits.specs.Bits.{flips}
 use Rattle.bits.specs.Rows.{row, refusal, given}
 use Rattle.bits.proofs.Flips.{flips-same}
 use Rattle.bits.proofs.Rows.{refusal-hit, refusal-miss}
-use Rattle.bare.specs.Bare.{headerRead, headerWritten, wordRead, wordWritten}
+use Rattle.bare.specs.Bare.{headerRead, headerWritten, wordRead, wordWritten, Judged}
 use Rattle.golay.specs.Code.{word23, word24, check, nearest}
 use Rattle.bare.specs.declared.Header.{Header}
 use Rattle.bare.specs.declared.Word.{Word}
@@ -129,23 +129,53 @@ word-clean n h e =
     none : flips (word24 (n % 4096)) n ≡ 0
     none = ap (λ (x : ℕ). flips x n) (clean-word n e) ∙ flips-same n
 
-pub near-small : (n i : ℕ) → i ≡ nearest word23 (n % 2 ^ 23) → i < 4096
-near-small n i e = subst (λ (x : ℕ). x < 4096) (sym e) (nearest23-lt (n % 2 ^ 23) (omega arith))
+-- information and flips as one number, and apart again
+judged-parts : (n i f : ℕ) → i < 4096 → (f ≤ 3 → wordRead n ≡ record { number = 0; information = i; flips = f })
+    → (3 < f → wordRead n ≡ record { number = 31; information = 0; flips = 0 }) → Judged n (i + f * 4096)
+judged-parts n i f small few many = record {
+  read = λ l. few (omega arith) ∙ (λ j. record { number = 0; information = sym low j; flips = sym high j });
+  unread = λ l. many (omega arith);
+}
+  where
+    low : (i + f * 4096) % 4096 ≡ i
+    low = omega arith
+
+    high : (i + f * 4096) / 4096 ≡ f
+    high = omega arith
+
+-- a number with the check bits of its information is read as it stands
+pub judged-clean : (n : ℕ) → n < 2 ^ 24 → check (n % 4096) ≡ n / 4096 → Judged n (n % 4096)
+judged-clean n h e = record {
+  read = λ l. word-clean n h e ∙ (λ j. record { number = 0; information = sym low j; flips = sym high j });
+  unread = λ l. absurd (omega arith);
+}
+  where
+    low : n % 4096 % 4096 ≡ n % 4096
+    low = omega arith
+
+    high : n % 4096 / 4096 ≡ 0
+    high = omega arith
 
 -- by the information nearest to the first 23 bits: its word of 24, if that lies within three flips, and otherwise none
 module _ (n i word : ℕ) (h : n < 2 ^ 24) (e : i ≡ nearest word23 (n % 2 ^ 23)) (w : word ≡ word24 i) where
+  pub near-small : i < 4096
+  near-small = subst (λ (x : ℕ). x < 4096) (sym e) (nearest23-lt (n % 2 ^ 23) (omega arith))
+
   turned : ones (bitXor n word) ≡ flips (word24 i) n
   unfolding flips
   turned = ap ones (xor-comm n word) ∙ ap (λ (x : ℕ). ones (bitXor x n)) w
 
-  pub word-far : 3 < ones (bitXor n word) → wordRead n ≡ record { number = 31; information = 0; flips = 0 }
+  word-far : 3 < ones (bitXor n word) → wordRead n ≡ record { number = 31; information = 0; flips = 0 }
   word-far f =
       word-none n h (nearest24-none n (subst (λ (k : ℕ). 3 < flips (word24 k) n) e (subst (λ (x : ℕ). 3 < x) turned f)))
 
-  pub word-by : ones (bitXor n word) ≤ 3 → wordRead n ≡ record { number = 0; information = i; flips = ones (bitXor n word) }
+  word-by : ones (bitXor n word) ≤ 3 → wordRead n ≡ record { number = 0; information = i; flips = ones (bitXor n word) }
   word-by f =
-      word-near n i h (near-small n i e) (subst (λ (x : ℕ). x ≤ 3) turned f)
+      word-near n i h near-small (subst (λ (x : ℕ). x ≤ 3) turned f)
       ∙ (λ j. record { number = 0; information = i; flips = sym turned j })
+
+  pub judged-by : Judged n (i + ones (bitXor n word) * 4096)
+  judged-by = judged-parts n i (ones (bitXor n word)) near-small word-by word-far
 
 word-written-answer : (i k : ℕ) → refusal (row (leb 4096 i) 33 ∷ []) ≡ k → wordWritten i ≡ record { number = k; value = given k (word24 i) }
 unfolding wordWritten writtenAs

@@ -2,12 +2,13 @@
 -- gives 0 as its values.
 --
 --   headerRead, headerWritten      a header of 23 bits: address 10, index 2 (4.3.6.1), read as the nearest word
---   wordRead, wordWritten          a word of 24 bits: information 12
+--   wordRead, wordWritten          a word of 24 bits: information 12; Judged: information and flips as one number
 --   types, typeNear                the four type bytes (7.4.2.3), and the one within two flips of a byte (house rule)
 --   typeRead, typeWritten
+use mathlib.Core.Path.{_≡_}
 use mathlib.Core.Bool.{Bool, true, false, cond, not}
 use mathlib.Core.List.{List, [], _∷_}
-use Prim.Native.Nat.{ℕ, _+_, _*_, _/_, _%_, _^_}
+use Prim.Native.Nat.{ℕ, _+_, _*_, _/_, _%_, _^_, _≤_, _<_}
 use lib.Dec.{leb, ltb, eqb}
 use Rattle.bits.specs.Bits.{flips}
 use Rattle.bits.specs.Rows.{row, refusal, given}
@@ -36,6 +37,11 @@ wordRead n =
     let i = nearest word24 n in
     let answer = refusal (row (leb (2 ^ 24) n) 33 ∷ row (leb 4096 i) 31 ∷ []) in
     record { number = answer; information = given answer i; flips = given answer (flips (word24 i) n) }
+
+-- A word of 24 bits as one number: its information, and 4,096 times its flips; with more than three it cannot be read.
+pub record Judged (n v : ℕ) : Type 0 where
+  pub read : v / 4096 ≤ 3 → wordRead n ≡ record { number = 0; information = v % 4096; flips = v / 4096 }
+  pub unread : 3 < v / 4096 → wordRead n ≡ record { number = 31; information = 0; flips = 0 }
 
 -- 33: information 4,096 or more
 unfoldable pub wordWritten : ℕ → Written

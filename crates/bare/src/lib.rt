@@ -2,10 +2,10 @@
 //
 // code    what the calls are made of: words, remainder, the information nearest to a number
 ghost use mathlib.Core.Path.{_≡_};
-ghost use Prim.Native.Nat.{_^_, _<_, _≤_};
+ghost use Prim.Native.Nat.{_%_, _^_, _<_, _≤_};
 ghost use Rattle.bits.specs.Bits.{flips};
-ghost use Rattle.golay.specs.Code.{word23, nearest};
-ghost use Rattle.bare.specs.Bare.{headerRead, headerWritten, wordRead, wordWritten, typeRead, typeAs, typeWritten};
+ghost use Rattle.golay.specs.Code.{word23, remainder, nearest};
+ghost use Rattle.bare.specs.Bare.{headerRead, headerWritten, wordRead, wordWritten, Judged, typeRead, typeAs, typeWritten};
 
 pub mod code;
 
@@ -142,32 +142,8 @@ pub fn read_word(n: u32) -> Word
             flips: 0,
         };
     }
-    near_word(n)
-}
-
-// The word that 24 bits are read as: as it stands where its check bits are right, otherwise by the rows.
-pub fn near_word(n: u32) -> Word
-    requires { ⌜ n < 2 ^ 24 ⌝ }
-    ensures { λ r. ⌜ r ≡ wordRead n ⌝ }
-{
-    let i = n % Word::INFORMATIONS;
-    if lookup::check(i) == n / Word::INFORMATIONS {
-        return Word {
-            number: 0,
-            information: i as u16,
-            flips: 0,
-        };
-    }
-    damaged(n)
-}
-
-// The same where it is not a word: the information nearest to its first 23 bits, judged with the parity bit.
-fn damaged(n: u32) -> Word
-    requires { ⌜ n < 2 ^ 24 ⌝ }
-    ensures { λ r. ⌜ r ≡ wordRead n ⌝ }
-{
-    let i = code::near(n % Header::NUMBERS);
-    let flips = u32::count_ones(n ^ code::data_word(i));
+    let word = judged(n);
+    let flips = word / Word::INFORMATIONS;
     if Word::CORRECTED < flips {
         return Word {
             number: 31,
@@ -177,9 +153,32 @@ fn damaged(n: u32) -> Word
     }
     Word {
         number: 0,
-        information: i as u16,
+        information: (word % Word::INFORMATIONS) as u16,
         flips: flips as u8,
     }
+}
+
+// What 24 bits are read as, as one number, which needs no memory: as they stand where the check bits are right, otherwise by the rows.
+pub fn judged(n: u32) -> u32
+    requires { ⌜ n < 2 ^ 24 ⌝ }
+    ensures { λ r. ⌜ Judged n r ⌝ }
+{
+    let i = n % Word::INFORMATIONS;
+    let wrong = lookup::check(i) ^ n / Word::INFORMATIONS;
+    if wrong == 0 {
+        return i;
+    }
+    damaged(n, wrong % 2048)
+}
+
+// The same by the remainder of the first 23 bits: the information nearest to them, and in how many of all 24 bits its word differs.
+fn damaged(n: u32, r: u32) -> u32
+    requires { ⌜ n < 2 ^ 24 ⌝ }
+    requires { ⌜ r ≡ remainder (n % 2 ^ 23) ⌝ }
+    ensures { λ v. ⌜ Judged n v ⌝ }
+{
+    let i = n % Word::INFORMATIONS ^ fours::turned(r);
+    i + u32::count_ones(n ^ code::data_word(i)) * Word::INFORMATIONS
 }
 
 // 33: an information of 4,096 or more.

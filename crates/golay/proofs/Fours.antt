@@ -6,7 +6,7 @@
 --   turned         the information of the nearest word, by that
 --
 -- Assumes nothing.
-use mathlib.Core.Path.{_≡_, sym, _∙_}
+use mathlib.Core.Path.{_≡_, sym, ap, _∙_}
 use mathlib.Core.Bool.{Bool}
 use Prim.Native.Nat.{ℕ, zero, suc, _*_, _/_, _%_, _^_, _<_}
 use mathlib.Core.List.{List, [], _∷_}
@@ -145,7 +145,8 @@ fours-right r h =
     eqb→eq (four (r / 4) / 2 ^ (r % 4 * 16) % 4096) (getD patterns r 0 % 4096) (entries-at same 2048 patterns all-same r h)
 
 -- what the pattern of the remainder says is flipped of the information, flipped back
-pub turned : (n : ℕ) → n < 2 ^ 23 → bitXor (n % 4096) (getD patterns (remainder n) 0 % 4096) ≡ nearest word23 n
-turned n h =
-    sym (xor-mod n (getD patterns (remainder n) 0) 12)
+pub turned : (n r t : ℕ) → n < 2 ^ 23 → r ≡ remainder n → t ≡ getD patterns r 0 % 4096 → bitXor (n % 4096) t ≡ nearest word23 n
+turned n r t h own e =
+    ap (bitXor (n % 4096)) (e ∙ ap (λ (x : ℕ). getD patterns x 0 % 4096) own)
+    ∙ sym (xor-mod n (getD patterns (remainder n) 0) 12)
     ∙ sym (corrected-is n _ h (patterns-right .each (remainder n) (remainder-small n h)))

@@ -7,12 +7,12 @@
 --   clean-*              what has no remainder, what has the right check bits
 --
 -- Assumes nothing.
-use mathlib.Core.Path.{_≡_, sym, ap, _∙_, subst}
+use mathlib.Core.Path.{_≡_, sym, ap, ap₂, _∙_, subst}
 use Prim.Native.Nat.{ℕ, _+_, _*_, _/_, _%_, _^_, _≤_, _<_}
 use native.Mathlib.Omega.{arith}
 use native.Mathlib.Nat.{mod-lt, le-trans}
 use lib.Dec.{lit<}
-use lib.Bits.{bitXor, xor-self}
+use lib.Bits.{bitXor, xor-self, xor-mod}
 use lib.ListN.{getD}
 use lib.Pow.{low}
 use Rattle.bits.specs.Bits.{flips}
@@ -43,6 +43,19 @@ check-word23 i h = omega (arith, check-remainder i h, word23-place i)
 pub check-divides : (n : ℕ) → bitXor (check (n % 4096) % 2048) (n / 4096) ≡ remainder n
 check-divides n =
     ap (λ (x : ℕ). bitXor x (n / 4096)) (check-remainder (n % 4096) (mod-lt n (lit< tt))) ∙ sym (remainder-parts n)
+
+-- what is wrong with the check bits of 24 bits has the remainder of the first 23 in its first eleven
+pub check-wrong : (n : ℕ) → bitXor (check (n % 4096)) (n / 4096) % 2048 ≡ remainder (n % 2 ^ 23)
+check-wrong n =
+    xor-mod (check (n % 4096)) (n / 4096) 11
+    ∙ ap₂ (λ (i x : ℕ). bitXor (check i % 2048) x) low above
+    ∙ check-divides (n % 2 ^ 23)
+  where
+    low : n % 4096 ≡ n % 2 ^ 23 % 4096
+    low = omega arith
+
+    above : n / 4096 % 2 ^ 11 ≡ n % 2 ^ 23 / 4096
+    above = omega arith
 
 -- ---- 23 bits
 

@@ -11,7 +11,7 @@
 use mathlib.Core.Path.{_≡_, refl, sym, ap, _∙_, subst}
 use mathlib.Core.Bool.{Bool, cond}
 use mathlib.Core.List.{List, [], _∷_}
-use Prim.Native.Nat.{ℕ, zero, suc, _+_, _*_, _^_, _≤_, _<_}
+use Prim.Native.Nat.{ℕ, zero, suc, _+_, _*_, _/_, _%_, _^_, _≤_, _<_}
 use native.Mathlib.Omega.{arith}
 use native.Mathlib.Numerals.{add-one}
 use borrow.Author.Tests.{le-leb, lt-leb, lt-ltb}
@@ -21,10 +21,9 @@ use lib.ListN.{length, getD, drop, length-map}
 use lib.Seq.{drop-cons, drop-length}
 use Rattle.bits.specs.Bits.{flips, blank}
 use Rattle.golay.specs.Code.{word24, nearest}
-use Rattle.bare.specs.Bare.{wordRead}
+use Rattle.bare.specs.Bare.{wordRead, Judged}
 use Rattle.bare.specs.declared.Word.{Word}
 use Rattle.bare.proofs.Theorems.{word-readable, word-unreadable}
-use Rattle.golay.proofs.Nearest.{nearest-near}
 use Rattle.words.specs.Protected.{wordsOf, informations, failed, turned, wordsRead, dataRead}
 use Rattle.words.specs.declared.Words.{Words}
 use Rattle.words.proofs.Packing.{data-length}
@@ -54,28 +53,27 @@ blank-small (suc n) (suc k) = blank-small n k
 
 -- ---- one after the other
 
--- a word that was read
-pub record Read (n : ℕ) (r : Word) : Type 0 where
+-- a word that was read, as one number
+pub record Read (n v : ℕ) : Type 0 where
   pub near : nearest word24 n < 4096
-  pub information : r .information ≡ nearest word24 n
-  pub flipped : r .flips ≡ flips (word24 (nearest word24 n)) n
-  pub few : r .flips ≤ 3
+  pub information : v % 4096 ≡ nearest word24 n
+  pub flipped : v / 4096 ≡ flips (word24 (nearest word24 n)) n
+  pub few : v / 4096 ≤ 3
 
-pub one-read : (n m : ℕ) (r : Word) → m < 2 ^ 24 → n ≡ m → r ≡ wordRead n → r .number ≡ 0 → Read m r
-one-read n m r h same e z =
-    let o : r ≡ wordRead m = e ∙ ap wordRead same in
-    let w = word-readable m h (sym (ap (λ (x : Word). x .number) o) ∙ z) in
-    let f : r .flips ≡ flips (word24 (nearest word24 m)) m = ap (λ (x : Word). x .flips) (o ∙ w .1) in
+pub one-read : (n m v : ℕ) → m < 2 ^ 24 → n ≡ m → Judged n v → v / 4096 ≤ 3 → Read m v
+one-read n m v h same j l =
+    let o = ap wordRead (sym same) ∙ j .read l in
+    let w = word-readable m h (ap (λ (x : Word). x .number) o) in
     record {
       near = w .0;
-      information = ap (λ (x : Word). x .information) (o ∙ w .1);
-      flipped = f;
-      few = omega (arith, nearest-near word24 m (w .0));
+      information = ap (λ (x : Word). x .information) (sym o ∙ w .1);
+      flipped = ap (λ (x : Word). x .flips) (sym o ∙ w .1);
+      few = l;
     }
 
-pub one-unread : (n m : ℕ) (r : Word) → m < 2 ^ 24 → n ≡ m → r ≡ wordRead n → (r .number ≡ 0 → ⊥) → nearest word24 m ≡ 4096
-one-unread n m r h same e ne =
-    word-unreadable m h (λ z. ne (ap (λ (x : Word). x .number) (e ∙ ap wordRead same) ∙ z))
+pub one-unread : (n m v : ℕ) → m < 2 ^ 24 → n ≡ m → Judged n v → 3 < v / 4096 → nearest word24 m ≡ 4096
+one-unread n m v h same j l =
+    word-unreadable m h (λ z. let e = ap (λ (x : Word). x .number) (ap wordRead (sym same) ∙ j .unread l) in absurd (omega (arith, e, z)))
 
 -- the first w words have been read, with so many flips
 pub record Reached (ns : List ℕ) (w f : ℕ) : Type 0 where

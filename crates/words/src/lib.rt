@@ -6,6 +6,7 @@ ghost use lib.ListN.{length, getD};
 ghost use Rattle.bits.specs.Bits.{sent, numbersIn};
 ghost use Rattle.golay.specs.Code.{word24};
 ghost use Rattle.words.specs.Protected.{protected, wordsOf, dataOf, dataRead, wordsRead};
+use bare::Word;
 
 // What 90 protected bytes are read as: the place of the first word that cannot be read, 30 where all can; the flips of
 // all words; the 45 bytes. Flips and bytes are 0 where a word cannot be read.
@@ -73,16 +74,17 @@ fn read(useful: &[u8]) -> Words
     let mut informations = [0u16; Words::COUNT];
     let mut w: usize = 0;
     while w < Words::COUNT {
-        let one = bare::near_word(word(useful, w));
-        if one.number != 0 {
+        let one = bare::judged(word(useful, w));
+        let turned = one / Word::INFORMATIONS;
+        if Word::CORRECTED < turned {
             return Words {
                 place: w as u8,
                 flips: 0,
                 informations: [0; Words::COUNT],
             };
         }
-        flips = flips + one.flips;
-        informations[w] = one.information;
+        flips = flips + turned as u8;
+        informations[w] = (one % Word::INFORMATIONS) as u16;
         w += 1;
     }
     Words {

@@ -1,17 +1,16 @@
 -- `words::read` meets its contract: the loop keeps what `Reached` says of the words read.
 -- Assumes nothing.
-use Rattle.bits.specs.Bits.{blank}
-use Rattle.words.proofs.Each.{words-short, words-whole}
 use mathlib.Core.Path.{_≡_, refl, sym, _∙_, subst}
-use Prim.Native.Nat.{ℕ, _+_, _-_, _≤_, _<_, _^_}
+use Prim.Native.Nat.{ℕ, _+_, _-_, _/_, _%_, _≤_, _<_, _^_}
 use native.Mathlib.Omega.{arith}
 use native.Mathlib.Numerals.{add-one}
 use lib.ListN.{length, take, getD, length-set, length-map}
+use Rattle.bits.specs.Bits.{blank}
 use Rattle.bits.proofs.Storing.{stored, agreed, getD-map}
 use Rattle.golay.specs.Code.{word24, nearest}
 use Rattle.words.specs.Protected.{wordsOf, informations as informationsOf}
 use Rattle.words.proofs.Packing.{words-length, words-below}
-use Rattle.words.proofs.Each.{one-read, one-unread, Reached, reached-none, reached-more, reached-stop, reached-end}
+use Rattle.words.proofs.Each.{words-short, words-whole, one-read, one-unread, Reached, reached-none, reached-more, reached-stop, reached-end}
 use Rattle.words.proofs.read.Statement.{statement}
 use Rattle.words.proofs.read.Tie as tie
 
@@ -22,31 +21,50 @@ Inv-loop useful flips₀ informations₀ w₀ flips informations w =
 abbrev μ-loop : tie.MeasureT-loop
 μ-loop useful flips₀ informations₀ w₀ flips informations w = 30 - w
 
+-- ---- the points: a word judged, inside the loop, the loop, the start
+
+abbrev inside : tie.After-judged Inv-loop μ-loop → tie.In-loop Inv-loop μ-loop
+inside c = c .before .before
+
+abbrev turn : tie.After-judged Inv-loop μ-loop → tie.At-loop Inv-loop μ-loop
+turn c = inside c .before
+
+abbrev start : tie.After-judged Inv-loop μ-loop → tie.Start Inv-loop μ-loop
+start c = turn c .before .before
+
+-- ---- the answers
+
 loop-holds : tie.Need-loop-holds Inv-loop μ-loop
 loop-holds c = (omega arith, refl, refl, reached-none _)
 
 word-requires : tie.Need-word-requires Inv-loop μ-loop
 word-requires c κs = (c .before .before .before .pre, c .loop-test .taken)
 
-near-word-requires : tie.Need-near-word-requires Inv-loop μ-loop
-near-word-requires c κs = subst (λ (x : ℕ). x < 2 ^ 24) (sym (c .word .ensures)) (words-below (c .before .before .before .before .args .useful .now) (c .before .before .loop .w))
+judged-requires : tie.Need-judged-requires Inv-loop μ-loop
+judged-requires c κs =
+    subst (λ (x : ℕ). x < 2 ^ 24) (sym (c .word .ensures)) (words-below (c .before .before .before .before .args .useful .now) (c .before .before .loop .w))
 
-cast-t8 : tie.Need-cast-t8 Inv-loop μ-loop
-cast-t8 c = omega arith
+cast-t9 : tie.Need-cast-t9 Inv-loop μ-loop
+cast-t9 c = omega arith
 
 returns : tie.Need-returns Inv-loop μ-loop
 unfolding blank
-returns c = let s = c .before .before .before .before .before .before .before .args .useful .now in
-    let w = c .before .before .before .before .before .loop .w in
-    let stop = one-unread (c .before .before .before .word .result) (getD (wordsOf s) w 0) (c .before .before .near-word .result) (words-below s w) (c .before .before .before .word .ensures) (c .before .before .near-word .ensures) (c .if1 .taken) in
-    sym (words-short (wordsOf s) w
-    (reached-stop (wordsOf s) w (c .before .before .before .before .before .loop .flips) (omega (arith, words-length s, c .before .before .before .before .loop-test .taken)) (c .before .before .before .before .before .loop .inv .3) stop) (c .before .before .before .before .loop-test .taken))
+returns c =
+    let j = c .before in
+    let s = start j .args .useful .now in
+    let w = turn j .loop .w in
+    let l : w < 30 = inside j .loop-test .taken in
+    let stop = one-unread (j .before .word .result) (getD (wordsOf s) w 0) (j .judged .result) (words-below s w) (j .before .word .ensures) (j .judged .ensures) (c .if1 .taken) in
+    sym (words-short (wordsOf s) w (reached-stop (wordsOf s) w (turn j .loop .flips) (omega (arith, words-length s, l)) (turn j .loop .inv .3) stop) l)
+
+cast-flips : tie.Need-cast-flips Inv-loop μ-loop
+cast-flips c = omega arith
 
 add-flips : tie.Need-add-flips Inv-loop μ-loop
-add-flips c = let s = c .before .before .before .before .before .before .before .before .args .useful .now in
-    let w = c .before .before .before .before .before .before .loop .w in
-    let r = one-read (c .before .before .before .before .word .result) (getD (wordsOf s) w 0) (c .before .before .before .near-word .result) (words-below s w) (c .before .before .before .before .word .ensures) (c .before .before .before .near-word .ensures) (c .before .if1 .left) in
-    omega (arith, r .few, c .before .before .before .before .before .before .loop .inv .3 .few, c .before .before .before .before .before .loop-test .taken)
+add-flips c = let j = c .before in omega (arith, turn j .loop .inv .3 .few, inside j .loop-test .taken, c .if1 .left)
+
+cast-informations : tie.Need-cast-informations Inv-loop μ-loop
+cast-informations c = omega arith
 
 mul-informations : tie.Need-mul-informations Inv-loop μ-loop
 mul-informations c = omega arith
@@ -62,22 +80,27 @@ loop-less c = omega arith
 
 loop-again : tie.Need-loop-again Inv-loop μ-loop
 unfolding informationsOf
-loop-again c = let s = c .before .before .before .before .before .before .before .before .args .useful .now in
-    let w = c .before .before .before .before .before .before .loop .w in
-    let l : w < length (wordsOf s) = omega (arith, words-length s, c .before .before .before .before .before .loop-test .taken) in
-    let r = one-read (c .before .before .before .before .word .result) (getD (wordsOf s) w 0) (c .before .before .before .near-word .result) (words-below s w) (c .before .before .before .before .word .ensures) (c .before .before .before .near-word .ensures) (c .before .if1 .left) in (
-      omega (arith, c .before .before .before .before .before .loop-test .taken),
-      simp length-set (c .before .before .before .before .before .before .loop .inv .1),
-      stored (c .before .before .before .before .before .before .loop .informations) (informationsOf (wordsOf s)) w (w + 1) (c .before .before .before .near-word .result .information) (c .before .before .before .before .before .before .loop .inv .2)
-          (omega (arith, c .before .before .before .before .before .before .loop .inv .1, c .before .before .before .before .before .loop-test .taken)) (omega (arith, l, length-map (wordsOf s) (nearest word24))) (add-one w)
+loop-again c =
+    let j = c .before in
+    let s = start j .args .useful .now in
+    let w = turn j .loop .w in
+    let v = j .judged .result in
+    let t : w < 30 = inside j .loop-test .taken in
+    let l : w < length (wordsOf s) = omega (arith, words-length s, t) in
+    let r = one-read (j .before .word .result) (getD (wordsOf s) w 0) v (words-below s w) (j .before .word .ensures) (j .judged .ensures) (c .if1 .left) in (
+      omega (arith, t),
+      simp length-set (turn j .loop .inv .1),
+      stored (turn j .loop .informations) (informationsOf (wordsOf s)) w (w + 1) (v % 4096) (turn j .loop .inv .2)
+          (omega (arith, turn j .loop .inv .1, t)) (omega (arith, l, length-map (wordsOf s) (nearest word24))) (add-one w)
           (r .information ∙ sym (getD-map (nearest word24) (wordsOf s) w l)),
-      subst (λ (x : ℕ). Reached (wordsOf s) (w + 1) (c .before .before .before .before .before .before .loop .flips + x)) (sym (r .flipped))
-          (reached-more (wordsOf s) w (c .before .before .before .before .before .before .loop .flips) l (c .before .before .before .before .before .before .loop .inv .3) (r .near) (omega (arith, r .few, r .flipped))),
+      subst (λ (x : ℕ). Reached (wordsOf s) (w + 1) (turn j .loop .flips + x)) (sym (r .flipped))
+          (reached-more (wordsOf s) w (turn j .loop .flips) l (turn j .loop .inv .3) (r .near) (omega (arith, r .few, r .flipped))),
     )
 
 returns-2 : tie.Need-returns-2 Inv-loop μ-loop
 unfolding informationsOf
-returns-2 c = let s = c .before .before .before .args .useful .now in
+returns-2 c =
+    let s = c .before .before .before .args .useful .now in
     let end : c .before .loop .w ≡ length (wordsOf s) = omega (arith, words-length s, c .before .loop .inv .0, c .loop-test .left) in
     let last = reached-end (wordsOf s) (c .before .loop .flips) (subst (λ (x : ℕ). Reached (wordsOf s) x (c .before .loop .flips)) end (c .before .loop .inv .3)) in
     let same = agreed (c .before .loop .informations) (informationsOf (wordsOf s)) 30 (c .before .loop .w) (c .before .loop .inv .2) (c .before .loop .inv .1) (length-map (wordsOf s) (nearest word24) ∙ words-length s) (omega (arith, end, words-length s)) in
@@ -91,10 +114,12 @@ read-spec =
     μ-loop
     loop-holds
     word-requires
-    near-word-requires
-    cast-t8
+    judged-requires
+    cast-t9
     returns
+    cast-flips
     add-flips
+    cast-informations
     mul-informations
     array-write-informations
     add-w

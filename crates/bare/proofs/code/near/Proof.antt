@@ -20,9 +20,7 @@ turned-requires : tie.Need-turned-requires
 turned-requires c κs = omega (arith, remainder-small (c .before .args .n) (c .before .pre))
 
 returns : tie.Need-returns
-returns c =
-    ap (bitXor (c .before .before .args .n % 4096)) (c .turned .ensures ∙ ap (λ (r : ℕ). getD patterns r 0 % 4096) (c .before .remainder .ensures))
-    ∙ turned (c .before .before .args .n) (c .before .before .pre)
+returns c = turned (c .before .before .args .n) (c .before .remainder .result) (c .turned .result) (c .before .before .pre) (c .before .remainder .ensures) (c .turned .ensures)
 
 pub near-spec : {M : Type 1} → statement M
 near-spec = tie.close (tie.spec remainder-requires turned-requires returns)

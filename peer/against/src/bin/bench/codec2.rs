@@ -1,4 +1,4 @@
-//! Debian's libcodec2, where it is installed: its `golay23_decode` beside our header reader, on the same numbers. It is looked for when
+//! Debian's libcodec2, where it is installed: its `golay23_decode` beside our readers of headers and words, on the same numbers. It is looked for when
 //! the program runs, so that nothing depends on it.
 //!
 //! Its words stand the other way round: its generator is ours reversed, and so is a codeword. It hands back the corrected word.
@@ -11,6 +11,8 @@ const NAMES: [&str; 4] = ["libcodec2.so.1.2", "libcodec2.so.1.0", "libcodec2.so.
 /// Find every name when the library is loaded (RTLD_NOW).
 const NOW: c_int = 2;
 const WIDTH: u32 = 23;
+/// The first bits of a word.
+const INFORMATION: u32 = 12;
 
 extern "C" {
     fn dlopen(name: *const c_char, flags: c_int) -> *mut c_void;
@@ -23,21 +25,31 @@ pub fn measure() {
         return;
     };
     for flips in [0, 3] {
-        let words = inputs::headers(flips);
-        let reversed: Vec<u32> = words.iter().map(|&word| reverse(word)).collect();
-        for (&word, &other) in words.iter().zip(&reversed) {
-            let (_, address, index, _) = against::read_header(word);
-            let corrected = reverse(decode(other));
-            assert_eq!(corrected % 4096, u32::from(address) + u32::from(index) * 1024, "both correct {word}");
-        }
-        let ours = || words.iter().map(|&word| flips_in(against::read_header(word))).sum();
-        let theirs = || reversed.iter().map(|&word| u64::from((decode(word) ^ word).count_ones())).sum();
-        Row::measure(words.len(), ours, theirs).print(&format!("header, {flips} flips, beside libcodec2"));
+        beside(&format!("header, {flips} flips, beside libcodec2"), &inputs::headers(flips), header, &decode);
+        beside(&format!("word, {flips} flips, beside libcodec2"), &inputs::words(flips), word, &decode);
     }
 }
 
-fn flips_in((_, _, _, flips): (u8, u16, u8, u8)) -> u64 {
-    flips.into()
+/// Both sides give the ones of the information: as many, whichever way round it stands. Of a word theirs is given the first 23 bits.
+fn beside(name: &str, words: &[u32], ours: fn(u32) -> u32, decode: &impl Fn(u32) -> u32) {
+    let reversed: Vec<u32> = words.iter().map(|&word| reverse(word % (1 << WIDTH))).collect();
+    let theirs = |other: u32| (decode(other) >> (WIDTH - INFORMATION)).count_ones();
+    for (&word, &other) in words.iter().zip(&reversed) {
+        assert_eq!(ours(word), theirs(other), "both correct {word}");
+    }
+    let mine = || words.iter().map(|&word| u64::from(ours(word))).sum();
+    let other = || reversed.iter().map(|&word| u64::from(theirs(word))).sum();
+    Row::measure(words.len(), mine, other).print(name);
+}
+
+fn header(n: u32) -> u32 {
+    let (_, address, index, _) = against::read_header(n);
+    address.count_ones() + index.count_ones()
+}
+
+fn word(n: u32) -> u32 {
+    let (_, information, _) = against::read_word(n);
+    information.count_ones()
 }
 
 fn reverse(word: u32) -> u32 {

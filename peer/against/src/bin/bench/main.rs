@@ -18,11 +18,13 @@ fn main() {
     rounds::heading();
     words("read word, clean", &inputs::words(0));
     words("read word, 3 flips", &inputs::words(3));
+    headers("read header, clean", &inputs::headers(0));
+    headers("read header, 3 flips", &inputs::headers(3));
     images("received plain, clean", false, &inputs::plain());
     images("received protected, clean", true, &inputs::protected(0));
     let damaged = inputs::protected(3);
     images("received protected, 3 flips a word", true, &damaged);
-    for count in [1, 16] {
+    for count in [1, 8, 16] {
         packets("plain, clean", count, false, 0);
         packets("plain, header 3 flips", count, false, 3);
         packets("protected, clean", count, true, 0);
@@ -40,6 +42,16 @@ fn words(name: &str, words: &[u32]) {
     let ours = || read_all(against::read_word_into, words);
     let fast = || read_all(read, words);
     Row::measure(words.len(), ours, fast).print(name);
+}
+
+fn headers(name: &str, headers: &[u32]) {
+    let read = black_box(rival::READ_HEADER);
+    let sum = |(number, address, index, flips): (u8, u16, u8, u8)| {
+        u64::from(number) + u64::from(address) + u64::from(index) + u64::from(flips)
+    };
+    let ours = || headers.iter().map(|&header| sum(against::read_header(header))).sum();
+    let fast = || headers.iter().map(|&header| sum(read(header))).sum();
+    Row::measure(headers.len(), ours, fast).print(name);
 }
 
 fn images(name: &str, protected: bool, images: &[Image]) {
