@@ -6,7 +6,8 @@
 --   image-refused, image-placed       the answer with the bytes after, by the answer of those rows
 --   place-27, place-lt           27 by the code's test; where that fails, there is a slot of the address
 --   slot-served                  the answer with the state after, by what the lent slot answered
---   reading-at                   the reading by the slot's protection
+--   reading-typed, reading-protected, reading-plain     the reading by the packet's type and the slot's protection
+--   taken-as                     an answer with the slot after it, by another name of the reading
 --
 -- Assumes nothing.
 use mathlib.Core.Path.{_≡_, refl, sym, ap, ap₂, _∙_, subst}
@@ -22,8 +23,10 @@ use Rattle.bits.specs.Rows.{Row, row, refusal, further, done}
 use Rattle.bits.proofs.Rows.{refusal-hit, refusal-miss, refusal-passed, refusal-none, further-refused, further-passed, done-refused, done-passed}
 use Rattle.bits.proofs.Search.{and-right}
 use Rattle.image.specs.Image.{spareOf}
-use Rattle.packet.specs.Received.{received}
+use Rattle.words.specs.Protected.{dataRead}
+use Rattle.packet.specs.Received.{usefulOf, received, refusedAs, readableAs, dataAs}
 use Rattle.packet.specs.declared.Reading.{Reading}
+use Rattle.packet.proofs.Answers.{indexOf, typeNumber, IsData, answer-type, answer-plain, answer-protected}
 use Rattle.slot.specs.Slot.{slotSize, headOf}
 use Rattle.head.specs.declared.Head.{Head}
 use Rattle.table.specs.State.{slots, stateSize, slotAt, find}
@@ -169,9 +172,29 @@ module _ (s image : List ℕ) (a k : ℕ) (ea : a ≡ addressOf image) (ek : k �
             ∙ sym (done-passed (refusal (placeRow s image)) _ s (place-found t)),
       )
 
--- ---- the reading by the slot's protection
+-- ---- the reading, by the packet's type and the slot's protection
 
-pub reading-at : (h : Head) (x image : List ℕ) (r : Reading) → h ≡ headOf x
-    → r ≡ received (eqb (h .wish .protection) 1) image → r ≡ readingAt x image
-unfolding readingAt
-reading-at h x image r e q = q ∙ ap (λ (y : Head). received (eqb (y .wish .protection) 1) image) e
+module _ (h : Head) (x image : List ℕ) (e : h ≡ headOf x) where
+  reading-at : (r : Reading) → r ≡ received (eqb (h .wish .protection) 1) image → r ≡ readingAt x image
+  unfolding readingAt
+  reading-at r q = q ∙ ap (λ (y : Head). received (eqb (y .wish .protection) 1) image) e
+
+  pub reading-typed : length image ≡ 94 → (n : ℕ) → n ≡ typeNumber image → (n ≡ 0 → ⊥) → refusedAs n 0 ≡ readingAt x image
+  reading-typed l n q ne = reading-at (refusedAs n 0) (sym (answer-type (eqb (h .wish .protection) 1) image l n q ne))
+
+  module _ (d : IsData image) (i : ℕ) (u : List ℕ) (ei : i ≡ indexOf image) (eu : u ≡ usefulOf image) where
+    pub reading-protected : h .wish .protection ≡ 1 → dataAs i (dataRead u) ≡ readingAt x image
+    reading-protected p =
+        reading-at (dataAs i (dataRead u))
+        (ap₂ (λ (j : ℕ) (v : List ℕ). dataAs j (dataRead v)) ei eu ∙ sym (answer-protected image d)
+        ∙ ap (λ (b : Bool). received b image) (sym (eq-eqb (h .wish .protection) 1 p)))
+
+    pub reading-plain : (h .wish .protection ≡ 1 → ⊥) → readableAs i u ≡ readingAt x image
+    reading-plain p =
+        reading-at (readableAs i u)
+        (ap₂ readableAs ei eu ∙ sym (answer-plain image d) ∙ ap (λ (b : Bool). received b image) (sym (ne-eqb (h .wish .protection) 1 p)))
+
+-- an answer with the slot after it, by another name of the reading and of the head
+pub taken-as : (r q : Reading) (h g : Head) (s : List ℕ) (y : Answer) (t : List ℕ) → r ≡ q → h ≡ g
+    → (y ≡ taken r h) × (t ≡ takenAfter r s) → (y ≡ taken q g) × (t ≡ takenAfter q s)
+taken-as r q h g s y t er eh e = (e .0 ∙ ap₂ taken er eh, e .1 ∙ ap (λ (z : Reading). takenAfter z s) er)

@@ -212,8 +212,7 @@ third-place =
 third-read : received true third ≡ refusedAs 31 2
 unfolding typeOf typeNear flips ones onesIn bytesOf written imageOf numbersIn number bitsOf sent blank word23 remainder divide line less
 third-read =
-    let kind = isData third 0 refl (lit< tt) refl (λ q. omega (arith, q)) (λ q. omega (arith, q)) (λ q. omega (arith, q)) in
-    answer-protected third kind
+    answer-protected third (isData third refl refl)
     ∙ data-short (indexOf third) (dataRead (usefulOf third)) (subst (λ (n : ℕ). n < 30) (sym third-place) (lit< tt))
     ∙ ap (refusedAs 31) third-place
 

@@ -7,16 +7,21 @@ ghost use lib.ListN.{length};
 ghost use Rattle.bits.specs.Rows.{refusal, done};
 ghost use Rattle.bare.specs.Bare.{headerRead};
 ghost use Rattle.image.specs.Image.{headerOf};
+ghost use Rattle.words.specs.Protected.{dataRead};
+ghost use Rattle.packet.specs.Received.{dataAs};
 ghost use Rattle.slot.specs.Slot.{slotSize, headOf};
 ghost use Rattle.table.specs.State.{stateSize};
 ghost use Rattle.group.specs.Group.{taken, takenAfter};
 ghost use Rattle.adapter.specs.Calls.{readingAt, slotAnswered, slotAfter, refusedAnswer, answeredBy, packetAnswered, packetAnswer, packetAfter, imageRows, placeRow};
 use bare::Header;
+use faults::Faults;
 use group::Answer;
+use head::Head;
 use image::Packet;
 use slot::Slot;
 use table::Table;
 use table::look;
+use words::Data;
 
 pub mod write;
 
@@ -85,7 +90,7 @@ fn arrived(state: &mut [u8], header: Header, image: &[u8]) -> Answer
     served(&mut state[at..at + Slot::SIZE], header, image)
 }
 
-// What the slot of its address answers to an image: the one function on its bytes and what the image is received as.
+// What the slot of its address answers to an image, by its type, and then by the slot's protection.
 fn served(slot: &mut [u8], header: Header, image: &[u8]) -> Answer
     requires { ⌜ length (now slot) ≡ slotSize ⌝ }
     requires { ⌜ header ≡ headerRead (headerOf (now image)) ⌝ }
@@ -94,6 +99,32 @@ fn served(slot: &mut [u8], header: Header, image: &[u8]) -> Answer
     ensures { λ _. ⌜ now (slot .exit) ≡ takenAfter (readingAt (now (slot .entry)) (now (image .entry))) (now (slot .entry)) ⌝ }
 {
     let head = Slot::load(slot);
-    let reading = packet::received_by(header, head.wish.protection == 1, image);
-    group::taken(slot, head, reading)
+    let number = packet::type_refusal(image);
+    if number != 0 {
+        return group::refused(slot, head, number, 0);
+    }
+    let useful = image::useful(image);
+    if head.wish.protection == 1 {
+        protected(slot, head, header.index, &useful)
+    } else {
+        group::taken(slot, head, header.index, &useful)
+    }
+}
+
+// What a protected slot answers to a data packet: 31 with the place of its word, or by the 45 bytes.
+fn protected(slot: &mut [u8], head: Head, index: u8, useful: &[u8]) -> Answer
+    requires { ⌜ length (now slot) ≡ slotSize ⌝ }
+    requires { ⌜ head ≡ headOf (now slot) ⌝ }
+    requires { ⌜ head .wish .protection ≡ 1 ⌝ }
+    requires { ⌜ length (now useful) ≡ 90 ⌝ }
+    ensures { λ r. ⌜ r ≡ taken (dataAs index (dataRead (now (useful .entry)))) head ⌝ }
+    ensures { λ _. ⌜ now (slot .exit) ≡ takenAfter (dataAs index (dataRead (now (useful .entry)))) (now (slot .entry)) ⌝ }
+{
+    let data = words::unprotect(useful);
+    let place = data.place;
+    if place < Data::ALL {
+        return group::refused(slot, head, Faults::WORD_UNREADABLE, place);
+    }
+    let bytes = data.bytes;
+    group::taken(slot, head, index, &bytes)
 }

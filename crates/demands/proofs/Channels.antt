@@ -16,12 +16,12 @@ use native.Mathlib.Omega.{arith}
 use borrow.Author.Tests.{eq-eqb, ne-eqb}
 use lib.Dec.{T, eqb}
 use lib.ListN.{length, take}
-use lib.Seq.{take-at}
 use Rattle.bits.specs.Bits.{flips}
 use Rattle.image.specs.Image.{headerOf, spareOf}
-use Rattle.packet.specs.Received.{received, readableAs, filled}
+use Rattle.packet.specs.Received.{received, readableAs}
 use Rattle.packet.specs.Damage.{dataSize, sentImage, Came, Refused}
 use Rattle.packet.specs.declared.Reading.{Reading}
+use Rattle.packet.proofs.Answers.{filled-begins}
 use Rattle.packet.proofs.Damages.{header-came, received-came}
 use Rattle.faults.specs.Faults.{faultOf}
 use Rattle.history.specs.Followed as one
@@ -49,14 +49,13 @@ module _ (p : Bool) (a c : ℕ) (d image : List ℕ) (ha : a ≤ 1023) (hc : c <
   }
 
   pub came-event : received p image .number ≡ 0 → eventOf p image ≡ one.packet c d
-  unfolding filled
   came-event z = event-read p image z ∙ go (received-came p a c d image ha (omega arith) l b came)
     where
       go : (received p image ≡ readableAs c d) ⊎ Refused (received p image)
           → one.packet (received p image .index) (take (dataSize p) (received p image .bytes)) ≡ one.packet c d
       go (inl e) =
           ap (λ (r : Reading). one.packet (r .index) (take (dataSize p) (r .bytes))) e
-          ∙ ap (one.packet c) (take-at d _ (dataSize p) l)
+          ∙ ap (one.packet c) (filled-begins (dataSize p) d l)
       go (inr f) = absurd (refused-not-zero (received p image) f z)
 
 -- ---- arrivals

@@ -22,10 +22,11 @@ use lib.Seq.{take-at, drop-at, take-all, drop-drop}
 use Rattle.bits.proofs.Rows.{done-passed}
 use Rattle.bits.proofs.Runs.{below-take, below-drop}
 use Rattle.image.specs.Image.{spareOf}
-use Rattle.packet.specs.Received.{received, filled, readableAs}
+use Rattle.packet.specs.Received.{received, readableAs}
 use Rattle.packet.specs.Damage.{dataSize, sentImage, Corrected}
 use Rattle.packet.specs.Damage as damage
 use Rattle.packet.specs.declared.Reading.{Reading}
+use Rattle.packet.proofs.Answers.{filled-begins}
 use Rattle.packet.proofs.Damages.{header-came, received-corrected, sent-corrected, sent-spare}
 use Rattle.runs.specs.Part.{part}
 use Rattle.slot.specs.Slot.{headOf}
@@ -170,11 +171,6 @@ after-protection i d f = ap (λ (w : Wish). w .protection) (moved-wish (moveOf (
 seen-protection : (s : List ℕ) (a : ℕ) (f : Followed) → view s a ≡ f → protectedAt s a ≡ eqb (f .head .wish .protection) 1
 unfolding view seenIn
 seen-protection s a f e = ap (λ (g : Followed). eqb (g .head .wish .protection) 1) e
-
--- what was filled up to 90 bytes begins with what was sent
-filled-begins : (n : ℕ) (d : List ℕ) → length d ≡ n → take n (filled 0 d) ≡ d
-unfolding filled
-filled-begins n d l = take-at d _ n l
 
 event-sent : (q : Bool) (i : ℕ) (d t : List ℕ) → received q t ≡ readableAs i d → length d ≡ dataSize q → eventOf q t ≡ one.packet i d
 event-sent q i d t e l =

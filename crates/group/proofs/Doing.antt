@@ -7,6 +7,8 @@
 --   start-does .. drop-does        the last steps of each row come to the row; out-drops: the last row is a drop
 --   row-does                       the row that was chosen, with its answer
 --   at-test, out-test              what the test for a packet out of step says
+--   dropped-long, refused-long     neither a drop nor a refusal makes the slot shorter
+--   refused-does                   a refusal drops by the code's test
 --   block-45, block-90             how many bytes a packet brings; block-le: at most 90
 --   taken-refused, taken-moved     the number with the slot after it, by the reading's number
 --   taken-told                     the number told with what it carries is the answer
@@ -34,6 +36,7 @@ use Rattle.head.specs.Move.{Move, started, held, whole, outOfStep, moveNumber, 
 use Rattle.head.specs.declared.Head.{Head}
 use Rattle.runs.proofs.Parts.{put-part, put-length}
 use Rattle.slot.proofs.Laws.{unfinished-room, unfinished-length}
+use Rattle.slot.proofs.Heads.{withHead-length}
 use Rattle.packet.specs.declared.Reading.{Reading}
 use Rattle.faults.specs.Faults.{numberDrops}
 use Rattle.group.specs.declared.Answer.{Answer}
@@ -127,6 +130,27 @@ pub drop-does : (s : List ℕ) (h : Head) → h ≡ headOf s → (t v : List ℕ
     → v ≡ withHead g t → v ≡ slotDropped s
 unfolding slotDropped
 drop-does s h e t v g et eg ev = ev ∙ ap₂ withHead (eg ∙ ap droppedHead e) et
+
+pub dropped-long : (s : List ℕ) → length s ≡ slotSize → length (slotDropped s) ≡ slotSize
+unfolding slotDropped
+dropped-long s l =
+    let emptied : length (withUnfinished (blank roomSize) s) ≡ slotSize = unfinished-length (blank roomSize) s l (blank-length roomSize) ∙ l in
+    withHead-length (droppedHead (headOf s)) (withUnfinished (blank roomSize) s) emptied ∙ emptied
+
+-- a refusal drops by its number
+pub refused-does : (n : ℕ) (s t : List ℕ) (d : Bool) → d ≡ numberDrops n
+    → ((d ≡ true) × (t ≡ slotDropped s)) ⊎ ((d ≡ false) × (t ≡ s)) → t ≡ refusedAfter n s
+unfolding refusedAfter
+refused-does n s t d e (inl (h, et)) = et ∙ sym (ap (λ (b : Bool). cond b (slotDropped s) s) (sym e ∙ h))
+refused-does n s t d e (inr (h, et)) = et ∙ sym (ap (λ (b : Bool). cond b (slotDropped s) s) (sym e ∙ h))
+
+pub refused-long : (n : ℕ) (s : List ℕ) → length s ≡ slotSize → length (refusedAfter n s) ≡ slotSize
+unfolding refusedAfter
+refused-long n s l = go (numberDrops n)
+  where
+    go : (b : Bool) → length (cond b (slotDropped s) s) ≡ slotSize
+    go true = dropped-long s l
+    go false = l
 
 -- the row that was chosen, with its answer
 pub row-does : (mv : Move) (h : Head) (i n : ℕ) (b s v : List ℕ) → rowAt h i ≡ mv → n ≡ moveNumber mv → v ≡ slotMoved mv (placeAt h i) b s

@@ -19,7 +19,7 @@ use lib.ListN.{length, length-append}
 use Rattle.bits.specs.Bits.{blank}
 use Rattle.bits.proofs.Storing.{blank-length}
 use Rattle.runs.specs.Part.{part, put}
-use Rattle.slot.specs.Slot.{roomSize, slotSize, headOf, withHead, unfinished, stored, withUnfinished, withStored, keptRoom}
+use Rattle.slot.specs.Slot.{roomSize, slotSize, headOf, unfinished, stored, withUnfinished, withStored, keptRoom}
 use Rattle.head.specs.Head.{droppedHead, goodHead}
 use Rattle.head.specs.Move.{Move, started, held, whole, outOfStep, needsOf, movedHead, rowAt, placeAt}
 use Rattle.head.specs.declared.Head.{Head}
@@ -30,7 +30,7 @@ use Rattle.slot.proofs.Goods.{good-load}
 use Rattle.head.proofs.Bounds.{good-started, good-held, good-whole, good-dropped}
 use Rattle.head.proofs.Moves.{Row, row-at, place-below, per-bounds, needs-bounds}
 use Rattle.group.specs.Group.{blockOf, placed, begunRoom, slotJoined, roomsKept, roomsMoved, slotMoved, slotDropped}
-use Rattle.group.proofs.Doing.{begun-length, room-length, joined-length, block-le}
+use Rattle.group.proofs.Doing.{begun-length, room-length, joined-length, dropped-long, block-le}
 
 pub record Fits (mv : Move) (c : ℕ) (b x : List ℕ) : Type 0 where
   pub size : length x ≡ slotSize
@@ -216,8 +216,7 @@ module _ (x : List ℕ) (l : length x ≡ slotSize) (g : goodHead (headOf x) ≡
   emptied = unfinished-length (blank roomSize) x l (blank-length roomSize) ∙ l
 
   pub dropped-size : length (slotDropped x) ≡ slotSize
-  unfolding slotDropped
-  dropped-size = withHead-length (droppedHead (headOf x)) (withUnfinished (blank roomSize) x) emptied ∙ emptied
+  dropped-size = dropped-long x l
 
   pub dropped-head : headOf (slotDropped x) ≡ droppedHead (headOf x)
   unfolding slotDropped

@@ -1,16 +1,16 @@
-// One packet at the slot of its address: section 4's table on the slot's bytes. It knows no other slot. The answer passes
-// `taken` and no other place; all gap marks are made by `dropped` and by a start.
+// One packet at the slot of its address: section 4's table on the slot's bytes. It knows no other slot. The answer passes `refused`
+// or `taken` and no other place; all gap marks are made by `dropped` and by a start.
 ghost use mathlib.Core.Path.{_≡_};
 ghost use Prim.Native.Nat.{_<_, _≤_};
 ghost use lib.ListN.{length};
 ghost use Rattle.slot.specs.Slot.{slotSize, roomSize, headOf, withHead};
 ghost use Rattle.head.specs.Head.{wholeHead};
 ghost use Rattle.head.specs.Move.{moveNumber, rowAt, placeAt};
-ghost use Rattle.group.specs.Group.{blockOf, slotJoined, roomsKept, slotMoved, slotDropped, refusedAfter, answerOf, taken, takenNumber, takenAfter};
+ghost use Rattle.packet.specs.Received.{refusedAs, readableAs};
+ghost use Rattle.group.specs.Group.{blockOf, slotJoined, roomsKept, slotMoved, slotDropped, answerOf, taken, takenAfter};
 use faults::Faults;
 use head::Head;
 use image::Packet;
-use packet::Reading;
 use slot::Slot;
 use slot::room;
 
@@ -36,17 +36,31 @@ pub struct Answer {
     pub came: u8,
 }
 
-// What the slot of its address answers to what a packet was received as. The index awaited is that of the head before the
-// packet, since a packet out of step makes the slot await 0.
-pub fn taken(slot: &mut [u8], head: Head, reading: Reading) -> Answer
+// A refused packet, with the place of its word: by its number it drops the unfinished group, or leaves the slot.
+pub fn refused(slot: &mut [u8], head: Head, number: u8, place: u8) -> Answer
     requires { ⌜ length (now slot) ≡ slotSize ⌝ }
     requires { ⌜ head ≡ headOf (now slot) ⌝ }
-    requires { ⌜ length (reading .bytes) ≡ 90 ⌝ }
-    ensures { λ r. ⌜ r ≡ taken reading head ⌝ }
-    ensures { λ _. ⌜ now (slot .exit) ≡ takenAfter reading (now (slot .entry)) ⌝ }
+    requires { ⌜ (number ≡ 0 → ⊥) ⌝ }
+    ensures { λ r. ⌜ r ≡ taken (refusedAs number place) head ⌝ }
+    ensures { λ _. ⌜ now (slot .exit) ≡ takenAfter (refusedAs number place) (now (slot .entry)) ⌝ }
 {
-    let number = numbered(slot, head, reading);
-    told(number, reading.place, head.awaited, reading.index)
+    if Faults::drop(number) {
+        dropped(slot, head);
+    }
+    told(number, place, head.awaited, 0)
+}
+
+// A readable data packet: 1 started, 2 held, 3 whole, or 32. The index awaited is that of the head before the packet, since a packet
+// out of step makes the slot await 0.
+pub fn taken(slot: &mut [u8], head: Head, index: u8, bytes: &[u8]) -> Answer
+    requires { ⌜ length (now slot) ≡ slotSize ⌝ }
+    requires { ⌜ head ≡ headOf (now slot) ⌝ }
+    requires { ⌜ length (now bytes) ≡ blockOf head ⌝ }
+    ensures { λ r. ⌜ r ≡ taken (readableAs index (now (bytes .entry))) head ⌝ }
+    ensures { λ _. ⌜ now (slot .exit) ≡ takenAfter (readableAs index (now (bytes .entry))) (now (slot .entry)) ⌝ }
+{
+    let number = moved(slot, head, index, bytes);
+    told(number, 0, head.awaited, index)
 }
 
 // The two indices are told only where they are why the packet was refused.
@@ -69,47 +83,7 @@ fn told(number: u8, place: u8, awaited: u8, came: u8) -> Answer
     }
 }
 
-// The number: 1 started, 2 held, 3 whole, 32, or the packet's own refusal.
-fn numbered(slot: &mut [u8], head: Head, reading: Reading) -> u8
-    requires { ⌜ length (now slot) ≡ slotSize ⌝ }
-    requires { ⌜ head ≡ headOf (now slot) ⌝ }
-    requires { ⌜ length (reading .bytes) ≡ 90 ⌝ }
-    ensures { λ r. ⌜ r ≡ takenNumber reading head ⌝ }
-    ensures { λ _. ⌜ now (slot .exit) ≡ takenAfter reading (now (slot .entry)) ⌝ }
-{
-    let number = reading.number;
-    if number != 0 {
-        refused(slot, head, number);
-        return number;
-    }
-    let bytes = reading.bytes;
-    let len = block(head);
-    moved(slot, head, reading.index, &bytes[..len])
-}
-
-// A refused packet: by its number it drops the unfinished group, or leaves the slot.
-fn refused(slot: &mut [u8], head: Head, number: u8)
-    requires { ⌜ length (now slot) ≡ slotSize ⌝ }
-    requires { ⌜ head ≡ headOf (now slot) ⌝ }
-    ensures { λ _. ⌜ now (slot .exit) ≡ refusedAfter number (now (slot .entry)) ⌝ }
-{
-    if Faults::drop(number) {
-        dropped(slot, head);
-    }
-}
-
-// How many bytes a packet brings.
-fn block(head: Head) -> usize
-    ensures { λ r. ⌜ r ≡ blockOf head ⌝ }
-{
-    if head.wish.protection == 1 {
-        Group::PROTECTED
-    } else {
-        Group::PLAIN
-    }
-}
-
-// A readable data packet: the row of section 4's table, by the packet's place in its group.
+// The row of section 4's table, by the packet's place in its group.
 fn moved(slot: &mut [u8], head: Head, index: u8, bytes: &[u8]) -> u8
     requires { ⌜ length (now slot) ≡ slotSize ⌝ }
     requires { ⌜ head ≡ headOf (now slot) ⌝ }

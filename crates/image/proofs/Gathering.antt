@@ -1,6 +1,7 @@
 -- What shifts and masks gather: the code's expressions are the numbers of the definitions.
 --
 --   header-gathered, spare-gathered, byte-gathered     the header, the spare bit and the 91 bytes of an image's bytes
+--   useful-gathered        the bytes behind the first, counted from 0
 --   first-three, next-byte, last-byte      an image's bytes from the header and the 91 bytes
 --
 -- Assumes nothing.
@@ -13,7 +14,7 @@ use native.Mathlib.Numerals.{add-one}
 use lib.Bits.{bitAnd, bitOr, and-mask}
 use lib.Dec.{lit<, lit≤}
 use lib.ListN.{length, take, drop, getD, drop-of-length-le, List·getD-eq-default}
-use lib.Seq.{drop-drop, drop-append-le}
+use lib.Seq.{drop-drop, drop-append-le, getD-drop}
 use Rattle.bits.specs.Bits.{bitsOf, number, sent}
 use Rattle.bits.proofs.Runs.{Below, below-cat, bitsOf-length, number-bits-small, number-cat, number-ends, number-take, number-drop, number-at, digit, sent-below, sent-drop, sent-length, numbersIn-at, or-above}
 use Rattle.bits.proofs.Storing.{stored}
@@ -66,6 +67,13 @@ module _ (s : List ℕ) (h : Below 256 s) where
         where
           one-on : (j : ℕ) → suc (j + 2) ≡ j + 3
           one-on j = omega arith
+
+  pub useful-gathered : (j : ℕ) → j < 90 → bitOr (getD s (j + 3) 0 / 128) ((bitAnd (getD s (j + 4) 0) 127 * 2) % 256) ≡ getD (drop 1 (bytesOf s)) j 0
+  useful-gathered j hj =
+      let high : j + 3 ≡ 1 + j + 2 = omega arith in
+      let low : j + 4 ≡ 1 + j + 3 = omega arith in
+      ap₂ (λ (x y : ℕ). bitOr (getD s x 0 / 128) ((bitAnd (getD s y 0) 127 * 2) % 256)) high low
+      ∙ byte-gathered (1 + j) (omega arith) ∙ sym (getD-drop 1 (bytesOf s) j 0)
 
 -- ---- of a header and bytes
 

@@ -3,7 +3,7 @@
 --   sent-image      what an image is sent as: the header's bits, the bytes' bits, a bit 0
 --   image-length, image-bytes          94 bytes
 --   header-image, bytes-image, spare-image     what an image was made of is read of it
---   header-lt, bytes-length, bytes-lt, spare-lt     the sizes of what is read
+--   header-lt, bytes-length, bytes-lt, useful-length, spare-lt     the sizes of what is read
 --   image-whole     an image whose spare bit is 0 is made of what is read of it
 --   type-bits, useful-bits     where the type byte and the 90 useful bytes stand in order of transmission
 --
@@ -89,6 +89,9 @@ bytes-length s = numbersIn-length 8 91 (drop 23 (sent 8 s))
 pub bytes-lt : (s : List ℕ) → Below 256 (bytesOf s)
 unfolding bytesOf
 bytes-lt s = numbersIn-below 8 91 (drop 23 (sent 8 s)) (below-drop 23 (sent 8 s) (sent-below 8 s))
+
+pub useful-length : (s : List ℕ) → length (drop 1 (bytesOf s)) ≡ 90
+useful-length s = length-drop 1 (bytesOf s) ∙ omega (arith, bytes-length s)
 
 pub type-bits : (s : List ℕ) → getD (bytesOf s) 0 0 ≡ number (take 8 (drop 23 (sent 8 s)))
 unfolding bytesOf

@@ -2,7 +2,7 @@
 // image made of a header number and 91 bytes. It knows no code and no state.
 ghost use mathlib.Core.Path.{_≡_};
 ghost use Prim.Native.Nat.{_^_, _<_};
-ghost use lib.ListN.{length};
+ghost use lib.ListN.{length, getD, drop};
 ghost use Rattle.image.specs.Image.{headerOf, bytesOf, spareOf, imageOf};
 
 // Sizes of a packet (4.3.6): its image; the useful bytes, and these with the type byte.
@@ -32,19 +32,27 @@ pub fn spare(image: &[u8]) -> u8
     image[93] >> 7
 }
 
-// The type byte and the 90 useful bytes. The header ends one bit before the end of image byte 2, so each of them is the highest
-// bit of one image byte and the seven lower bits of the next; bit 751 is in none.
-pub fn bytes(image: &[u8]) -> [u8; Packet::BYTES]
+// The type byte. The header ends one bit before the end of image byte 2, so this byte and each that follows is the highest bit of
+// one image byte and the seven lower bits of the next; bit 751 is in none.
+pub fn kind(image: &[u8]) -> u8
     requires { ⌜ length (now image) ≡ 94 ⌝ }
-    ensures { λ r. ⌜ r ≡ bytesOf (now (image .entry)) ⌝ }
+    ensures { λ r. ⌜ r ≡ getD (bytesOf (now (image .entry))) 0 0 ⌝ }
 {
-    let mut bytes = [0u8; Packet::BYTES];
+    image[2] >> 7 | (image[3] & 127) << 1
+}
+
+// The 90 useful bytes.
+pub fn useful(image: &[u8]) -> [u8; Packet::USEFUL]
+    requires { ⌜ length (now image) ≡ 94 ⌝ }
+    ensures { λ r. ⌜ r ≡ drop 1 (bytesOf (now (image .entry))) ⌝ }
+{
+    let mut useful = [0u8; Packet::USEFUL];
     let mut j = 0;
-    while j < Packet::BYTES {
-        bytes[j] = image[j + 2] >> 7 | (image[j + 3] & 127) << 1;
+    while j < Packet::USEFUL {
+        useful[j] = image[j + 3] >> 7 | (image[j + 4] & 127) << 1;
         j += 1;
     }
-    bytes
+    useful
 }
 
 // The image of a header and 91 bytes.

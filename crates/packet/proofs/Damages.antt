@@ -14,7 +14,7 @@ use mathlib.Core.List.{List, [], _∷_}
 use mathlib.Core.Logic.{_⊎_, inl, inr}
 use Prim.Native.Nat.{ℕ, suc, _+_, _*_, _/_, _%_, _≤_, _<_}
 use native.Mathlib.Omega.{arith}
-use native.Mathlib.Decide.{decLt, ℕ-discrete}
+use native.Mathlib.Decide.{decLt}
 use native.Mathlib.Nat.{le-trans}
 use lib.ListN.{length, getD, drop, length-map}
 use lib.Seq.{ext-getD}
@@ -35,11 +35,10 @@ use Rattle.words.specs.Protected.{protected, wordsOf, informations, failed, dat
 use Rattle.words.specs.declared.Words.{Words}
 use Rattle.words.proofs.Each.{failed-pass, failed-le, words-whole, failed-whole}
 use Rattle.words.proofs.Packing.{words-protected, words-length, data-segments, segments-below, segments-length, protected-length, protected-below}
-use Rattle.faults.specs.Faults as fault
-use Rattle.packet.specs.Received.{typeOf, usefulOf, received, written, refusedAs, readableAs}
+use Rattle.packet.specs.Received.{typeOf, usefulOf, received, written, readableAs}
 use Rattle.packet.specs.Damage.{dataSize, carried, sentImage, Kept, Came, Corrected, Refused}
 use Rattle.packet.specs.declared.Reading.{Reading}
-use Rattle.packet.proofs.Answers.{indexOf, answer-unreadable, answer-control, answer-reserved, answer-scrambled, answer-plain, answer-protected, IsData, isData, data-short, data-whole}
+use Rattle.packet.proofs.Answers.{indexOf, answer-plain, answer-protected, IsData, isData, by-type, data-short, data-whole}
 
 -- ---- what a sent image holds
 
@@ -158,29 +157,6 @@ unfolding informations
 whole-of u h =
     omega (arith, place-of u, failed-le (informations (wordsOf u)), length-map (wordsOf u) (nearest word24), words-length u)
 
--- by its type a packet is refused, or it is a data packet
-by-type : (p : Bool) (t : List ℕ) → length t ≡ 94 → Refused (received p t) ⊎ IsData t
-by-type p t l = unread (decLt (typeOf t) 256)
-  where
-    numbered : (n : ℕ) (r : Reading) → received p t ≡ r → r .number ≡ n → received p t .number ≡ n
-    numbered n r e q = ap (λ (x : Reading). x .number) e ∙ q
-
-    scrambled : typeOf t < 256 → (typeOf t ≡ 0x3F → ⊥) → (typeOf t ≡ 0xC7 → ⊥) → Dec (typeOf t ≡ 0xF8) → Refused (received p t) ⊎ IsData t
-    scrambled h a b (yes e) = inl (inr (inr (inr (inl (numbered (fault.number fault.typeScrambled) (refusedAs (fault.number fault.typeScrambled) 0) (answer-scrambled p t l e) refl)))))
-    scrambled h a b (no e) = inr (isData t (typeOf t) l h refl a b e)
-
-    reserved : typeOf t < 256 → (typeOf t ≡ 0x3F → ⊥) → Dec (typeOf t ≡ 0xC7) → Refused (received p t) ⊎ IsData t
-    reserved h a (yes e) = inl (inr (inr (inl (numbered (fault.number fault.typeReserved) (refusedAs (fault.number fault.typeReserved) 0) (answer-reserved p t l e) refl))))
-    reserved h a (no e) = scrambled h a e (ℕ-discrete (typeOf t) 0xF8)
-
-    control : typeOf t < 256 → Dec (typeOf t ≡ 0x3F) → Refused (received p t) ⊎ IsData t
-    control h (yes e) = inl (inr (inl (numbered (fault.number fault.typeControl) (refusedAs (fault.number fault.typeControl) 0) (answer-control p t l e) refl)))
-    control h (no e) = reserved h e (ℕ-discrete (typeOf t) 0xC7)
-
-    unread : Dec (typeOf t < 256) → Refused (received p t) ⊎ IsData t
-    unread (yes h) = control h (ℕ-discrete (typeOf t) 0x3F)
-    unread (no h) = inl (inl (numbered (fault.number fault.typeUnreadable) (refusedAs (fault.number fault.typeUnreadable) 0) (answer-unreadable p t l (omega arith)) refl))
-
 -- a data packet whose useful bytes came with at most four flips a word
 data-came : (p : Bool) (t d : List ℕ) (i : ℕ) → IsData t → indexOf t ≡ i → length d ≡ dataSize p → Below 256 d
     → Kept 4 p (carried p d) (usefulOf t) → (received p t ≡ readableAs i d) ⊎ Refused (received p t)
@@ -210,7 +186,7 @@ type-kept : (t : List ℕ) → length t ≡ 94 → flips 0x00 (getD (bytesOf t) 
 unfolding typeOf
 type-kept t l f =
     let e : typeOf t ≡ 0x00 = within-near 0 (getD (bytesOf t) 0 0) (omega arith) (bytes-lt t 0) f in
-    isData t 0x00 l (omega (arith, e)) (sym e) (λ q. omega (arith, q)) (λ q. omega (arith, q)) (λ q. omega (arith, q))
+    isData t l e
 
 data-corrected : (p : Bool) (t d : List ℕ) (i : ℕ) → IsData t → indexOf t ≡ i → length d ≡ dataSize p → Below 256 d
     → Kept 3 p (carried p d) (usefulOf t) → received p t ≡ readableAs i d

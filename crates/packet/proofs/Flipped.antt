@@ -43,7 +43,7 @@ use Rattle.words.proofs.Packing.{words-protected, words-length, segments-below,
 use Rattle.packet.specs.Received.{typeOf, usefulOf, received, written, readableAs}
 use Rattle.packet.specs.Damage.{sentImage, Kept, Came}
 use Rattle.packet.specs.declared.Reading.{Reading}
-use Rattle.packet.proofs.Answers.{indexOf, answer-control, answer-protected, isData, data-short}
+use Rattle.packet.proofs.Answers.{indexOf, number-control, answer-type, answer-protected, isData, data-short}
 use Rattle.packet.proofs.Damages.{sent-header, sent-useful, received-corrected}
 
 -- ---- the image
@@ -249,13 +249,13 @@ module _ (a c : ℕ) (d : List ℕ) (x : Flipping) (z : Fits a c d x) where
   pub flipped-short : typeNear types (x .type) ≡ 0x00 → ones (x .word) ≡ 4 → received true (flipped a c d x) .number ≡ 31
   flipped-short plain four =
       let t : typeOf (flipped a c d x) ≡ 0x00 = type-with ∙ plain in
-      let is = isData (flipped a c d x) 0x00 flipped-size (omega (arith, t)) (sym t) (λ q. omega (arith, q)) (λ q. omega (arith, q)) (λ q. omega (arith, q)) in
+      let is = isData (flipped a c d x) flipped-size t in
       ap (λ (r : Reading). r .number) (answer-protected (flipped a c d x) is
       ∙ data-short (indexOf (flipped a c d x)) (dataRead (usefulOf (flipped a c d x))) (short four))
 
   pub flipped-control : typeNear types (x .type) ≡ 0x3F → received true (flipped a c d x) .number ≡ 29
   flipped-control control =
-      ap (λ (r : Reading). r .number) (answer-control true (flipped a c d x) flipped-size (type-with ∙ control))
+      ap (λ (r : Reading). r .number) (answer-type true (flipped a c d x) flipped-size 29 (number-control (flipped a c d x) (type-with ∙ control)) (λ z. omega (arith, z)))
 
 -- ---- the spare bit
 

@@ -1,11 +1,13 @@
 // A packet: what its type byte and data are read as, and the image that is written. It knows no state.
 ghost use mathlib.Core.Path.{_≡_};
+ghost use mathlib.Core.Bool.{false};
+ghost use mathlib.Core.List.{[], _∷_};
 ghost use Prim.Native.Nat.{_<_, _≤_};
 ghost use lib.ListN.{length};
-ghost use Rattle.bare.specs.Bare.{headerRead};
-ghost use Rattle.image.specs.Image.{headerOf};
+ghost use Rattle.bits.specs.Rows.{refusal};
+ghost use Rattle.faults.specs.Faults.{typeUnreadable, typeControl, typeReserved, typeScrambled, rowsBy};
 ghost use Rattle.words.specs.Protected.{dataRead};
-ghost use Rattle.packet.specs.Received.{received, written, refusedAs, readableAs, dataAs};
+ghost use Rattle.packet.specs.Received.{hasFault, received, written, refusedAs, readableAs, dataAs};
 use bare::Header;
 use bare::TypeByte;
 use faults::Faults;
@@ -29,36 +31,39 @@ pub fn received(protected: bool, image: &[u8]) -> Reading
     if image.len() != Packet::IMAGE {
         return refused(20, 0);
     }
+    let number = type_refusal(image);
+    if number != 0 {
+        return refused(number, 0);
+    }
     let header = bare::read_header(image::header(image));
-    received_by(header, protected, image)
+    let useful = image::useful(image);
+    if protected {
+        unprotected(header.index, &useful)
+    } else {
+        readable(header.index, &useful)
+    }
 }
 
-// The same once the header is read.
-pub fn received_by(header: Header, protected: bool, image: &[u8]) -> Reading
-    requires { ⌜ header ≡ headerRead (headerOf (now image)) ⌝ }
+// What the type byte refuses: 28, 29 or 30, otherwise 0.
+pub fn type_refusal(image: &[u8]) -> u8
     requires { ⌜ length (now image) ≡ 94 ⌝ }
-    ensures { λ r. ⌜ r ≡ received protected (now (image .entry)) ⌝ }
+    ensures { λ r. ⌜ r ≡ refusal (rowsBy (hasFault false (now (image .entry))) (typeUnreadable ∷ typeControl ∷ typeReserved ∷ typeScrambled ∷ [])) ⌝ }
 {
-    let bytes = image::bytes(image);
-    let kind = bare::read_type(bytes[0]);
+    let kind = bare::read_type(image::kind(image));
     if kind.number != 0 {
-        return refused(Faults::TYPE_UNREADABLE, 0);
+        return Faults::TYPE_UNREADABLE;
     }
     let value = kind.value;
     if value == TypeByte::CONTROL {
-        return refused(Faults::TYPE_CONTROL, 0);
+        return Faults::TYPE_CONTROL;
     }
     if value == TypeByte::RESERVED {
-        return refused(Faults::TYPE_RESERVED, 0);
+        return Faults::TYPE_RESERVED;
     }
     if value == TypeByte::SCRAMBLED {
-        return refused(Faults::TYPE_SCRAMBLED, 0);
+        return Faults::TYPE_SCRAMBLED;
     }
-    if protected {
-        unprotected(header.index, &bytes[1..91])
-    } else {
-        readable(header.index, &bytes[1..91])
-    }
+    0
 }
 
 // A refused packet, with the place of its word.

@@ -1,17 +1,24 @@
--- `group::taken` meets its contract: the number, told with what it carries. Assumes nothing.
-use Rattle.group.proofs.Doing.{taken-told}
+-- `group::taken` meets its contract: the row that is moved by, told with what it carries. Assumes nothing.
+use mathlib.Core.Path.{refl, sym}
+use native.Mathlib.Omega.{arith}
+use Rattle.packet.specs.Received.{readableAs}
+use Rattle.packet.proofs.Answers.{filled-begins}
+use Rattle.group.specs.Group.{blockOf}
+use Rattle.group.proofs.Doing.{taken-moved, taken-told, block-le}
 use borrow.Author.Needs.{needs}
 use Rattle.group.proofs.taken.Statement.{statement}
 use Rattle.group.proofs.taken.Tie as tie
 
-abbrev start : tie.After-numbered → tie.Start
-start c = c .before .before .before
+abbrev start : tie.After-moved → tie.Start
+start c = c .before .before .before .before
 
-abbrev number : tie.After-told → tie.After-numbered
-number c = c .before .before .before
+abbrev row : tie.After-told → tie.After-moved
+row c = c .before .before .before
 
-numbered-requires : tie.Need-numbered-requires
-numbered-requires c κs = search needs
+moved-requires : tie.Need-moved-requires
+moved-requires c κs =
+    let s = c .before .before .before in
+    (s .pre .0, (s .pre .1 .0, omega (arith, s .pre .1 .1, block-le (s .args .head))))
 
 told-requires : tie.Need-told-requires
 told-requires c κs = search needs
@@ -21,9 +28,14 @@ same-length c = search needs
 
 returns : tie.Need-returns
 returns c =
-    let n = number c in
-    let a = start n .args in
-    (taken-told (a .reading) (a .head) _ _ (n .numbered .ensures .0) (c .told .ensures), n .numbered .ensures .1)
+    let call = row c in
+    let s = start call in
+    let h = s .args .head in
+    let b = s .args .bytes .now in
+    let r = readableAs (s .args .index) b in
+    let t = taken-moved r h (s .args .slot .now) (s .pre .1 .0) _ b _ refl (call .moved .ensures .0)
+    (sym (filled-begins (blockOf h) b (s .pre .1 .1))) (call .moved .ensures .1) in
+    (taken-told r h _ _ (t .0) (c .told .ensures), t .1)
 
 pub taken-spec : {M : Type 1} → statement M
-taken-spec = tie.close (tie.spec numbered-requires told-requires same-length returns)
+taken-spec = tie.close (tie.spec moved-requires told-requires same-length returns)
