@@ -42,7 +42,7 @@ pub fn answered(state: &mut [u8], image: &[u8]) -> Answer
     if number != 0 {
         return refused(number);
     }
-    let header = bare::read_header(image::header(image));
+    let header = bare::near_header(image::header(image));
     arrived(state, header, image)
 }
 

@@ -35,7 +35,7 @@ pub fn received(protected: bool, image: &[u8]) -> Reading
     if number != 0 {
         return refused(number, 0);
     }
-    let header = bare::read_header(image::header(image));
+    let header = bare::near_header(image::header(image));
     let useful = image::useful(image);
     if protected {
         unprotected(header.index, &useful)

@@ -1,7 +1,9 @@
 -- `adapter::answered` meets its contract: the rows that need no slot, then by the header that is read.
 -- Assumes nothing.
-use mathlib.Core.Path.{ap, _∙_}
+use mathlib.Core.Path.{sym, ap, _∙_, subst}
+use Prim.Native.Nat.{ℕ, _<_, _^_}
 use Rattle.bare.specs.Bare.{headerRead}
+use Rattle.image.proofs.Laws.{header-lt}
 use Rattle.adapter.proofs.Arriving.{Sized, image-sized, image-refused, image-placed}
 use borrow.Author.Needs.{needs}
 use Rattle.adapter.proofs.answered.Statement.{statement}
@@ -39,14 +41,14 @@ returns c =
 header-requires : tie.Need-header-requires
 header-requires c κs = sized c .image-size
 
-read-header-requires : tie.Need-read-header-requires
-read-header-requires c κs = search needs
+near-header-requires : tie.Need-near-header-requires
+near-header-requires c κs = subst (λ (n : ℕ). n < 2 ^ 23) (sym (c .header .ensures)) (header-lt _)
 
 arrived-requires : tie.Need-arrived-requires
 arrived-requires c κs =
     let number = header c in
     let known = sized (number .before) in
-    (known .state-size, (c .before .read-header .ensures ∙ ap headerRead (number .header .ensures), known .image-size))
+    (known .state-size, (c .before .near-header .ensures ∙ ap headerRead (number .header .ensures), known .image-size))
 
 same-length-2 : tie.Need-same-length-2
 same-length-2 c = search needs
@@ -66,7 +68,7 @@ answered-spec =
     same-length
     returns
     header-requires
-    read-header-requires
+    near-header-requires
     arrived-requires
     same-length-2
     returns-2)

@@ -1,11 +1,12 @@
 -- `packet::received` meets its contract: 20, then by the type, then the data.
 -- Assumes nothing.
-use mathlib.Core.Path.{_≡_, sym, ap, ap₂, _∙_}
+use mathlib.Core.Path.{_≡_, sym, ap, ap₂, _∙_, subst}
 use mathlib.Core.Bool.{Bool}
 use mathlib.Core.List.{List}
-use Prim.Native.Nat.{ℕ}
+use Prim.Native.Nat.{ℕ, _<_, _^_}
 use Rattle.bare.specs.Bare.{headerRead}
 use Rattle.bare.specs.declared.Header.{Header}
+use Rattle.image.proofs.Laws.{header-lt}
 use Rattle.words.specs.Protected.{dataRead}
 use Rattle.packet.specs.Received.{received, usefulOf, readableAs, dataAs}
 use Rattle.packet.proofs.Answers.{indexOf, IsData, answer-length, answer-type, answer-plain, answer-protected, useful-read}
@@ -32,8 +33,8 @@ whole c = image (passed c .before)
 is-data : (c : tie.Else2) → IsData (image (c .before))
 is-data c = record { size = c .before .before .if1 .left; type = sym (c .before .type-refusal .ensures) ∙ c .if2 .left }
 
-index : (c : tie.After-useful) → c .before .read-header .result .index ≡ indexOf (whole c)
-index c = ap (λ (h : Header). h .index) (c .before .read-header .ensures ∙ ap headerRead (c .before .before .header .ensures))
+index : (c : tie.After-useful) → c .before .near-header .result .index ≡ indexOf (whole c)
+index c = ap (λ (h : Header). h .index) (c .before .near-header .ensures ∙ ap headerRead (c .before .before .header .ensures))
 
 bytes : (c : tie.After-useful) → c .useful .result ≡ usefulOf (whole c)
 bytes c = useful-read (whole c) (c .useful .result) (c .useful .ensures)
@@ -65,8 +66,8 @@ returns-2 c =
 header-requires : tie.Need-header-requires
 header-requires c κs = search needs
 
-read-header-requires : tie.Need-read-header-requires
-read-header-requires c κs = search needs
+near-header-requires : tie.Need-near-header-requires
+near-header-requires c κs = subst (λ (n : ℕ). n < 2 ^ 23) (sym (c .header .ensures)) (header-lt _)
 
 useful-requires : tie.Need-useful-requires
 useful-requires c κs = search needs
@@ -107,7 +108,7 @@ received-spec =
     refused-requires-2
     returns-2
     header-requires
-    read-header-requires
+    near-header-requires
     useful-requires
     slice-aggregate-unprotected
     unprotected-requires
