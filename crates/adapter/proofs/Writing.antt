@@ -6,7 +6,7 @@
 --   sent-protected, sent-plain   the image of a data packet, by the protection
 --   data-45, data-90             how many bytes a packet carries; data-le: at most 90
 --   fourth-ends, fourth-length   a fourth of the message that is lent: where it ends, and its length
---   one-put                      the image of such a fourth, copied to its place
+--   one-put                      the image of such a fourth, written into its place
 --   images-put                   the four images, put one after the other
 --
 -- Assumes nothing.
@@ -112,12 +112,12 @@ module _ (p : Bool) where
   pub data-90 : p ≡ false → dataSize p ≡ 90
   data-90 e = ap dataSize e
 
-  module _ (a i : ℕ) (b : List ℕ) where
-    pub sent-protected : p ≡ true → written a i 0 (protected b) ≡ sentImage p a i b
-    sent-protected e = ap (λ (x : Bool). sentImage x a i b) (sym e)
+  module _ (a i : ℕ) (b x : List ℕ) where
+    pub sent-protected : p ≡ true → (u : List ℕ) → u ≡ protected b → x ≡ written a i 0 u → x ≡ sentImage p a i b
+    sent-protected e u eu ex = ex ∙ ap (written a i 0) eu ∙ ap (λ (q : Bool). sentImage q a i b) (sym e)
 
-    pub sent-plain : p ≡ false → written a i 0 b ≡ sentImage p a i b
-    sent-plain e = ap (λ (x : Bool). sentImage x a i b) (sym e)
+    pub sent-plain : p ≡ false → x ≡ written a i 0 b → x ≡ sentImage p a i b
+    sent-plain e ex = ex ∙ ap (λ (q : Bool). sentImage q a i b) (sym e)
 
 pub data-le : (p : Bool) → dataSize p ≤ 90
 data-le false = omega arith
@@ -146,12 +146,13 @@ module _ (p : Bool) (i n : ℕ) (m : List ℕ) (e : n ≡ dataSize p) where
       subst (λ (k : ℕ). i * k + k ≤ length m) e (omega (arith, fourth-ends h)) in
       ap length lent-part ∙ part-length (i * dataSize p) (dataSize p) m ends
 
-  pub one-put : (a : ℕ) (x o t : List ℕ) → x ≡ sentImage p a i (take (i * n + n - i * n) (drop (i * n) m))
-      → t ≡ put (i * 94) (length x) x o → t ≡ put (i * 94) 94 (packetOf p a m i) o
-  unfolding packetOf
-  one-put a x o t ex et =
-      let same : x ≡ sentImage p a i (part (i * dataSize p) (dataSize p) m) = ex ∙ ap (sentImage p a i) lent-part in
-      et ∙ ap₂ (λ (k : ℕ) (y : List ℕ). put (i * 94) k y o) (ap length same ∙ sent-length p a i _) same
+  -- the image of it is written into its place, which was lent and came back
+  pub one-put : (a : ℕ) (x o : List ℕ) → x ≡ sentImage p a i (take (i * n + n - i * n) (drop (i * n) m))
+      → take (i * 94) o ++ (x ++ drop (i * 94 + 94 - i * 94) (drop (i * 94) o)) ≡ put (i * 94) 94 (packetOf p a m i) o
+  unfolding packetOf put
+  one-put a x o ex =
+      let size : i * 94 + 94 - i * 94 ≡ 94 = omega arith in
+      ap₂ (λ (y : List ℕ) (k : ℕ). take (i * 94) o ++ (y ++ drop k (drop (i * 94) o))) (ex ∙ ap (sentImage p a i) lent-part) size
 
 -- ---- the four images
 

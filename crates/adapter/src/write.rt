@@ -72,21 +72,28 @@ fn one(address: u32, protected: bool, message: &[u8], index: u32, output: &mut [
         Group::PLAIN
     };
     let at = index as usize * len;
-    let image = sent(address, index, protected, &message[at..at + len]);
-    runs::copy(output, index as usize * Packet::IMAGE, &image);
+    let to = index as usize * Packet::IMAGE;
+    sent(
+        address,
+        index,
+        protected,
+        &message[at..at + len],
+        &mut output[to..to + Packet::IMAGE],
+    );
 }
 
-// The image of a data packet.
-fn sent(address: u32, index: u32, protected: bool, bytes: &[u8]) -> [u8; Packet::IMAGE]
+// The image of a data packet, into bytes that are lent.
+fn sent(address: u32, index: u32, protected: bool, bytes: &[u8], out: &mut [u8])
     requires { ⌜ address < 1024 ⌝ }
     requires { ⌜ index < 4 ⌝ }
     requires { ⌜ length (now bytes) ≡ dataSize protected ⌝ }
-    ensures { λ r. ⌜ r ≡ sentImage protected address index (now (bytes .entry)) ⌝ }
+    requires { ⌜ length (now out) ≡ 94 ⌝ }
+    ensures { λ _. ⌜ now (out .exit) ≡ sentImage protected address index (now (bytes .entry)) ⌝ }
 {
     if protected {
         let coded = words::protect(bytes);
-        packet::written(address, index, TypeByte::DATA, &coded)
+        packet::write(address, index, TypeByte::DATA, &coded, out);
     } else {
-        packet::written(address, index, TypeByte::DATA, bytes)
+        packet::write(address, index, TypeByte::DATA, bytes, out);
     }
 }

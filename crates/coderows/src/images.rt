@@ -29,7 +29,14 @@ fn image(v: [u64; 24], images: &mut [u8], message: &[u8]) -> Answer {
     let mut useful = [0u8; Packet::USEFUL];
     copy(message, &mut useful);
     let kind = (v[2] % Row::BYTE) as u8;
-    let image = packet::written((v[0] % 1024) as u32, (v[1] % 4) as u32, kind, &useful);
+    let mut image = [0u8; Packet::IMAGE];
+    packet::write(
+        (v[0] % 1024) as u32,
+        (v[1] % 4) as u32,
+        kind,
+        &useful,
+        &mut image,
+    );
     copy(&image, images);
     whole(3, images)
 }

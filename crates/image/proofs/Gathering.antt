@@ -2,7 +2,7 @@
 --
 --   header-gathered, spare-gathered, byte-gathered     the header, the spare bit and the 91 bytes of an image's bytes
 --   useful-gathered        the bytes behind the first, counted from 0
---   first-three, next-byte, last-byte      an image's bytes from the header and the 91 bytes
+--   first-four, next-byte, last-byte       an image's bytes from the header, the type byte and the useful bytes, as they are stored
 --
 -- Assumes nothing.
 use mathlib.Core.Path.{_≡_, refl, sym, ap, ap₂, _∙_}
@@ -13,10 +13,10 @@ use native.Mathlib.Nat.{mod-lt}
 use native.Mathlib.Numerals.{add-one}
 use lib.Bits.{bitAnd, bitOr, and-mask}
 use lib.Dec.{lit<, lit≤}
-use lib.ListN.{length, take, drop, getD, drop-of-length-le, List·getD-eq-default}
+use lib.ListN.{length, take, drop, getD, set, length-set, drop-of-length-le, List·getD-eq-default}
 use lib.Seq.{drop-drop, drop-append-le, getD-drop}
 use Rattle.bits.specs.Bits.{bitsOf, number, sent}
-use Rattle.bits.proofs.Runs.{Below, below-cat, bitsOf-length, number-bits-small, number-cat, number-ends, number-take, number-drop, number-at, digit, sent-below, sent-drop, sent-length, numbersIn-at, or-above}
+use Rattle.bits.proofs.Runs.{Below, below-cons, below-cat, bitsOf-length, number-bits-small, number-cat, number-ends, number-take, number-drop, number-at, digit, sent-below, sent-drop, sent-length, numbersIn-at, or-above}
 use Rattle.bits.proofs.Storing.{stored}
 use Rattle.image.specs.Image.{headerOf, bytesOf, spareOf, imageOf}
 use Rattle.image.proofs.Laws.{image-length, run, spare-below, run-below, run-rest}
@@ -103,16 +103,6 @@ module _ (h : ℕ) (bs : List ℕ) (s : h < 2 ^ 23) (b : Below 256 bs) where
       one-above (h / 65536) (getD bs 0 0) (omega arith)
       ∙ omega (arith, image-digit 2 (lit< tt), digit 8 16 (run h bs) (run-below h bs), number-run, number-at 8 0 bs b)
 
-  pub first-three :
-      bitAnd h 255 ∷ bitAnd (h / 256) 255 ∷ bitOr (h / 65536) ((bitAnd (getD bs 0 0) 1 * 128) % 256) ∷ [] ≡ take 3 (imageOf h bs)
-  first-three =
-      let long = image-length h bs in
-      stored (bitAnd h 255 ∷ bitAnd (h / 256) 255 ∷ 0 ∷ []) (imageOf h bs) 2 3 _
-      (stored (bitAnd h 255 ∷ 0 ∷ 0 ∷ []) (imageOf h bs) 1 2 _
-      (stored (0 ∷ 0 ∷ 0 ∷ []) (imageOf h bs) 0 1 _ refl (lit< tt) (omega arith) refl first-byte)
-      (lit< tt) (omega arith) refl second-byte)
-      (lit< tt) (omega arith) refl third-byte
-
   byte-at : length bs ≡ 91 → (j : ℕ) → j < 91 → getD bs j 0 / 2 + 128 * (getD bs (suc j) 0 % 2) ≡ getD (imageOf h bs) (j + 3) 0
   byte-at l j hj =
       let place : (j + 3) * 8 ≡ 23 + (j * 8 + 1) = omega arith in
@@ -128,11 +118,47 @@ module _ (h : ℕ) (bs : List ℕ) (s : h < 2 ^ 23) (b : Below 256 bs) where
       (below-cat (sent 8 (drop j bs)) (0 ∷ []) (sent-below 8 (drop j bs)) spare-below)
       ∙ omega (arith, b j, number-ends (sent 8 (drop j bs)), number-at 8 j bs b, number-at 8 (suc j) bs b))
 
-  pub next-byte : length bs ≡ 91 → (j : ℕ) → j < 91
-      → bitOr (getD bs j 0 / 2) ((bitAnd (getD bs (j + 1) 0) 1 * 128) % 256) ≡ getD (imageOf h bs) (j + 3) 0
-  next-byte l j hj =
-      one-above (getD bs j 0 / 2) (getD bs (j + 1) 0) (omega (arith, b j))
-      ∙ ap (λ (x : ℕ). getD bs j 0 / 2 + 128 * (getD bs x 0 % 2)) (add-one j) ∙ byte-at l j hj
+-- ---- a type byte and useful bytes, stored one after the other
 
-  pub last-byte : length bs ≡ 91 → (j : ℕ) → j ≡ 90 → getD bs j 0 / 2 ≡ getD (imageOf h bs) (j + 3) 0
-  last-byte l j e = omega (arith, byte-at l j (omega arith), List·getD-eq-default bs 0 {n = suc j} (omega arith))
+module _ (h t : ℕ) (u : List ℕ) (s : h < 2 ^ 23) (ht : t < 256) (b : Below 256 u) (l : length u ≡ 90) where
+  byte-of : (j : ℕ) → j < 91 → getD (t ∷ u) j 0 / 2 + 128 * (getD u j 0 % 2) ≡ getD (imageOf h (t ∷ u)) (j + 3) 0
+  byte-of = byte-at h (t ∷ u) s (below-cons t u ht b) (ap suc l)
+
+  -- the first four, whatever was there
+  pub first-four : (o : List ℕ) → length o ≡ 94
+      → take 4 (set (set (set (set o 0 (bitAnd h 255)) 1 (bitAnd (h / 256) 255)) 2 (bitOr (h / 65536) ((bitAnd t 1 * 128) % 256))) 3
+      (bitOr (t / 2) ((bitAnd (getD u 0 0) 1 * 128) % 256)))
+      ≡ take 4 (imageOf h (t ∷ u))
+  first-four o lo =
+      let I = imageOf h (t ∷ u) in
+      let long = image-length h (t ∷ u) in
+      let all = below-cons t u ht b in
+      let one = set o 0 (bitAnd h 255) in
+      let two = set one 1 (bitAnd (h / 256) 255) in
+      let three = set two 2 (bitOr (h / 65536) ((bitAnd t 1 * 128) % 256)) in
+      let front1 : take 1 one ≡ take 1 I =
+      stored o I 0 1 _ refl (omega arith) (omega arith) refl (first-byte h (t ∷ u) s all) in
+      let front2 : take 2 two ≡ take 2 I =
+      stored one I 1 2 _ front1 (simp length-set (omega arith)) (omega arith) refl (second-byte h (t ∷ u) s all) in
+      let front3 : take 3 three ≡ take 3 I =
+      stored two I 2 3 _ front2 (simp length-set (omega arith)) (omega arith) refl (third-byte h (t ∷ u) s all) in
+      stored three I 3 4 _ front3 (simp length-set (omega arith)) (omega arith) refl
+      (one-above (t / 2) (getD u 0 0) (omega arith) ∙ byte-of 0 (omega arith))
+
+  pub next-byte : (j : ℕ) → j < 90 → bitOr (getD u j 0 / 2) ((bitAnd (getD u (j + 1) 0) 1 * 128) % 256) ≡ getD (imageOf h (t ∷ u)) (j + 4) 0
+  next-byte j hj =
+      let place : suc j + 3 ≡ j + 4 = omega arith in
+      one-above (getD u j 0 / 2) (getD u (j + 1) 0) (omega (arith, b j))
+      ∙ ap (λ (x : ℕ). getD u j 0 / 2 + 128 * (getD u x 0 % 2)) (add-one j) ∙ byte-of (suc j) (omega arith)
+      ∙ ap (λ (x : ℕ). getD (imageOf h (t ∷ u)) x 0) place
+
+  -- the spare bit is 0
+  pub last-byte : (j : ℕ) → j ≡ 89 → getD u j 0 / 2 ≡ getD (imageOf h (t ∷ u)) (j + 4) 0
+  last-byte j e =
+      let place : suc j + 3 ≡ j + 4 = omega arith in
+      omega (
+        arith,
+        byte-of (suc j) (omega arith),
+        List·getD-eq-default u 0 {n = suc j} (omega arith),
+        ap (λ (x : ℕ). getD (imageOf h (t ∷ u)) x 0) place,
+      )

@@ -1,19 +1,18 @@
-// The packet image (document 01, section 1; ETS 300 352, 4.3.6): its header number, its 91 bytes, its spare bit, and an
-// image made of a header number and 91 bytes. It knows no code and no state.
+// The packet image (document 01, section 1; ETS 300 352, 4.3.6): its header number, its type byte, its 90 useful bytes, its spare bit, and
+// an image made of the first three. It knows no code and no state.
 ghost use mathlib.Core.Path.{_≡_};
+ghost use mathlib.Core.List.{_∷_};
 ghost use Prim.Native.Nat.{_^_, _<_};
 ghost use lib.ListN.{length, getD, drop};
 ghost use Rattle.image.specs.Image.{headerOf, bytesOf, spareOf, imageOf};
 
-// Sizes of a packet (4.3.6): its image; the useful bytes, and these with the type byte.
+// Sizes of a packet (4.3.6): its image, and the useful bytes.
 pub struct Packet {}
 
 impl Packet {
     pub const IMAGE: usize = 94;
 
     pub const USEFUL: usize = 90;
-
-    pub const BYTES: usize = Self::USEFUL + 1;
 }
 
 // The header's 23 bits: two bytes and seven bits of the third.
@@ -55,29 +54,22 @@ pub fn useful(image: &[u8]) -> [u8; Packet::USEFUL]
     useful
 }
 
-// The image of a header and 91 bytes.
-pub fn image(header: u32, bytes: &[u8; Packet::BYTES]) -> [u8; Packet::IMAGE]
+// The image of a header, a type byte and 90 useful bytes, into bytes that are lent; bit 751 is 0. The last byte stands apart so that the
+// loop needs no test.
+pub fn put(header: u32, kind: u8, useful: &[u8], out: &mut [u8])
     requires { ⌜ header < 2 ^ 23 ⌝ }
-    ensures { λ r. ⌜ r ≡ imageOf header (now (bytes .entry)) ⌝ }
+    requires { ⌜ length (now useful) ≡ 90 ⌝ }
+    requires { ⌜ length (now out) ≡ 94 ⌝ }
+    ensures { λ _. ⌜ now (out .exit) ≡ imageOf header (kind ∷ now (useful .entry)) ⌝ }
 {
-    made(header, *bytes)
-}
-
-// The same of bytes by value. Of an array that is lent the checker tells neither the length nor that its elements are
-// bytes; of one that is passed it tells both.
-fn made(header: u32, bytes: [u8; Packet::BYTES]) -> [u8; Packet::IMAGE]
-    requires { ⌜ header < 2 ^ 23 ⌝ }
-    ensures { λ r. ⌜ r ≡ imageOf header bytes ⌝ }
-{
-    let mut out = [0u8; Packet::IMAGE];
     out[0] = (header & 255) as u8;
     out[1] = (header >> 8 & 255) as u8;
-    out[2] = (header >> 16) as u8 | (bytes[0] & 1) << 7;
+    out[2] = (header >> 16) as u8 | (kind & 1) << 7;
+    out[3] = kind >> 1 | (useful[0] & 1) << 7;
     let mut j = 0;
-    while j + 1 < Packet::BYTES {
-        out[j + 3] = bytes[j] >> 1 | (bytes[j + 1] & 1) << 7;
+    while j + 1 < Packet::USEFUL {
+        out[j + 4] = useful[j] >> 1 | (useful[j + 1] & 1) << 7;
         j += 1;
     }
-    out[j + 3] = bytes[j] >> 1;
-    out
+    out[j + 4] = useful[j] >> 1;
 }

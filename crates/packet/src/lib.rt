@@ -111,22 +111,14 @@ fn unprotected(index: u8, useful: &[u8]) -> Reading
     readable(index, &bytes)
 }
 
-// The image of a packet.
-pub fn written(address: u32, index: u32, kind: u8, useful: &[u8]) -> [u8; Packet::IMAGE]
+// The image of a packet, into bytes that are lent.
+pub fn write(address: u32, index: u32, kind: u8, useful: &[u8], out: &mut [u8])
     requires { ⌜ address < 1024 ⌝ }
     requires { ⌜ index < 4 ⌝ }
     requires { ⌜ length (now useful) ≡ 90 ⌝ }
-    ensures { λ r. ⌜ r ≡ written address index kind (now (useful .entry)) ⌝ }
+    requires { ⌜ length (now out) ≡ 94 ⌝ }
+    ensures { λ _. ⌜ now (out .exit) ≡ written address index kind (now (useful .entry)) ⌝ }
 {
-    let mut bytes = [0u8; Packet::BYTES];
-    bytes[0] = kind;
-    let mut k: usize = 0;
-    while k < Packet::USEFUL {
-        bytes[k + 1] = useful[k];
-        k += 1;
-    }
-    image::image(
-        bare::code::header_word(address + Header::ADDRESSES * index),
-        &bytes,
-    )
+    let header = bare::code::header_word(address + Header::ADDRESSES * index);
+    image::put(header, kind, useful, out);
 }

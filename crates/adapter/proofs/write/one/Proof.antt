@@ -1,4 +1,4 @@
--- `adapter::write::one` meets its contract: a fourth of the message is lent, and its image copied to its place.
+-- `adapter::write::one` meets its contract: a fourth of the message is lent, and the place that its image is written into.
 -- Assumes nothing.
 use mathlib.Core.Path.{_≡_, sym, _∙_}
 use mathlib.Core.Logic.{⊎-elim}
@@ -13,6 +13,9 @@ use Rattle.adapter.proofs.write.one.Tie as tie
 abbrev start : tie.Joined1 → tie.Start
 start c = c .before .before .before
 
+abbrev joined : tie.After-sent-arg2 → tie.Joined1
+joined c = c .before .before .before
+
 size : (c : tie.Joined1) → c .if1 .len ≡ dataSize (start c .args .protected)
 size c =
     let p = start c .args .protected in
@@ -23,6 +26,9 @@ within c = fourth-ends (start c .args .protected) (start c .args .index) _ (star
 
 mul-at : tie.Need-mul-at
 mul-at c = omega (arith, within (c .before), data-le (start (c .before) .args .protected))
+
+mul-to : tie.Need-mul-to
+mul-to c = search needs
 
 add-sent : tie.Need-add-sent
 add-sent c = omega (arith, within (c .before), data-le (start (c .before) .args .protected))
@@ -36,43 +42,50 @@ part-sent-start c = search needs
 part-sent-end : tie.Need-part-sent-end
 part-sent-end c = omega (arith, within (c .before), start (c .before) .pre .1 .0)
 
+add-sent-2 : tie.Need-add-sent-2
+add-sent-2 c = search needs
+
+sub-sent-2 : tie.Need-sub-sent-2
+sub-sent-2 c = search needs
+
+part-sent-start-2 : tie.Need-part-sent-start-2
+part-sent-start-2 c = search needs
+
+part-sent-end-2 : tie.Need-part-sent-end-2
+part-sent-end-2 c = search needs
+
 sent-requires : tie.Need-sent-requires
 sent-requires c κs =
-    let joined = c .before .before in
-    let s = start joined in
-    (s .pre .0, (s .pre .1 .1 .0, fourth-length (s .args .protected) (s .args .index) _ _ (size joined) (s .pre .1 .1 .0) (s .pre .1 .0)))
-
-mul-copy : tie.Need-mul-copy
-mul-copy c = search needs
-
-slice-aggregate-copy : tie.Need-slice-aggregate-copy
-slice-aggregate-copy c = search needs
-
-copy-requires : tie.Need-copy-requires
-copy-requires c κs = search needs
+    let j = joined c in
+    let s = start j in (
+      s .pre .0,
+      (s .pre .1 .1 .0, (fourth-length (s .args .protected) (s .args .index) _ _ (size j) (s .pre .1 .1 .0) (s .pre .1 .0), search needs)),
+    )
 
 same-length : tie.Need-same-length
 same-length c = search needs
 
 returns : tie.Need-returns
 returns c =
-    let joined = c .before .before .before .before .before .before .before .before in
-    let a = start joined .args in
-    one-put (a .protected) (a .index) _ (a .message .now) (size joined) (a .address) _ (a .output .now) _
-    (c .before .before .before .before .before .sent .ensures) (c .before .before .copy .ensures)
+    let call = c .before .before in
+    let j = joined (call .before) in
+    let a = start j .args in
+    one-put (a .protected) (a .index) _ (a .message .now) (size j) (a .address) _ (a .output .now) (call .sent .ensures)
 
 pub one-spec : {M : Type 1} → statement M
 one-spec =
     tie.close
     (tie.spec
     mul-at
+    mul-to
     add-sent
     sub-sent
     part-sent-start
     part-sent-end
+    add-sent-2
+    sub-sent-2
+    part-sent-start-2
+    part-sent-end-2
     sent-requires
-    mul-copy
-    slice-aggregate-copy
-    copy-requires
     same-length
     returns)
