@@ -62,13 +62,14 @@ impl Slot {
         slot[Slot::HEAD + 15] = head.gap;
     }
 
-    // Within the bounds, or free, every byte 0. The bytes are folded together, with no early end, and only where the head says
-    // that the slot is not used.
-    pub fn good(slot: &[u8]) -> bool
+    // Within the bounds, or free, every byte 0, by the slot's own head, which the caller has loaded. The bytes are folded
+    // together, with no early end, and only where the head says that the slot is not used.
+    pub fn good(slot: &[u8], head: Head) -> bool
         requires { ⌜ length (now slot) ≡ slotSize ⌝ }
+        requires { ⌜ head ≡ headOf (now slot) ⌝ }
         ensures { λ r. ⌜ r ≡ goodSlot (now (slot .entry)) ⌝ }
     {
-        if Self::load(slot).good() {
+        if head.good() {
             return true;
         }
         folded(slot) == 0

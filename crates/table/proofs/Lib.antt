@@ -1,3 +1,4 @@
+pub mod Apart
 pub mod Determined
 pub mod Doing
 pub mod Kept

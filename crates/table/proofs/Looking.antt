@@ -2,34 +2,31 @@
 --
 --   slot-part        a lent part of 736 bytes is a slot
 --   find-down, find-hit, find-pass, find-end     the search from the last slot to the first
---   good-unused, good-used-at    a good slot is free exactly if its address is 0
---   all-next, all-end    the fold over the slots
 --   state-*          the rows of the state, before a call's own
 --   outside          a test on both sides of a range
 --   leave-22 .., follow-22 ..    the rows of leave, ask and follow, in the code's tests
 --
 -- Assumes nothing.
-use mathlib.Core.Path.{_≡_, refl, sym, ap, ap₂, _∙_, subst}
-use mathlib.Core.Bool.{Bool, true, false, cond, not, _&&_, _||_, and-true, and-assoc}
+use mathlib.Core.Path.{_≡_, refl, sym, ap, _∙_, subst}
+use mathlib.Core.Bool.{Bool, true, false, cond, not, _||_}
 use mathlib.Core.List.{List, [], _∷_}
 use Prim.Native.Nat.{ℕ, suc, _+_, _-_, _*_, _≤_, _<_}
 use native.Mathlib.Omega.{arith}
-use native.Mathlib.Decide.{decLt}
-use borrow.Author.Tests.{lt-ltb, le-ltb, le-leb, lt-leb, eq-eqb, ne-eqb, eqb-true, not-false}
-use lib.Dec.{leb, ltb, eqb}
+use borrow.Author.Tests.{lt-ltb, le-ltb, eq-eqb, ne-eqb, eqb-true, not-false}
+use lib.Dec.{ltb, eqb}
 use lib.ListN.{length, take, drop}
 use Rattle.bits.specs.Rows.{Row, row, refusal}
-use Rattle.bits.specs.Search.{first, all}
+use Rattle.bits.specs.Search.{first}
 use Rattle.bits.proofs.Rows.{refusal-hit, refusal-miss, refusal-passed, refusal-none}
 use Rattle.runs.specs.Part.{part}
-use Rattle.slot.specs.Slot.{slotSize, headOf, free, goodSlot}
+use Rattle.slot.specs.Slot.{slotSize, headOf}
 use Rattle.head.specs.Head.{within, wishRows, wishAnswer}
 use Rattle.head.specs.declared.Wish.{Wish}
 use Rattle.head.proofs.Wishes.{outside, wish-refused, wish-rest}
 use Rattle.head.specs.declared.Head.{Head}
-use Rattle.table.specs.State.{slots, stateSize, slotAt, addressAt, find, goodAt, good}
+use Rattle.table.specs.State.{slots, stateSize, slotAt, addressAt, find, good}
 use Rattle.table.specs.Calls.{stateRows, endAnswer, followAnswer, leaveAnswer}
-use Rattle.table.proofs.States.{free-address, used-address, has}
+use Rattle.table.proofs.States.{has}
 
 pub slot-part : (k : ℕ) (s : List ℕ) → take (k * slotSize + slotSize - k * slotSize) (drop (k * slotSize) s) ≡ slotAt k s
 unfolding slotAt part
@@ -67,63 +64,6 @@ module _ (s : List ℕ) (a k found : ℕ) (h : Head) (pos : 0 < k) (top : k ≤ 
 pub find-end : (s : List ℕ) (a k found : ℕ) → k ≡ 0 → found ≡ first (has s a) (slots - k) k → found ≡ find s a
 unfolding find
 find-end s a k found e f = f ∙ ap (λ (n : ℕ). first (has s a) (slots - n) n) e
-
--- ---- good
-
-good-by-address : (s : List ℕ) (k : ℕ)
-    → (goodSlot (slotAt k s) && (eqb (addressAt s k) 0 || eqb (find s (addressAt s k)) k)) ≡ goodAt s k
-unfolding goodAt addressAt
-good-by-address s k = go (goodSlot (slotAt k s)) refl
-  where
-    b : List ℕ
-    b = slotAt k s
-
-    other : Bool
-    other = eqb (find s (headOf (slotAt k s) .wish .address)) k
-
-    zero-is : goodSlot (slotAt k s) ≡ true → eqb (headOf (slotAt k s) .wish .address) 0 ≡ free (slotAt k s)
-    zero-is g = at (free (slotAt k s)) refl
-      where
-        at : (f : Bool) → free (slotAt k s) ≡ f → eqb (headOf (slotAt k s) .wish .address) 0 ≡ free (slotAt k s)
-        at true q = eq-eqb (headOf (slotAt k s) .wish .address) 0 (free-address (slotAt k s) q) ∙ sym q
-        at false q = ne-eqb (headOf (slotAt k s) .wish .address) 0 (λ z. omega (arith, z, used-address (slotAt k s) g q)) ∙ sym q
-
-    go : (g : Bool) → goodSlot (slotAt k s) ≡ g
-        → (goodSlot (slotAt k s) && (eqb (headOf (slotAt k s) .wish .address) 0 || other)) ≡ (goodSlot (slotAt k s) && (free (slotAt k s) || other))
-    go true e = ap (λ (x : Bool). goodSlot (slotAt k s) && (x || other)) (zero-is e)
-    go false e =
-        ap (λ (x : Bool). x && (eqb (headOf (slotAt k s) .wish .address) 0 || other)) e
-        ∙ sym (ap (λ (x : Bool). x && (free (slotAt k s) || other)) e)
-
--- so by its address, as the code tests it
-module _ (s : List ℕ) (k : ℕ) (g : Bool) (a : ℕ) (eg : g ≡ goodSlot (slotAt k s)) (ea : a ≡ addressAt s k) where
-  pub good-unused : a ≡ 0 → g ≡ goodAt s k
-  good-unused z =
-      sym (and-true g) ∙ ap (λ (b : Bool). b && true) eg
-      ∙ ap (λ (b : Bool). goodSlot (slotAt k s) && (b || eqb (find s (addressAt s k)) k)) (sym (eq-eqb (addressAt s k) 0 (sym ea ∙ z)))
-      ∙ good-by-address s k
-
-  pub good-used-at : (f : ℕ) → (a ≡ 0 → ⊥) → f ≡ find s a → (g && eqb f k) ≡ goodAt s k
-  good-used-at f ne ef =
-      ap₂ (λ (b : Bool) (n : ℕ). b && eqb n k) eg (ef ∙ ap (find s) ea)
-      ∙ ap (λ (b : Bool). goodSlot (slotAt k s) && (b || eqb (find s (addressAt s k)) k)) (sym (ne-eqb (addressAt s k) 0 (λ z. ne (ea ∙ z))))
-      ∙ good-by-address s k
-
-pub all-next : (s : List ℕ) (so : Bool) (k : ℕ) → k < slots → (so && all (goodAt s) (slots - k) k) ≡ good s
-    → ((so && goodAt s k) && all (goodAt s) (slots - (k + 1)) (k + 1)) ≡ good s
-unfolding all
-all-next s so k h e =
-    let more : slots - k ≡ suc (slots - (k + 1)) = omega arith in
-    let next : k + 1 ≡ suc k = omega arith in
-    and-assoc so (goodAt s k) (all (goodAt s) (slots - (k + 1)) (k + 1))
-    ∙ ap (λ (n : ℕ). so && (goodAt s k && all (goodAt s) (slots - (k + 1)) n)) next
-    ∙ sym (ap (λ (n : ℕ). so && all (goodAt s) n k) more) ∙ e
-
-pub all-end : (s : List ℕ) (so : Bool) (k : ℕ) → slots ≤ k → (so && all (goodAt s) (slots - k) k) ≡ good s → so ≡ good s
-unfolding all
-all-end s so k h e =
-    let none : slots - k ≡ 0 = omega arith in
-    sym (and-true so) ∙ sym (ap (λ (n : ℕ). so && all (goodAt s) n k) none) ∙ e
 
 -- ---- the rows
 

@@ -1,9 +1,12 @@
 // What the state is asked before a change.
 ghost use mathlib.Core.Path.{_≡_};
-ghost use Prim.Native.Nat.{_<_};
-ghost use lib.ListN.{length};
+ghost use mathlib.Core.Bool.{not, _||_};
+ghost use Prim.Native.Nat.{ℕ, _<_, _+_};
+ghost use lib.Dec.{eqb};
+ghost use lib.ListN.{length, getD};
+ghost use Rattle.bits.specs.Search.{all};
 ghost use Rattle.slot.specs.Slot.{headOf};
-ghost use Rattle.table.specs.State.{slots, stateSize, slotAt, find, goodAt, good};
+ghost use Rattle.table.specs.State.{slots, stateSize, slotAt, find, good};
 ghost use Rattle.table.specs.Calls.{endAnswer, followAnswer, leaveAnswer};
 use crate::Table;
 use head::Head;
@@ -36,32 +39,56 @@ pub fn find(state: &[u8], address: u32) -> usize
     found
 }
 
-// Slot k is good, and free or the first of its address.
-fn good_at(state: &[u8], k: usize) -> bool
-    requires { ⌜ length (now state) ≡ stateSize ⌝ }
+// The address at place k, of the slots' addresses with as many 0 behind them, stands at none of the sixteen places behind it.
+// As many are looked at for each k, and no test ends it early, so that several are compared at once.
+fn last(addresses: &[u32], k: usize) -> bool
+    requires { ⌜ length (now addresses) ≡ slots + slots ⌝ }
     requires { ⌜ k < slots ⌝ }
-    ensures { λ r. ⌜ r ≡ goodAt (now (state .entry)) k ⌝ }
+    ensures { λ r. ⌜ r ≡ all (λ (j : ℕ). not (eqb (getD (now (addresses .entry)) j 0) (getD (now (addresses .entry)) k 0))) slots (k + 1) ⌝ }
 {
-    let at = k * Slot::SIZE;
-    let bounds = Slot::good(&state[at..at + Slot::SIZE]);
-    let address = head(state, k).wish.address;
-    if address == 0 {
-        return bounds;
+    let address = addresses[k];
+    let mut alone = true;
+    let mut j: usize = 0;
+    while j < Table::SLOTS {
+        alone = alone & (addresses[k + 1 + j] != address);
+        j += 1;
     }
-    bounds & (find(state, address) == k)
+    alone
 }
 
+// No address but 0 stands at two places.
+fn apart(addresses: &[u32]) -> bool
+    requires { ⌜ length (now addresses) ≡ slots + slots ⌝ }
+    ensures { λ r. ⌜ r ≡ all (λ (k : ℕ). eqb (getD (now (addresses .entry)) k 0) 0 || all (λ (j : ℕ). not (eqb (getD (now (addresses .entry)) j 0) (getD (now (addresses .entry)) k 0))) slots (k + 1)) slots 0 ⌝ }
+{
+    let mut so = true;
+    let mut k: usize = 0;
+    while k < Table::SLOTS {
+        if addresses[k] != 0 {
+            so = so & last(addresses, k);
+        }
+        k += 1;
+    }
+    so
+}
+
+// Each slot is good, and no two used ones share an address. The addresses are gathered first: in the state they stand 736
+// bytes apart.
 pub fn is_good(state: &[u8]) -> bool
     requires { ⌜ length (now state) ≡ stateSize ⌝ }
     ensures { λ r. ⌜ r ≡ good (now (state .entry)) ⌝ }
 {
-    let mut all = true;
+    let mut addresses: [u32; 2 * Table::SLOTS] = [0; 2 * Table::SLOTS];
+    let mut so = true;
     let mut k: usize = 0;
     while k < Table::SLOTS {
-        all = all & good_at(state, k);
+        let own = head(state, k);
+        let at = k * Slot::SIZE;
+        so = so & Slot::good(&state[at..at + Slot::SIZE], own);
+        addresses[k] = own.wish.address;
         k += 1;
     }
-    all
+    so & apart(&addresses)
 }
 
 // 20, 34.

@@ -9,21 +9,18 @@ use borrow.Author.Needs.{needs}
 use Rattle.slot.proofs.Slot.good.Statement.{statement}
 use Rattle.slot.proofs.Slot.good.Tie as tie
 
-load-requires : tie.Need-load-requires
-load-requires c κs = search needs
-
 good-requires : tie.Need-good-requires
 good-requires c κs = search needs
 
 returns : tie.Need-returns
-returns c = sym (good-slot (c .before .before .before .before .args .slot .now) (sym (c .before .good2 .ensures ∙ ap goodHead (c .before .before .load .ensures)) ∙ c .if1 .taken))
+returns c = sym (good-slot (c .before .before .before .args .slot .now) (sym (c .before .good2 .ensures ∙ ap goodHead (c .before .before .before .pre .1)) ∙ c .if1 .taken))
 
 folded-requires : tie.Need-folded-requires
 folded-requires c κs = search needs
 
 returns-2 : tie.Need-returns-2
 unfolding goodSlot
-returns-2 c = c .folded .ensures ∙ sym (or-false (free (c .before .before .before .before .before .args .slot .now))) ∙ ap (λ (b : Bool). free (c .before .before .before .before .before .args .slot .now) || b) (sym (c .before .if1 .left) ∙ c .before .before .good2 .ensures ∙ ap goodHead (c .before .before .before .load .ensures))
+returns-2 c = c .folded .ensures ∙ sym (or-false (free (c .before .before .before .before .args .slot .now))) ∙ ap (λ (b : Bool). free (c .before .before .before .before .args .slot .now) || b) (sym (c .before .if1 .left) ∙ c .before .before .good2 .ensures ∙ ap goodHead (c .before .before .before .before .pre .1))
 
 pub good-spec : {M : Type 1} → statement M
-good-spec = tie.close (tie.spec load-requires good-requires returns folded-requires returns-2)
+good-spec = tie.close (tie.spec good-requires returns folded-requires returns-2)
