@@ -2068,10 +2068,11 @@ pub fn patterns() -> [u32; 2048]
 }
 
 // The last twelve bits of an information's 24-bit word: those of its six low bits and of its six high bits, added, since the code is
-// linear. The parity is odd, so that the check bits of 0 are not 0: they are among those of the high bits.
+// linear. The parity is odd, so that the check bits of 0 are not 0: they are among those of the high bits. That these are six is said once more
+// for the compiler, which then leaves out a test.
 pub fn check(i: u32) -> u32
     requires { ⌜ i < 4096 ⌝ }
     ensures { λ r. ⌜ r ≡ check i ⌝ }
 {
-    checks::low(i % 64) ^ checks::high(i / 64)
+    checks::low(i % 64) ^ checks::high(i / 64 % 64)
 }

@@ -1,8 +1,8 @@
 -- `lookup::check` meets its contract: the table's rule is the promise.
 -- Assumes nothing.
 use mathlib.Core.Path.{_≡_, ap, ap₂, _∙_}
-use Prim.Native.Nat.{ℕ, _/_, _%_, _<_}
-use native.Mathlib.Nat.{add-comm}
+use Prim.Native.Nat.{ℕ, _+_, _/_, _%_, _<_}
+use native.Mathlib.Omega.{arith}
 use lib.Bits.{bitXor}
 use lib.ListN.{getD, drop}
 use lib.Seq.{getD-drop}
@@ -12,10 +12,13 @@ use borrow.Author.Needs.{needs}
 use Rattle.lookup.proofs.check.Statement.{statement}
 use Rattle.lookup.proofs.check.Tie as tie
 
-both : (i a b : ℕ) → i < 4096 → a ≡ getD checks (i % 64) 0 → b ≡ getD (drop 64 checks) (i / 64) 0 → bitXor a b ≡ check i
+both : (i a b : ℕ) → i < 4096 → a ≡ getD checks (i % 64) 0 → b ≡ getD (drop 64 checks) (i / 64 % 64) 0 → bitXor a b ≡ check i
 both i a b h low high =
-    ap₂ bitXor low (high ∙ getD-drop 64 checks (i / 64) 0 ∙ ap (λ (k : ℕ). getD checks k 0) (add-comm 64 (i / 64)))
+    ap₂ bitXor low (high ∙ getD-drop 64 checks (i / 64 % 64) 0 ∙ ap (λ (k : ℕ). getD checks k 0) place)
     ∙ checks-right .each i h
+  where
+    place : 64 + i / 64 % 64 ≡ i / 64 + 64
+    place = omega arith
 
 low-requires : tie.Need-low-requires
 low-requires c κs = search needs
