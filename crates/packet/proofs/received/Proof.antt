@@ -1,7 +1,7 @@
 -- `packet::received` meets its contract: 20, then by the type, then the data.
 -- Assumes nothing.
 use mathlib.Core.Path.{_≡_, sym, ap, ap₂, _∙_, subst}
-use mathlib.Core.Bool.{Bool}
+use mathlib.Core.Bool.{Bool, true, false}
 use mathlib.Core.List.{List}
 use Prim.Native.Nat.{ℕ, _<_, _^_}
 use Rattle.bare.specs.Bare.{headerRead}
@@ -24,6 +24,9 @@ image c = start c .args .image .now
 
 abbrev passed : tie.After-useful → tie.Else2
 passed c = c .before .before .before
+
+abbrev begun : tie.After-useful → tie.Start
+begun c = start (passed c .before)
 
 abbrev whole : tie.After-useful → List ℕ
 whole c = image (passed c .before)
@@ -88,15 +91,17 @@ returns-3 : tie.Need-returns-3
 returns-3 c =
     let test = c .before .before in
     let at = test .before in
+    let shielded : begun at .args .protected ≡ true = test .if3 .taken in
     c .unprotected .ensures ∙ ap₂ (λ (i : ℕ) (u : List ℕ). dataAs i (dataRead u)) (index at) (bytes at)
-    ∙ sym (answer-protected (whole at) (is-data (passed at))) ∙ ap (λ (b : Bool). received b (whole at)) (sym (test .if3 .taken))
+    ∙ sym (answer-protected (whole at) (is-data (passed at))) ∙ ap (λ (b : Bool). received b (whole at)) (sym shielded)
 
 returns-4 : tie.Need-returns-4
 returns-4 c =
     let test = c .before .before in
     let at = test .before in
+    let plain : begun at .args .protected ≡ false = test .if3 .left in
     c .readable .ensures ∙ ap₂ readableAs (index at) (bytes at)
-    ∙ sym (answer-plain (whole at) (is-data (passed at))) ∙ ap (λ (b : Bool). received b (whole at)) (sym (test .if3 .left))
+    ∙ sym (answer-plain (whole at) (is-data (passed at))) ∙ ap (λ (b : Bool). received b (whole at)) (sym plain)
 
 pub received-spec : {M : Type 1} → statement M
 received-spec =
