@@ -1,6 +1,7 @@
 -- What the map is asked: the code's tests against the definitions.
 --
 --   structure-lent           the part that is lent of a structure is the structure
+--   force-lent, coming-lent, faults-both    what is wrong with a component's two heads
 --   all-next, all-end        a turn and the end of the loop over all components
 --   shown-20 ..              the rows 20 and 34; Passed: a map that neither refuses
 --   comes-then, settled-then, stands-then    a component of a set, by the tests on the way
@@ -19,6 +20,7 @@ use Prim.Native.Nat.{ℕ, suc, _+_, _-_, _*_, _≤_, _<_}
 use native.Mathlib.Omega.{arith}
 use native.Mathlib.Nat.{add-assoc, add-zero}
 use borrow.Author.Tests.{eq-eqb, ne-eqb, eqb-true, not-false}
+use lib.Bits.{bitOr}
 use lib.Dec.{leb, ltb, eqb, lit<}
 use lib.ListN.{length, take, drop}
 use Rattle.bits.specs.Rows.{Row, row, refusal}
@@ -28,7 +30,8 @@ use Rattle.bits.proofs.Search.{neither}
 use Rattle.runs.specs.Part.{part}
 use Rattle.field.specs.Field.{fieldSize, fieldOf, badField, deletes, panning}
 use Rattle.field.specs.declared.Field.{Field}
-use Rattle.structure.specs.Structure.{structureSize, allOnes, headOf, nth, stored, said, certainly, settledHead}
+use Rattle.structure.specs.Structure.{structureSize, allOnes, headOf, nth, stored, said, certainly, goodHead, settledHead}
+use Rattle.structure.proofs.Faults.{or-test}
 use Rattle.frames.specs.Counts.{until, changing, again, enough, allHeard}
 use Rattle.map.specs.Map.{ids, mapSize, blockSize, framesOf, structureAt, inForce, announced, goodAt, good, stands, comes, present, counted, components}
 use Rattle.map.specs.Calls.{tooMany, takeRows, takeAnswer, thenWhich, thenHead, thenNumber, unknown, foundOf, shownAt, showAnswer, markOf, heardLen, heardAt, inForceThen, knownAt}
@@ -48,21 +51,47 @@ structure-lent k w m =
 
 -- ---- good
 
-pub all-next : (m : List ℕ) (so : Bool) (k : ℕ) → k < ids → (so && all (goodAt m) (ids - k) k) ≡ good m
-    → ((so && goodAt m k) && all (goodAt m) (ids - (k + 1)) (k + 1)) ≡ good m
-unfolding all
-all-next m so k h e =
-    let more : ids - k ≡ suc (ids - (k + 1)) = omega arith in
-    let next : k + 1 ≡ suc k = omega arith in
-    and-assoc so (goodAt m k) (all (goodAt m) (ids - (k + 1)) (k + 1))
-    ∙ ap (λ (n : ℕ). so && (goodAt m k && all (goodAt m) (ids - (k + 1)) n)) next
-    ∙ sym (ap (λ (n : ℕ). so && all (goodAt m) n k) more) ∙ e
+-- a component's two heads, lent one after the other
+module _ (k : ℕ) (m : List ℕ) where
+  pub force-lent : take (k * blockSize + structureSize - k * blockSize) (drop (k * blockSize) m) ≡ structureAt k 0 m
+  unfolding structureAt part
+  force-lent =
+      let n : k * blockSize + structureSize - k * blockSize ≡ structureSize = omega arith in
+      let a : k * blockSize ≡ k * blockSize + 0 * structureSize = omega arith in
+      ap₂ (λ (x y : ℕ). take x (drop y m)) n a
 
-pub all-end : (m : List ℕ) (so : Bool) (k : ℕ) → ids ≤ k → (so && all (goodAt m) (ids - k) k) ≡ good m → so ≡ good m
-unfolding all
-all-end m so k h e =
-    let none : ids - k ≡ 0 = omega arith in
-    sym (and-true so) ∙ sym (ap (λ (n : ℕ). so && all (goodAt m) n k) none) ∙ e
+  pub coming-lent : take (k * blockSize + blockSize - (k * blockSize + structureSize)) (drop (k * blockSize + structureSize) m) ≡ structureAt k 1 m
+  unfolding structureAt part
+  coming-lent =
+      let n : k * blockSize + blockSize - (k * blockSize + structureSize) ≡ structureSize = omega arith in
+      let a : k * blockSize + structureSize ≡ k * blockSize + 1 * structureSize = omega arith in
+      ap₂ (λ (x y : ℕ). take x (drop y m)) n a
+
+  pub faults-both : (f c : ℕ) (p q : List ℕ) → eqb f 0 ≡ (goodHead (headOf p) && eqb (headOf p .deleted) 0) → eqb c 0 ≡ goodHead (headOf q)
+      → p ≡ structureAt k 0 m → q ≡ structureAt k 1 m → eqb (bitOr f c) 0 ≡ goodAt m k
+  unfolding goodAt inForce announced
+  faults-both f c p q ef ec ep eq =
+      or-test f c ∙ ap₂ _&&_ ef ec ∙ and-assoc (goodHead (headOf p)) (eqb (headOf p .deleted) 0) (goodHead (headOf q))
+      ∙ ap₂ (λ (x y : List ℕ). goodHead (headOf x) && (eqb (headOf x .deleted) 0 && goodHead (headOf y))) ep eq
+
+-- the fold over the components, of which `so` is what the frames say
+module _ (m : List ℕ) (so : Bool) (n : ℕ) (k : ℕ) where
+  pub all-next : (f : ℕ) → k < ids → eqb f 0 ≡ goodAt m k → ((so && eqb n 0) && all (goodAt m) (ids - k) k) ≡ good m
+      → ((so && eqb (bitOr n f) 0) && all (goodAt m) (ids - (k + 1)) (k + 1)) ≡ good m
+  unfolding all
+  all-next f h g e =
+      let more : ids - k ≡ suc (ids - (k + 1)) = omega arith in
+      let next : k + 1 ≡ suc k = omega arith in
+      ap₂ (λ (b : Bool) (x : ℕ). (so && b) && all (goodAt m) (ids - (k + 1)) x) (or-test n f ∙ ap (λ (b : Bool). eqb n 0 && b) g) next
+      ∙ ap (λ (b : Bool). b && all (goodAt m) (ids - (k + 1)) (suc k)) (sym (and-assoc so (eqb n 0) (goodAt m k)))
+      ∙ and-assoc (so && eqb n 0) (goodAt m k) (all (goodAt m) (ids - (k + 1)) (suc k))
+      ∙ sym (ap (λ (x : ℕ). (so && eqb n 0) && all (goodAt m) x k) more) ∙ e
+
+  pub all-end : ids ≤ k → ((so && eqb n 0) && all (goodAt m) (ids - k) k) ≡ good m → (so && eqb n 0) ≡ good m
+  unfolding all
+  all-end h e =
+      let none : ids - k ≡ 0 = omega arith in
+      sym (and-true (so && eqb n 0)) ∙ sym (ap (λ (x : ℕ). (so && eqb n 0) && all (goodAt m) x k) none) ∙ e
 
 -- ---- the rows 20 and 34
 

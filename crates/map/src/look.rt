@@ -1,6 +1,7 @@
 // What the map is asked before a change: frames, structures, whether it is good, and what is known of a component.
 ghost use mathlib.Core.Path.{_≡_};
 ghost use Prim.Native.Nat.{_<_};
+ghost use lib.Dec.{eqb};
 ghost use lib.ListN.{length};
 ghost use Rattle.map.specs.Map.{ids, mapSize, structureAt, goodAt, good, present, components};
 ghost use Rattle.structure.specs.Structure.{headOf};
@@ -25,27 +26,30 @@ pub fn head(map: &[u8], id: usize, which: usize) -> Structure
     Structure::load(&map[at..at + Structure::SIZE])
 }
 
-fn good_at(map: &[u8], id: usize) -> bool
+// What is wrong with a component's two heads, 0 exactly if nothing is.
+fn faults_at(map: &[u8], id: usize) -> u32
     requires { ⌜ length (now map) ≡ mapSize ⌝ }
     requires { ⌜ id < ids ⌝ }
-    ensures { λ r. ⌜ r ≡ goodAt (now (map .entry)) id ⌝ }
+    ensures { λ r. ⌜ eqb r 0 ≡ goodAt (now (map .entry)) id ⌝ }
 {
-    let force = head(map, id, 0);
-    let coming = head(map, id, 1);
-    force.good() & ((force.deleted == 0) & coming.good())
+    let at = id * Map::BLOCK;
+    let force = Structure::faults_in_force(&map[at..at + Structure::SIZE]);
+    force | Structure::faults(&map[at + Structure::SIZE..at + Map::BLOCK])
 }
 
+// What is wrong is folded together, and tested once: no test ends it early, so that several heads are tested at a time.
 fn is_good(map: &[u8]) -> bool
     requires { ⌜ length (now map) ≡ mapSize ⌝ }
     ensures { λ r. ⌜ r ≡ good (now (map .entry)) ⌝ }
 {
-    let mut all = crate::frames_of(map).good();
+    let frames = crate::frames_of(map).good();
+    let mut faults: u32 = 0;
     let mut id: usize = 0;
     while id < Map::IDS {
-        all = all & good_at(map, id);
+        faults = faults | faults_at(map, id);
         id += 1;
     }
-    all
+    frames & (faults == 0)
 }
 
 // 20, 34.

@@ -1,5 +1,6 @@
 -- Every change of a structure keeps it good: its head within its bounds, its length, and not to be deleted where it was not.
 --
+--   Bounds, bounds-good, good-bounds    a good head as facts, and back
 --   Kept                    what one more field keeps
 --   marked-good, settled-good    a head with other marks, and as a change puts it in force
 --   gathered-length, gathered-good, gathered-deleted
@@ -34,10 +35,10 @@ use Rattle.structure.proofs.Gathering.{Empty, Alike, head-stored, head-
 -- ---- good heads
 
 -- a whole structure has fields, and room for each
-abbrev fits : ℕ → ℕ → Bool
+abbrev pub fits : ℕ → ℕ → Bool
 fits n w = eqb w 0 || (ltb 0 n && leb n most)
 
-record Bounds (h : Structure) : Type 0 where
+pub record Bounds (h : Structure) : Type 0 where
   pub fields : h .fields ≤ most + 1
   pub whole : h .whole ≤ 1
   pub links : h .links ≤ 1
@@ -47,13 +48,13 @@ record Bounds (h : Structure) : Type 0 where
   pub room : fits (h .fields) (h .whole) ≡ true
   pub none : (eqb (h .deleted) 0 || eqb (h .fields) 0) ≡ true
 
-bounds-good : (h : Structure) → Bounds h → goodHead h ≡ true
+pub bounds-good : (h : Structure) → Bounds h → goodHead h ≡ true
 unfolding goodHead
 bounds-good h b =
     λ i. le-leb (h .fields) (most + 1) (b .fields) i && (le-leb (h .whole) 1 (b .whole) i && (le-leb (h .links) 1 (b .links) i
     && (le-leb (h .deleted) 1 (b .deleted) i && (le-leb (h .late) 1 (b .late) i && (le-leb (h .certain) 1 (b .certain) i && (b .room i && b .none i))))))
 
-good-bounds : (h : Structure) → goodHead h ≡ true → Bounds h
+pub good-bounds : (h : Structure) → goodHead h ≡ true → Bounds h
 unfolding goodHead
 good-bounds h g =
     let w = and-right (leb (h .fields) (most + 1)) _ g in

@@ -1,6 +1,7 @@
+pub mod Faults
+pub mod Firsts
 pub mod Gathering
 pub mod Kept
+pub mod Rounds
 pub mod Runs
 pub mod Turns
-pub mod Rounds
-pub mod Firsts

@@ -1,6 +1,5 @@
 -- What the functions on one structure rest on.
 --
---   good-tests                             the tests of a good head, in the code's order
 --   settled-mark                           a settled head, by the tests that mark it
 --   stored-most, stored-from, stored-to    how many fields have room
 --   next-within, next-beyond, next-to      the place of the field that comes next
@@ -17,7 +16,7 @@
 --
 -- Assumes nothing.
 use mathlib.Core.Path.{_≡_, refl, sym, ap, ap₂, _∙_, subst}
-use mathlib.Core.Bool.{Bool, true, false, cond, _&&_, _||_}
+use mathlib.Core.Bool.{Bool, true, false, cond, _&&_}
 use mathlib.Core.List.{List}
 use mathlib.Core.Logic.{_⊎_, inl, inr}
 use Prim.Native.Nat.{ℕ, suc, _+_, _-_, _≤_, _<_}
@@ -31,28 +30,12 @@ use Rattle.bits.specs.Search.{first}
 use Rattle.bits.proofs.Search.{first-le}
 use Rattle.runs.specs.Part.{put}
 use Rattle.field.specs.Field.{key}
-use Rattle.structure.specs.Structure.{most, structureSize, allOnes, headOf, withHead, nth, withNth, stored, placeOf, member, nextPlace, isNext, goesOn, turnOf, gatheringHead, completedHead, markedHead, lateOf, beginning, turned, gathered, spoiled, noneHead, goodHead, complete, settledHead}
+use Rattle.structure.specs.Structure.{most, structureSize, allOnes, headOf, withHead, nth, withNth, stored, placeOf, member, nextPlace, isNext, goesOn, turnOf, gatheringHead, completedHead, markedHead, lateOf, beginning, turned, gathered, spoiled, noneHead, complete, settledHead}
 use Rattle.structure.specs.declared.Structure.{Structure}
 use Rattle.structure.specs.declared.Turn.{Turn}
 use Rattle.structure.specs.declared.Turn.the-variants.{Begins, Joins, Overflows, Completes, Known}
 
 -- ---- the head
-
-and-in : (a b c d e f g : Bool) → ((a && (b && (c && (d && (e && f))))) && g) ≡ (a && (b && (c && (d && (e && (f && g))))))
-and-in true true true true true f g = refl
-and-in true true true true false f g = refl
-and-in true true true false e f g = refl
-and-in true true false d e f g = refl
-and-in true false c d e f g = refl
-and-in false b c d e f g = refl
-
-pub good-tests : (h : Structure) → ((leb (h .fields) (most + 1) && (leb (h .whole) 1 && (leb (h .links) 1 && (leb (h .deleted) 1
-    && (leb (h .late) 1 && leb (h .certain) 1)))))
-    && ((eqb (h .whole) 0 || (ltb 0 (h .fields) && leb (h .fields) most)) && (eqb (h .deleted) 0 || eqb (h .fields) 0))) ≡ goodHead h
-unfolding goodHead
-good-tests h =
-    and-in (leb (h .fields) (most + 1)) (leb (h .whole) 1) (leb (h .links) 1) (leb (h .deleted) 1) (leb (h .late) 1) (leb (h .certain) 1)
-    ((eqb (h .whole) 0 || (ltb 0 (h .fields) && leb (h .fields) most)) && (eqb (h .deleted) 0 || eqb (h .fields) 0))
 
 module _ (sure : Bool) (h : Structure) (c : Bool) (ec : c ≡ complete h) where
   abbrev settledBy : Bool → Bool → Structure

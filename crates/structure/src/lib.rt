@@ -1,7 +1,9 @@
 // One component's structure, 71 bytes, gathered field by field. Byte places stand in specs/Structure.antt and in the constants below,
 // and nowhere else.
 ghost use mathlib.Core.Path.{_≡_};
+ghost use mathlib.Core.Bool.{_&&_};
 ghost use Prim.Native.Nat.{_+_, _<_};
+ghost use lib.Dec.{eqb};
 ghost use lib.ListN.{length};
 ghost use Rattle.bits.specs.Bits.{blank};
 ghost use Rattle.structure.specs.Structure.{structureSize, headOf, withHead, nth, withNth, stored, placeOf, nextPlace, isNext, goesOn, turnOf, gatheringHead, completedHead, markedHead, lateOf, beginning, gathered, spoiled, noneHead, deletion, absence, said, certainly, goodHead, complete, settledHead};
@@ -37,6 +39,12 @@ impl Structure {
 
     pub const SIZE: usize = Self::FIELDS + 8 * Self::FIELD;
 
+    // The bits that no good head has set: in its first four bytes, number of fields and three marks, and in the next four, of which
+    // only the first and the third are marks.
+    pub const NEVER_LOW: u32 = 4278124272;
+
+    pub const NEVER_HIGH: u32 = 16646398;
+
     pub fn load(s: &[u8]) -> Self
         requires { ⌜ length (now s) ≡ structureSize ⌝ }
         ensures { λ r. ⌜ r ≡ headOf (now (s .entry)) ⌝ }
@@ -52,6 +60,32 @@ impl Structure {
         }
     }
 
+    // What is wrong with a head, 0 exactly if nothing is. The head is read as two numbers and all is tested at once, with no
+    // branch, so that a loop over many heads tests several at a time. Of the fields, beside the marks: whole asks for one to eight of
+    // them and deleted for none, so the number of fields with whole and nine times deleted is at most nine, and whole at most the
+    // number of fields. Either shows in bit 4.
+    pub fn faults(s: &[u8]) -> u32
+        requires { ⌜ length (now s) ≡ structureSize ⌝ }
+        ensures { λ r. ⌜ eqb r 0 ≡ goodHead (headOf (now (s .entry))) ⌝ }
+    {
+        let low = runs::four_at(s, 0);
+        let high = runs::four_at(s, 4);
+        let fields = low % 256;
+        let whole = low / 256 % 256;
+        let deleted = low / 16777216;
+        let many = fields + whole + 9 * deleted + 6;
+        let few = 256 + fields - whole;
+        low & Self::NEVER_LOW | high & Self::NEVER_HIGH | (many & 16 | few & 16)
+    }
+
+    // The same of a structure in force, which is never to be deleted.
+    pub fn faults_in_force(s: &[u8]) -> u32
+        requires { ⌜ length (now s) ≡ structureSize ⌝ }
+        ensures { λ r. ⌜ eqb r 0 ≡ (goodHead (headOf (now (s .entry))) && eqb (headOf (now (s .entry)) .deleted) 0) ⌝ }
+    {
+        Self::faults(s) | Self::load(s).deleted as u32
+    }
+
     // Puts the head into a structure, and touches no field.
     pub fn store(self, s: &mut [u8])
         requires { ⌜ length (now s) ≡ structureSize ⌝ }
@@ -64,17 +98,6 @@ impl Structure {
         s[4] = self.late;
         s[5] = self.last;
         s[6] = self.certain;
-    }
-
-    pub fn good(self) -> bool
-        ensures { λ r. ⌜ r ≡ goodHead self ⌝ }
-    {
-        let marks = (self.whole <= 1)
-            & ((self.links <= 1)
-                & ((self.deleted <= 1) & ((self.late <= 1) & (self.certain <= 1))));
-        let bounds = (self.fields <= Self::MOST + 1) & marks;
-        let whole = (self.whole == 0) | ((0 < self.fields) & (self.fields <= Self::MOST));
-        bounds & (whole & ((self.deleted == 0) | (self.fields == 0)))
     }
 
     // Something is said of the component.
