@@ -36,6 +36,11 @@ turned-requires c κs = omega (arith, c .pre .1, remainder-small (c .args .n % 2
 data-word-requires : tie.Need-data-word-requires
 data-word-requires c κs = let s = c .before in small (s .args .n) (s .args .r) (c .turned .result) (s .pre .0) (s .pre .1) (c .turned .ensures)
 
+returns : tie.Need-returns
+returns c =
+    let s = c .before .before in
+    judged-by (s .args .n) (bitXor (s .args .n % 4096) (c .before .turned .result)) (c .data-word .result) (s .pre .0) (found (s .args .n) (s .args .r) (c .before .turned .result) (s .pre .0) (s .pre .1) (c .before .turned .ensures)) (c .data-word .ensures)
+
 mul-result : tie.Need-mul-result
 mul-result c =
     let s = c .before .before in
@@ -45,11 +50,6 @@ add-result : tie.Need-add-result
 add-result c =
     let s = c .before .before in
     omega (arith, small (s .args .n) (s .args .r) (c .before .turned .result) (s .pre .0) (s .pre .1) (c .before .turned .ensures), few (s .args .n) (s .args .r) (c .before .turned .result) (s .pre .0) (s .pre .1) (c .before .turned .ensures) (c .data-word .result) (c .data-word .ensures))
-
-returns : tie.Need-returns
-returns c =
-    let s = c .before .before in
-    judged-by (s .args .n) (bitXor (s .args .n % 4096) (c .before .turned .result)) (c .data-word .result) (s .pre .0) (found (s .args .n) (s .args .r) (c .before .turned .result) (s .pre .0) (s .pre .1) (c .before .turned .ensures)) (c .data-word .ensures)
 
 pub damaged-spec : {M : Type 1} → statement M
 damaged-spec =
