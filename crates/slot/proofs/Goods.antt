@@ -1,7 +1,7 @@
 -- Free slots and good slots.
 --
 --   free-blank, blank-free, head-blank     free slots
---   good-free, good-slot, good-cases       good slots; good-used: one with a good head is not free
+--   good-free, good-slot, good-cases, good-small       good slots; good-used: one with a good head is not free
 --   good-load, good-store                  a good head stored: read back as it was, and the slot is good
 --
 -- Assumes nothing.
@@ -64,6 +64,14 @@ good-cases s e = go (free s) refl e
     go : (a : Bool) → free s ≡ a → (a || goodHead (headOf s)) ≡ true → (s ≡ blank (length s)) ⊎ (goodHead (headOf s) ≡ true)
     go true p e = inl (free-blank s p)
     go false p e = inr e
+
+-- the address of a good slot, used or free
+pub good-small : (s : List ℕ) → goodSlot s ≡ true → headOf s .wish .address ≤ 1022
+good-small s e = go (good-cases s e)
+  where
+    go : (s ≡ blank (length s)) ⊎ (goodHead (headOf s) ≡ true) → headOf s .wish .address ≤ 1022
+    go (inl b) = omega (arith, ap (λ (x : List ℕ). headOf x .wish .address) b, ap (λ (h : Head). h .wish .address) (head-blank (length s)))
+    go (inr g) = wish-bounds (headOf s .wish) (good-bounds (headOf s) g .wish) .address-to
 
 -- a good head is stored and read back, and makes a good slot
 module _ (h : Head) (e : goodHead h ≡ true) (s : List ℕ) where

@@ -2,7 +2,8 @@
 -- slot's address stands again behind it".
 --
 --   all-next, all-end    a fold over a run of numbers, turn by turn
---   Gathered             the addresses of the slots up to k, and 0 behind them
+--   short                two bytes of a slot's address: of a good slot the address itself (small)
+--   Gathered             these of the slots up to k, and 0 behind them
 --   gathered-none, gathered-next    so they are before the first turn, and after one more
 --   differs, alone       an address is another than that at k; it is 0, or stands at none of the sixteen places behind it
 --   alone-used, alone-free    so it is tested
@@ -12,7 +13,7 @@
 use mathlib.Core.Path.{_≡_, refl, sym, ap, ap₂, _∙_}
 use mathlib.Core.Bool.{Bool, true, false, cond, not, _&&_, _||_, and-true, and-assoc}
 use mathlib.Core.List.{List}
-use Prim.Native.Nat.{ℕ, zero, suc, _+_, _≤_, _<_}
+use Prim.Native.Nat.{ℕ, zero, suc, _+_, _%_, _≤_, _<_}
 use native.Mathlib.Omega.{arith}
 use native.Mathlib.Decide.{decLt, ℕ-discrete}
 use borrow.Author.Tests.{lt-ltb, le-ltb, eq-eqb, ne-eqb}
@@ -22,6 +23,7 @@ use lib.Seq.{getD-set-same, getD-set-other}
 use Rattle.bits.specs.Search.{all}
 use Rattle.bits.proofs.Search.{all-at, all-each, and-left, and-right, or-right, clash}
 use Rattle.slot.specs.Slot.{free, goodSlot}
+use Rattle.slot.proofs.Goods.{good-small}
 use Rattle.table.specs.State.{slots, slotAt, addressAt, good}
 use Rattle.table.proofs.States.{Good, good-each, each-good, find-only, used-address, used-one}
 
@@ -46,33 +48,40 @@ same-truth true b f g = sym (f refl)
 same-truth false true f g = g refl
 same-truth false false f g = refl
 
--- ---- the addresses, gathered
+-- ---- the addresses, gathered: two bytes of each, which is all that a good slot's has
+
+abbrev pub short : List ℕ → ℕ → ℕ
+short s k = addressAt s k % 65536
+
+small : (s : List ℕ) (k : ℕ) → goodSlot (slotAt k s) ≡ true → short s k ≡ addressAt s k
+unfolding addressAt
+small s k g = let h = good-small (slotAt k s) g in omega arith
 
 abbrev pub Gathered : List ℕ → ℕ → List ℕ → Type 0
-Gathered s k xs = (j : ℕ) → getD xs j 0 ≡ cond (ltb j k) (addressAt s j) 0
+Gathered s k xs = (j : ℕ) → getD xs j 0 ≡ cond (ltb j k) (short s j) 0
 
 module _ (s : List ℕ) where
   pub gathered-none : (n : ℕ) → Gathered s 0 (replicate n 0)
-  gathered-none n j = at (decLt j n) ∙ sym (ap (λ (b : Bool). cond b (addressAt s j) 0) (le-ltb j 0 (omega arith)))
+  gathered-none n j = at (decLt j n) ∙ sym (ap (λ (b : Bool). cond b (short s j) 0) (le-ltb j 0 (omega arith)))
     where
       at : Dec (j < n) → _≡_ {A = ℕ} (getD (replicate n 0) j 0) 0
       at (yes h) = getD-replicate n j zero zero h
       at (no h) = List·getD-eq-default (replicate n zero) zero (omega (arith, length-replicate n zero))
 
-  module _ (xs : List ℕ) (k v : ℕ) (h : k < length xs) (e : v ≡ addressAt s k) (g : Gathered s k xs) where
+  module _ (xs : List ℕ) (k v : ℕ) (h : k < length xs) (e : v ≡ short s k) (g : Gathered s k xs) where
     pub gathered-next : Gathered s (k + 1) (set xs k v)
     gathered-next j = at (ℕ-discrete j k)
       where
-        up-to : (b : Bool) → ltb j (k + 1) ≡ b → cond (ltb j (k + 1)) (addressAt s j) 0 ≡ cond b (addressAt s j) 0
-        up-to b q = ap (λ (b : Bool). cond b (addressAt s j) 0) q
+        up-to : (b : Bool) → ltb j (k + 1) ≡ b → cond (ltb j (k + 1)) (short s j) 0 ≡ cond b (short s j) 0
+        up-to b q = ap (λ (b : Bool). cond b (short s j) 0) q
 
         same : (j ≡ k → ⊥) → Dec (j < k) → ltb j (k + 1) ≡ ltb j k
         same ne (yes q) = lt-ltb j (k + 1) (omega arith) ∙ sym (lt-ltb j k q)
         same ne (no q) = le-ltb j (k + 1) (omega arith) ∙ sym (le-ltb j k (omega arith))
 
-        at : Dec (j ≡ k) → getD (set xs k v) j 0 ≡ cond (ltb j (k + 1)) (addressAt s j) 0
+        at : Dec (j ≡ k) → getD (set xs k v) j 0 ≡ cond (ltb j (k + 1)) (short s j) 0
         at (yes q) =
-            ap (λ (n : ℕ). getD (set xs k v) n 0) q ∙ getD-set-same xs k v 0 h ∙ e ∙ ap (addressAt s) (sym q)
+            ap (λ (n : ℕ). getD (set xs k v) n 0) q ∙ getD-set-same xs k v 0 h ∙ e ∙ ap (short s) (sym q)
             ∙ sym (up-to true (lt-ltb j (k + 1) (omega arith)))
         at (no q) = getD-set-other xs k j v 0 q ∙ g j ∙ sym (up-to (ltb j k) (same q (decLt j k)))
 
@@ -98,22 +107,22 @@ abbrev pub goodSlotAt : List ℕ → ℕ → Bool
 goodSlotAt s k = goodSlot (slotAt k s)
 
 module _ (s xs : List ℕ) (g : Gathered s slots xs) where
-  is-address : (k : ℕ) → k < slots → getD xs k 0 ≡ addressAt s k
-  is-address k h = g k ∙ ap (λ (b : Bool). cond b (addressAt s k) 0) (lt-ltb k slots h)
+  is-address : (k : ℕ) → k < slots → goodSlot (slotAt k s) ≡ true → getD xs k 0 ≡ addressAt s k
+  is-address k h ok = g k ∙ ap (λ (b : Bool). cond b (short s k) 0) (lt-ltb k slots h) ∙ small s k ok
 
   is-none : (k : ℕ) → slots ≤ k → getD xs k 0 ≡ 0
-  is-none k h = g k ∙ ap (λ (b : Bool). cond b (addressAt s k) 0) (le-ltb k slots h)
+  is-none k h = g k ∙ ap (λ (b : Bool). cond b (short s k) 0) (le-ltb k slots h)
 
   -- a used slot's address does not stand behind it
-  behind : all (alone xs) slots 0 ≡ true → (i j : ℕ) → i < j → j < slots → addressAt s j ≡ addressAt s i → addressAt s i ≡ 0
-  behind a i j l h e = go (ℕ-discrete (getD xs i 0) 0)
+  behind : ((k : ℕ) → k < slots → goodSlot (slotAt k s) ≡ true) → all (alone xs) slots 0 ≡ true → (i j : ℕ) → i < j → j < slots → addressAt s j ≡ addressAt s i → addressAt s i ≡ 0
+  behind ok a i j l h e = go (ℕ-discrete (getD xs i 0) 0)
     where
       go : Dec (getD xs i 0 ≡ 0) → addressAt s i ≡ 0
-      go (yes z) = sym (is-address i (omega arith)) ∙ z
+      go (yes z) = sym (is-address i (omega arith) (ok i (omega arith))) ∙ z
       go (no ne) =
           let rest = or-right (eqb (getD xs i 0) 0) _ (all-at (alone xs) slots 0 a i (omega arith) (omega arith)) (ne-eqb (getD xs i 0) 0 ne) in
           let other : not (eqb (getD xs j 0) (getD xs i 0)) ≡ true = all-at (differs xs i) slots (i + 1) rest j (omega arith) (omega arith) in
-          let same : getD xs j 0 ≡ getD xs i 0 = is-address j h ∙ e ∙ sym (is-address i (omega arith)) in
+          let same : getD xs j 0 ≡ getD xs i 0 = is-address j h (ok j h) ∙ e ∙ sym (is-address i (omega arith) (ok i (omega arith))) in
           clash (sym other ∙ ap not (eq-eqb (getD xs j 0) (getD xs i 0) same))
 
   to-good : all (goodSlotAt s) slots 0 ≡ true → all (alone xs) slots 0 ≡ true → Good s
@@ -129,8 +138,8 @@ module _ (s xs : List ℕ) (g : Gathered s slots xs) where
           pos = used-at s k (slot-good k h) f
 
           go : Dec (j < k) → Dec (k < j) → j ≡ k
-          go (yes q) r = absurd (omega (arith, pos, e, behind a j k q h (sym e)))
-          go (no q) (yes r) = absurd (omega (arith, pos, behind a k j r hj e))
+          go (yes q) r = absurd (omega (arith, pos, e, behind slot-good a j k q h (sym e)))
+          go (no q) (yes r) = absurd (omega (arith, pos, behind slot-good a k j r hj e))
           go (no q) (no r) = omega arith
 
   from-good : Good s → (k : ℕ) → k < slots → alone xs k ≡ true
@@ -138,8 +147,8 @@ module _ (s xs : List ℕ) (g : Gathered s slots xs) where
     where
       other : (getD xs k 0 ≡ 0 → ⊥) → (j : ℕ) → k + 1 ≤ j → Dec (j < slots) → getD xs j 0 ≡ getD xs k 0 → ⊥
       other ne j l (yes q) e =
-          let at-k : getD xs k 0 ≡ addressAt s k = is-address k h in
-          let same : addressAt s j ≡ addressAt s k = sym (is-address j q) ∙ e ∙ at-k in
+          let at-k : getD xs k 0 ≡ addressAt s k = is-address k h (ok .slot k h) in
+          let same : addressAt s j ≡ addressAt s k = sym (is-address j q (ok .slot j q)) ∙ e ∙ at-k in
           omega (arith, used-one s ok j k q h same (omega arith))
       other ne j l (no q) e = ne (sym e ∙ is-none j (omega arith))
 

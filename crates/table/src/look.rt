@@ -41,7 +41,7 @@ pub fn find(state: &[u8], address: u32) -> usize
 
 // The address at place k, of the slots' addresses with as many 0 behind them, stands at none of the sixteen places behind it.
 // As many are looked at for each k, and no test ends it early, so that several are compared at once.
-fn last(addresses: &[u32], k: usize) -> bool
+fn last(addresses: &[u16], k: usize) -> bool
     requires { ⌜ length (now addresses) ≡ slots + slots ⌝ }
     requires { ⌜ k < slots ⌝ }
     ensures { λ r. ⌜ r ≡ all (λ (j : ℕ). not (eqb (getD (now (addresses .entry)) j 0) (getD (now (addresses .entry)) k 0))) slots (k + 1) ⌝ }
@@ -57,7 +57,7 @@ fn last(addresses: &[u32], k: usize) -> bool
 }
 
 // No address but 0 stands at two places.
-fn apart(addresses: &[u32]) -> bool
+fn apart(addresses: &[u16]) -> bool
     requires { ⌜ length (now addresses) ≡ slots + slots ⌝ }
     ensures { λ r. ⌜ r ≡ all (λ (k : ℕ). eqb (getD (now (addresses .entry)) k 0) 0 || all (λ (j : ℕ). not (eqb (getD (now (addresses .entry)) j 0) (getD (now (addresses .entry)) k 0))) slots (k + 1)) slots 0 ⌝ }
 {
@@ -73,19 +73,19 @@ fn apart(addresses: &[u32]) -> bool
 }
 
 // Each slot is good, and no two used ones share an address. The addresses are gathered first: in the state they stand 736
-// bytes apart.
+// bytes apart. Two bytes of each are enough, since a good slot's address has no more, and eight are then compared at once.
 pub fn is_good(state: &[u8]) -> bool
     requires { ⌜ length (now state) ≡ stateSize ⌝ }
     ensures { λ r. ⌜ r ≡ good (now (state .entry)) ⌝ }
 {
-    let mut addresses: [u32; 2 * Table::SLOTS] = [0; 2 * Table::SLOTS];
+    let mut addresses: [u16; 2 * Table::SLOTS] = [0; 2 * Table::SLOTS];
     let mut so = true;
     let mut k: usize = 0;
     while k < Table::SLOTS {
         let own = head(state, k);
         let at = k * Slot::SIZE;
         so = so & Slot::good(&state[at..at + Slot::SIZE], own);
-        addresses[k] = own.wish.address;
+        addresses[k] = (own.wish.address % 65536) as u16;
         k += 1;
     }
     so & apart(&addresses)

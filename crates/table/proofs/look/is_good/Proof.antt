@@ -3,7 +3,7 @@
 -- Assumes nothing.
 use mathlib.Core.Path.{_≡_, refl, sym, ap, ap₂, _∙_, subst}
 use mathlib.Core.Bool.{Bool, _&&_}
-use Prim.Native.Nat.{ℕ, _+_, _-_, _≤_}
+use Prim.Native.Nat.{ℕ, _+_, _-_, _%_, _≤_}
 use native.Mathlib.Omega.{arith}
 use borrow.Author.Needs.{needs}
 use lib.ListN.{length, length-set}
@@ -50,6 +50,9 @@ good-requires c κs =
     let k = c .before .before .before .loop .k in
     (search needs, c .before .head .ensures ∙ ap headOf (sym (slot-part k s)))
 
+cast-addresses : tie.Need-cast-addresses Inv-loop μ-loop
+cast-addresses c = omega arith
+
 mul-addresses : tie.Need-mul-addresses Inv-loop μ-loop
 mul-addresses c = omega arith
 
@@ -64,15 +67,15 @@ loop-less c = omega arith
 
 loop-again : tie.Need-loop-again Inv-loop μ-loop
 loop-again c =
-    let s = c .before .before .before .before .before .before .args .state .now in
-    let l = c .before .before .before .before .loop in
-    let own = c .before .before .head in (
+    let s = c .before .before .before .before .before .before .before .args .state .now in
+    let l = c .before .before .before .before .before .loop in
+    let own = c .before .before .before .head in (
       omega arith,
       all-next (goodSlotAt s) (l .so) (all (goodSlotAt s) 16 0) (16 - l .k) (l .k) _ (16 - (l .k + 1)) (l .k + 1) (omega arith) (omega arith)
-          (ap (λ (b : Bool). l .so && b) (c .good2 .ensures ∙ ap goodSlot (slot-part (l .k) s))) (l .inv .1),
-      length-set (l .addresses) (l .k) (own .result .wish .address) ∙ l .inv .2,
-      gathered-next s (l .addresses) (l .k) (own .result .wish .address) (omega arith)
-          (ap (λ (h : Head). h .wish .address) (own .ensures) ∙ address-is s (l .k)) (l .inv .3),
+          (ap (λ (b : Bool). l .so && b) (c .before .good2 .ensures ∙ ap goodSlot (slot-part (l .k) s))) (l .inv .1),
+      length-set (l .addresses) (l .k) (own .result .wish .address % 65536) ∙ l .inv .2,
+      gathered-next s (l .addresses) (l .k) (own .result .wish .address % 65536) (omega arith)
+          (ap (λ (a : ℕ). a % 65536) (ap (λ (h : Head). h .wish .address) (own .ensures) ∙ address-is s (l .k))) (l .inv .3),
     )
 
 slice-aggregate-apart : tie.Need-slice-aggregate-apart Inv-loop μ-loop
@@ -103,6 +106,7 @@ is-good-spec =
     part-good-start
     part-good-end
     good-requires
+    cast-addresses
     mul-addresses
     array-write-addresses
     add-k
