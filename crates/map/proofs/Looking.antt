@@ -9,7 +9,7 @@
 --   many-*                   one component too many, by the tests on the way
 --   take-20 ..               the rows of a field taken in; idle: panning vectors, or a frame that was heard, which row 45 passes over
 --   mark-*, found-*                       what is shown of a component, by the tests on the way
---   which-then, behind-then, force-then, shown-then   and of which structure
+--   which-then, behind-then, force-then, shown-then, mark-then   and of which structure
 --   heard-*, known-then                   what was heard of it, and how far it reaches
 --
 -- Assumes nothing.
@@ -19,7 +19,7 @@ use mathlib.Core.List.{List, [], _∷_}
 use Prim.Native.Nat.{ℕ, suc, _+_, _-_, _*_, _≤_, _<_}
 use native.Mathlib.Omega.{arith}
 use native.Mathlib.Nat.{add-assoc, add-zero}
-use borrow.Author.Tests.{eq-eqb, ne-eqb, eqb-true, not-false}
+use borrow.Author.Tests.{eq-eqb, ne-eqb, lt-ltb, eqb-true, not-false}
 use lib.Bits.{bitOr}
 use lib.Dec.{leb, ltb, eqb, lit<}
 use lib.ListN.{length, take, drop}
@@ -271,20 +271,6 @@ module _ (a : Shown) where
   unfolding markOf
   by-marks b n u eb en eu = λ i. cond (sym eb i) 2 (cond (sym en i) (cond (sym eu i) 3 0) 1)
 
-  pub mark-unfinished : a .number ≡ 46 → 2 ≡ markOf a
-  mark-unfinished e = by-marks true _ _ (eq-eqb (a .number) 46 e) refl refl
-
-  module _ (ne : a .number ≡ 46 → ⊥) where
-    pub mark-whole : (a .len ≡ 0 → ⊥) → 1 ≡ markOf a
-    mark-whole e = by-marks false false _ (ne-eqb (a .number) 46 ne) (ne-eqb (a .len) 0 e) refl
-
-    module _ (z : a .len ≡ 0) where
-      pub mark-unknown : a .unknown ≡ 1 → 3 ≡ markOf a
-      mark-unknown e = by-marks false true true (ne-eqb (a .number) 46 ne) (eq-eqb (a .len) 0 z) (eq-eqb (a .unknown) 1 e)
-
-      pub mark-none : (a .unknown ≡ 1 → ⊥) → 0 ≡ markOf a
-      mark-none e = by-marks false true false (ne-eqb (a .number) 46 ne) (eq-eqb (a .len) 0 z) (ne-eqb (a .unknown) 1 e)
-
 pub unknown-tests : (f : Frames) (h : Structure) (x : Bool) → x ≡ enough f → (eqb (h .fields) 0 && (eqb (h .certain) 0 && not x)) ≡ unknown f h
 unfolding unknown
 unknown-tests f h x e = ap (λ (y : Bool). eqb (h .fields) 0 && (eqb (h .certain) 0 && not y)) e
@@ -321,6 +307,52 @@ module _ (f : Frames) (id w : ℕ) (h : Structure) (s : Bool) (a n u : ℕ) (ea 
   unfolding thenNumber
   found-part ne b e = ap (λ (x : Bool). answer (cond x 46 0) 0 0) (sym e) ∙ by-whole false (ne-eqb (h .whole) 1 ne)
 
+-- the mark of what is found, by the tests on the head
+module _ (f : Frames) (id w : ℕ) (h : Structure) (s : Bool) where
+  by-found : (b n u : Bool) → eqb (thenNumber h) 46 ≡ b → eqb (cond (eqb (h .whole) 1) (8 * h .fields) 0) 0 ≡ n → eqb (cond (unknown f h) 1 0) 1 ≡ u
+      → cond b 2 (cond n (cond u 3 0) 1) ≡ markOf (foundOf f id w h s)
+  unfolding foundOf
+  by-found b n u = by-marks (foundOf f id w h s) b n u
+
+  pub mark-empty : (x : Bool) → x ≡ enough f → h .fields ≡ 0 → (t : Bool) → (eqb (h .certain) 0 && not x) ≡ t → cond t 3 0 ≡ markOf (foundOf f id w h s)
+  unfolding thenNumber unknown
+  mark-empty x ex z t et =
+      by-found false true t
+      (ap (λ (n : ℕ). eqb (cond (ltb 0 n && eqb (h .whole) 0) 46 0) 46) z)
+      (ap (λ (n : ℕ). eqb (cond (eqb (h .whole) 1) (8 * n) 0) 0) z ∙ either (eqb (h .whole) 1))
+      (ap (λ (b : Bool). eqb (cond b 1 0) 1) (ap₂ (λ (n : ℕ) (y : Bool). eqb n 0 && (eqb (h .certain) 0 && not y)) z (sym ex) ∙ et) ∙ same t)
+    where
+      either : (b : Bool) → eqb (cond b 0 0) 0 ≡ true
+      either true = refl
+      either false = refl
+
+      same : (b : Bool) → eqb (cond b 1 0) 1 ≡ b
+      same true = refl
+      same false = refl
+
+  module _ (ne : h .fields ≡ 0 → ⊥) where
+    some : ltb 0 (h .fields) ≡ true
+    some = lt-ltb 0 (h .fields) (omega (arith, ne))
+
+    pub mark-whole : h .whole ≡ 1 → 1 ≡ markOf (foundOf f id w h s)
+    unfolding thenNumber
+    mark-whole e =
+        by-found false false _
+        (ap₂ (λ (b : Bool) (n : ℕ). eqb (cond (b && eqb n 0) 46 0) 46) some e)
+        (ap (λ (n : ℕ). eqb (cond (eqb n 1) (8 * h .fields) 0) 0) e ∙ ne-eqb (8 * h .fields) 0 (λ q. ne (omega (arith, q)))) refl
+
+    pub mark-unfinished : h .whole ≡ 0 → 2 ≡ markOf (foundOf f id w h s)
+    unfolding thenNumber
+    mark-unfinished e = by-found true _ _ (ap₂ (λ (b : Bool) (n : ℕ). eqb (cond (b && eqb n 0) 46 0) 46) some e) refl refl
+
+    pub mark-neither : (h .whole ≡ 1 → ⊥) → (h .whole ≡ 0 → ⊥) → 0 ≡ markOf (foundOf f id w h s)
+    unfolding thenNumber unknown
+    mark-neither n1 n0 =
+        by-found false true false
+        (ap₂ (λ (b c : Bool). eqb (cond (b && c) 46 0) 46) some (ne-eqb (h .whole) 0 n0))
+        (ap (λ (b : Bool). eqb (cond b (8 * h .fields) 0) 0) (ne-eqb (h .whole) 1 n1))
+        (ap (λ (b : Bool). eqb (cond (b && (eqb (h .certain) 0 && not (enough f))) 1 0) 1) (ne-eqb (h .fields) 0 ne))
+
 -- ---- of which structure
 
 module _ (m : List ℕ) (id count : ℕ) (b : Bool) (e : b ≡ (changing (framesOf m) count && said (announced id m))) where
@@ -353,6 +385,12 @@ pub shown-then : (m : List ℕ) (id count : ℕ) (x : Shown) (f : Frames) (w : �
     → h ≡ thenHead m id count → s ≡ said (announced id m) → x ≡ foundOf f id w h s → x ≡ shownAt m id count
 unfolding shownAt
 shown-then m id count x f w h s ef ew eh es q = q ∙ (λ i. foundOf (ef i) id (ew i) (eh i) (es i))
+
+-- and its mark
+pub mark-then : (m : List ℕ) (id count r : ℕ) (h : Structure) → h ≡ thenHead m id count
+    → r ≡ markOf (foundOf (framesOf m) id (thenWhich m id count) h (said (announced id m))) → r ≡ markOf (shownAt m id count)
+unfolding shownAt
+mark-then m id count r h eh q = q ∙ ap (λ (x : Structure). markOf (foundOf (framesOf m) id (thenWhich m id count) x (said (announced id m)))) eh
 
 -- ---- what was heard
 

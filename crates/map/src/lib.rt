@@ -267,9 +267,13 @@ pub fn list(map: &[u8], count: u8, out: &mut [u8]) -> u8
     if refused != 0 {
         return refused;
     }
+    let frames = frames_of(map);
+    let change = frames.changing(count);
+    let sure = frames.all_heard();
+    let heard = frames.enough();
     let mut id: usize = 0;
     while id < Map::IDS {
-        out[id] = look::mark(look::shown_at(map, id, count));
+        out[id] = look::mark_at(map, id, change, sure, heard);
         id += 1;
     }
     0

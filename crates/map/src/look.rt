@@ -1,9 +1,12 @@
 // What the map is asked before a change: frames, structures, whether it is good, and what is known of a component.
 ghost use mathlib.Core.Path.{_≡_};
-ghost use Prim.Native.Nat.{_<_};
+ghost use mathlib.Core.Bool.{Bool};
+ghost use Prim.Native.Nat.{ℕ, _<_};
 ghost use lib.Dec.{eqb};
 ghost use lib.ListN.{length};
-ghost use Rattle.map.specs.Map.{ids, mapSize, structureAt, goodAt, good, present, components};
+ghost use Rattle.frames.specs.Counts.{changing, allHeard, enough};
+ghost use Rattle.frames.specs.declared.Frames.{Frames};
+ghost use Rattle.map.specs.Map.{ids, mapSize, framesOf, structureAt, goodAt, good, present, components};
 ghost use Rattle.structure.specs.Structure.{headOf};
 ghost use Rattle.map.specs.Calls.{tooMany, takeAnswer, thenWhich, thenHead, unknown, foundOf, shownAt, showAnswer, markOf, heardLen, heardAt, knownAt};
 use crate::Gathered;
@@ -207,19 +210,34 @@ fn unknown(frames: Frames, head: Structure) -> bool
     (head.fields == 0) & ((head.certain == 0) & !frames.enough())
 }
 
-// A mark for a list: 0 no component, 1 whole, 2 unfinished, 3 not known.
-pub fn mark(shown: Shown) -> u8
-    ensures { λ r. ⌜ r ≡ markOf shown ⌝ }
+// A mark for a list, of the structure that is in force: 0 no component, 1 whole, 2 unfinished, 3 not known.
+fn mark_by(head: Structure, heard: bool) -> u8
+    ensures { λ r. ⌜ ((f : Frames) (id w : ℕ) (s : Bool) → heard ≡ enough f → r ≡ markOf (foundOf f id w head s)) ⌝ }
 {
-    if shown.number == 46 {
-        2
-    } else if shown.len != 0 {
+    if head.fields == 0 {
+        return if (head.certain == 0) & !heard { 3 } else { 0 };
+    }
+    if head.whole == 1 {
         1
-    } else if shown.unknown == 1 {
-        3
+    } else if head.whole == 0 {
+        2
     } else {
         0
     }
+}
+
+// The mark of a component, by what the frames say: a change comes before the frame that is asked about, it is sure, enough was
+// heard. A list asks the frames once and not for every component.
+pub fn mark_at(map: &[u8], id: usize, change: bool, sure: bool, heard: bool) -> u8
+    requires { ⌜ length (now map) ≡ mapSize ⌝ }
+    requires { ⌜ id < ids ⌝ }
+    ensures { λ r. ⌜ ((count : ℕ) → change ≡ changing (framesOf (now (map .entry))) count → sure ≡ allHeard (framesOf (now (map .entry))) → heard ≡ enough (framesOf (now (map .entry))) → r ≡ markOf (shownAt (now (map .entry)) id count)) ⌝ }
+{
+    let coming = head(map, id, 1);
+    if change & coming.said() {
+        return mark_by(coming.settled(sure), heard);
+    }
+    mark_by(head(map, id, 0), heard)
 }
 
 // How many bytes of fields were heard of a structure: none, where it was spoiled.
