@@ -9,11 +9,13 @@
 --   neither, neither-left, neither-right    parts of a joined test that none passes
 --   truth          a test that holds is true
 --   clash          true is not false
+--   same-truth     two tests that hold together are one
 --   all-at, all-each    all pass exactly if each does
+--   all-next, all-end   the same folded by a loop, turn by turn
 --
 -- Assumes nothing.
 use mathlib.Core.Path.{_≡_, refl, sym, ap, ap₂, _∙_, subst}
-use mathlib.Core.Bool.{Bool, true, false, cond, _&&_, _||_}
+use mathlib.Core.Bool.{Bool, true, false, cond, _&&_, _||_, and-true, and-assoc}
 use Prim.Native.Nat.{ℕ, zero, suc, _+_, _≤_, _<_}
 use native.Mathlib.Omega.{arith}
 use native.Mathlib.Decide.{ℕ-discrete}
@@ -92,6 +94,12 @@ pub or-right : (a b : Bool) → (a || b) ≡ true → a ≡ false → b ≡ true
 or-right true b e f = absurd (subst T f tt)
 or-right false b e f = e
 
+-- two tests of which each holds where the other does
+pub same-truth : (a b : Bool) → (a ≡ true → b ≡ true) → (b ≡ true → a ≡ true) → a ≡ b
+same-truth true b f g = sym (f refl)
+same-truth false true f g = g refl
+same-truth false false f g = refl
+
 pub and-no : {y : Bool} (x : Bool) → y ≡ false → (x && y) ≡ false
 and-no true e = e
 and-no false e = refl
@@ -123,3 +131,14 @@ unfolding all
 all-each p zero i h = refl
 all-each p (suc k) i h =
     ap₂ (λ (a b : Bool). a && b) (h i (omega arith) (omega arith)) (all-each p k (suc i) (λ j l m. h j (omega arith) (omega arith)))
+
+-- a loop that folds the tests together: what it has so far, and what is left; one turn more, and the end
+module _ (p : ℕ → Bool) (so : Bool) (t : Bool) (n i : ℕ) where
+  pub all-next : (now : Bool) (m j : ℕ) → n ≡ suc m → j ≡ suc i → now ≡ (so && p i) → (so && all p n i) ≡ t → (now && all p m j) ≡ t
+  unfolding all
+  all-next now m j e f q h =
+      ap₂ (λ (b : Bool) (x : ℕ). b && all p m x) q f ∙ and-assoc so (p i) (all p m (suc i)) ∙ sym (ap (λ (x : ℕ). so && all p x i) e) ∙ h
+
+  pub all-end : n ≡ 0 → (so && all p n i) ≡ t → so ≡ t
+  unfolding all
+  all-end e f = sym (and-true so) ∙ sym (ap (λ (x : ℕ). so && all p x i) e) ∙ f

@@ -2,7 +2,7 @@
 --
 --   structure-lent           the part that is lent of a structure is the structure
 --   force-lent, coming-lent, faults-both    what is wrong with a component's two heads
---   all-next, all-end        a turn and the end of the loop over all components
+--   faults-next, faults-end    a turn and the end of the loop over all components
 --   shown-20 ..              the rows 20 and 34; Passed: a map that neither refuses
 --   comes-then, settled-then, stands-then    a component of a set, by the tests on the way
 --   count-on, count-end                   a turn and the end of the loop that counts them
@@ -14,7 +14,7 @@
 --
 -- Assumes nothing.
 use mathlib.Core.Path.{_≡_, refl, sym, ap, ap₂, _∙_}
-use mathlib.Core.Bool.{Bool, true, false, true≢false, cond, not, _&&_, _||_, and-true, and-false, and-assoc}
+use mathlib.Core.Bool.{Bool, true, false, true≢false, cond, not, _&&_, _||_, and-false, and-assoc}
 use mathlib.Core.List.{List, [], _∷_}
 use Prim.Native.Nat.{ℕ, suc, _+_, _-_, _*_, _≤_, _<_}
 use native.Mathlib.Omega.{arith}
@@ -26,7 +26,7 @@ use lib.ListN.{length, take, drop}
 use Rattle.bits.specs.Rows.{Row, row, refusal}
 use Rattle.bits.specs.Search.{all}
 use Rattle.bits.proofs.Rows.{refusal-hit, refusal-miss, refusal-passed, refusal-none}
-use Rattle.bits.proofs.Search.{neither}
+use Rattle.bits.proofs.Search.{neither, all-next, all-end}
 use Rattle.runs.specs.Part.{part}
 use Rattle.field.specs.Field.{fieldSize, fieldOf, badField, deletes, panning}
 use Rattle.field.specs.declared.Field.{Field}
@@ -76,22 +76,14 @@ module _ (k : ℕ) (m : List ℕ) where
 
 -- the fold over the components, of which `so` is what the frames say
 module _ (m : List ℕ) (so : Bool) (n : ℕ) (k : ℕ) where
-  pub all-next : (f : ℕ) → k < ids → eqb f 0 ≡ goodAt m k → ((so && eqb n 0) && all (goodAt m) (ids - k) k) ≡ good m
+  pub faults-next : (f : ℕ) → k < ids → eqb f 0 ≡ goodAt m k → ((so && eqb n 0) && all (goodAt m) (ids - k) k) ≡ good m
       → ((so && eqb (bitOr n f) 0) && all (goodAt m) (ids - (k + 1)) (k + 1)) ≡ good m
-  unfolding all
-  all-next f h g e =
-      let more : ids - k ≡ suc (ids - (k + 1)) = omega arith in
-      let next : k + 1 ≡ suc k = omega arith in
-      ap₂ (λ (b : Bool) (x : ℕ). (so && b) && all (goodAt m) (ids - (k + 1)) x) (or-test n f ∙ ap (λ (b : Bool). eqb n 0 && b) g) next
-      ∙ ap (λ (b : Bool). b && all (goodAt m) (ids - (k + 1)) (suc k)) (sym (and-assoc so (eqb n 0) (goodAt m k)))
-      ∙ and-assoc (so && eqb n 0) (goodAt m k) (all (goodAt m) (ids - (k + 1)) (suc k))
-      ∙ sym (ap (λ (x : ℕ). (so && eqb n 0) && all (goodAt m) x k) more) ∙ e
+  faults-next f h g e =
+      all-next (goodAt m) (so && eqb n 0) (good m) (ids - k) k (so && eqb (bitOr n f) 0) (ids - (k + 1)) (k + 1) (omega arith) (omega arith)
+      (ap (λ (b : Bool). so && b) (or-test n f ∙ ap (λ (b : Bool). eqb n 0 && b) g) ∙ sym (and-assoc so (eqb n 0) (goodAt m k))) e
 
-  pub all-end : ids ≤ k → ((so && eqb n 0) && all (goodAt m) (ids - k) k) ≡ good m → (so && eqb n 0) ≡ good m
-  unfolding all
-  all-end h e =
-      let none : ids - k ≡ 0 = omega arith in
-      sym (and-true (so && eqb n 0)) ∙ sym (ap (λ (x : ℕ). (so && eqb n 0) && all (goodAt m) x k) none) ∙ e
+  pub faults-end : ids ≤ k → ((so && eqb n 0) && all (goodAt m) (ids - k) k) ≡ good m → (so && eqb n 0) ≡ good m
+  faults-end h e = all-end (goodAt m) (so && eqb n 0) (good m) (ids - k) k (omega arith) e
 
 -- ---- the rows 20 and 34
 

@@ -6,8 +6,8 @@
 --   faults-good    what `faults` makes of a head is 0 exactly if it is good
 --
 -- Assumes nothing.
-use mathlib.Core.Path.{_≡_, refl, sym, ap, ap₂, _∙_}
-use mathlib.Core.Bool.{Bool, true, false, _&&_, _||_}
+use mathlib.Core.Path.{_≡_, sym, ap, ap₂, _∙_}
+use mathlib.Core.Bool.{Bool, true, _&&_, _||_}
 use mathlib.Core.List.{List}
 use Prim.Native.Nat.{ℕ, _+_, _-_, _*_, _/_, _%_, _^_, _≤_, _<_}
 use native.Mathlib.Omega.{arith}
@@ -18,16 +18,11 @@ use lib.Bits.{bitAnd, bitOr, and-block, and-high, and-zero-r}
 use lib.Dec.{leb, ltb, eqb, lit<}
 use lib.ListN.{getD}
 use Rattle.bits.proofs.Flips.{or-none}
-use Rattle.bits.proofs.Search.{and-left, and-right, or-right}
+use Rattle.bits.proofs.Search.{and-left, and-right, or-right, same-truth}
 use Rattle.runs.specs.Numbers.{fourAt}
 use Rattle.structure.specs.Structure.{most, headOf, goodHead}
 use Rattle.structure.specs.declared.Structure.{Structure}
 use Rattle.structure.proofs.Kept.{Bounds, bounds-good, good-bounds, fits}
-
-same-truth : (a b : Bool) → (a ≡ true → b ≡ true) → (b ≡ true → a ≡ true) → a ≡ b
-same-truth true b f g = sym (f refl)
-same-truth false true f g = g refl
-same-truth false false f g = refl
 
 pub or-test : (a b : ℕ) → eqb (bitOr a b) 0 ≡ (eqb a 0 && eqb b 0)
 or-test a b =

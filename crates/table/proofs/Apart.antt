@@ -1,7 +1,6 @@
 -- What the test of the whole state rests on: "each used slot is the first of its address" is, of all sixteen together, "no used
 -- slot's address stands again behind it".
 --
---   all-next, all-end    a fold over a run of numbers, turn by turn
 --   short                two bytes of a slot's address: of a good slot the address itself (small)
 --   Gathered             these of the slots up to k, and 0 behind them
 --   gathered-none, gathered-next    so they are before the first turn, and after one more
@@ -11,9 +10,9 @@
 --
 -- Assumes nothing.
 use mathlib.Core.Path.{_≡_, refl, sym, ap, ap₂, _∙_}
-use mathlib.Core.Bool.{Bool, true, false, cond, not, _&&_, _||_, and-true, and-assoc}
+use mathlib.Core.Bool.{Bool, true, false, cond, not, _&&_, _||_, and-true}
 use mathlib.Core.List.{List}
-use Prim.Native.Nat.{ℕ, zero, suc, _+_, _%_, _≤_, _<_}
+use Prim.Native.Nat.{ℕ, zero, _+_, _%_, _≤_, _<_}
 use native.Mathlib.Omega.{arith}
 use native.Mathlib.Decide.{decLt, ℕ-discrete}
 use borrow.Author.Tests.{lt-ltb, le-ltb, eq-eqb, ne-eqb}
@@ -21,32 +20,15 @@ use lib.Dec.{ltb, eqb}
 use lib.ListN.{length, getD, set, replicate, getD-replicate, List·getD-eq-default, length-replicate}
 use lib.Seq.{getD-set-same, getD-set-other}
 use Rattle.bits.specs.Search.{all}
-use Rattle.bits.proofs.Search.{all-at, all-each, and-left, and-right, or-right, clash}
+use Rattle.bits.proofs.Search.{all-at, all-each, and-left, and-right, or-right, same-truth, clash}
 use Rattle.slot.specs.Slot.{free, goodSlot}
 use Rattle.slot.proofs.Goods.{good-small}
 use Rattle.table.specs.State.{slots, slotAt, addressAt, good}
 use Rattle.table.proofs.States.{Good, good-each, each-good, find-only, used-address, used-one}
 
--- ---- a fold
-
-module _ (p : ℕ → Bool) (so : Bool) (t : Bool) (n i : ℕ) where
-  pub all-next : (now : Bool) (m j : ℕ) → n ≡ suc m → j ≡ suc i → now ≡ (so && p i) → (so && all p n i) ≡ t → (now && all p m j) ≡ t
-  unfolding all
-  all-next now m j e f q h =
-      ap₂ (λ (b : Bool) (x : ℕ). b && all p m x) q f ∙ and-assoc so (p i) (all p m (suc i)) ∙ sym (ap (λ (x : ℕ). so && all p x i) e) ∙ h
-
-  pub all-end : n ≡ 0 → (so && all p n i) ≡ t → so ≡ t
-  unfolding all
-  all-end e f = sym (and-true so) ∙ sym (ap (λ (x : ℕ). so && all p x i) e) ∙ f
-
 used-at : (s : List ℕ) (k : ℕ) → goodSlot (slotAt k s) ≡ true → free (slotAt k s) ≡ false → 0 < addressAt s k
 unfolding addressAt
 used-at s k g f = used-address (slotAt k s) g f
-
-same-truth : (a b : Bool) → (a ≡ true → b ≡ true) → (b ≡ true → a ≡ true) → a ≡ b
-same-truth true b f g = sym (f refl)
-same-truth false true f g = g refl
-same-truth false false f g = refl
 
 -- ---- the addresses, gathered: two bytes of each, which is all that a good slot's has
 

@@ -8,7 +8,7 @@ use lib.Dec.{eqb}
 use Rattle.bits.specs.Search.{all}
 use Rattle.frames.specs.Counts.{goodFrames}
 use Rattle.map.specs.Map.{ids, goodAt, good}
-use Rattle.map.proofs.Looking.{all-next, all-end}
+use Rattle.map.proofs.Looking.{faults-next, faults-end}
 use Rattle.map.proofs.look.is_good.Statement.{statement}
 use Rattle.map.proofs.look.is_good.Tie as tie
 
@@ -46,13 +46,13 @@ loop-again c =
     let l = c .before .before .loop in
     let start = c .before .before .before in
     let m = start .before .before .before .args .map .now in
-    (omega arith, all-next m (start .good2 .result) (l .faults) (l .id) (c .faults-at .result) (c .before .loop-test .taken) (c .faults-at .ensures) (l .inv .1))
+    (omega arith, faults-next m (start .good2 .result) (l .faults) (l .id) (c .faults-at .result) (c .before .loop-test .taken) (c .faults-at .ensures) (l .inv .1))
 
 returns : tie.Need-returns Inv-loop μ-loop
 returns c =
     let l = c .before .loop in
     let start = c .before .before in
-    all-end (start .before .before .before .args .map .now) (start .good2 .result) (l .faults) (l .id) (c .loop-test .left) (l .inv .1)
+    faults-end (start .before .before .before .args .map .now) (start .good2 .result) (l .faults) (l .id) (c .loop-test .left) (l .inv .1)
 
 pub is-good-spec : {M : Type 1} → statement M
 is-good-spec =

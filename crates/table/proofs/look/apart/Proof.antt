@@ -6,7 +6,8 @@ use mathlib.Core.Logic.{⊎-elim}
 use Prim.Native.Nat.{_+_, _-_, _≤_}
 use native.Mathlib.Omega.{arith}
 use Rattle.bits.specs.Search.{all}
-use Rattle.table.proofs.Apart.{all-next, all-end, alone, alone-used, alone-free}
+use Rattle.bits.proofs.Search.{all-next, all-end}
+use Rattle.table.proofs.Apart.{alone, alone-used, alone-free}
 use Rattle.table.proofs.look.apart.Statement.{statement}
 use Rattle.table.proofs.look.apart.Tie as tie
 

@@ -12,7 +12,8 @@ use Rattle.head.specs.declared.Head.{Head}
 use Rattle.slot.specs.Slot.{headOf, goodSlot}
 use Rattle.table.proofs.Looking.{slot-part}
 use Rattle.table.proofs.States.{address-is}
-use Rattle.table.proofs.Apart.{all-next, all-end, Gathered, gathered-none, gathered-next, goodSlotAt, good-apart}
+use Rattle.bits.proofs.Search.{all-next, all-end}
+use Rattle.table.proofs.Apart.{Gathered, gathered-none, gathered-next, goodSlotAt, good-apart}
 use Rattle.table.proofs.look.is_good.Statement.{statement}
 use Rattle.table.proofs.look.is_good.Tie as tie
 

@@ -5,7 +5,8 @@ use mathlib.Core.Bool.{_&&_}
 use Prim.Native.Nat.{ℕ, _+_, _-_, _≤_}
 use native.Mathlib.Omega.{arith}
 use Rattle.bits.specs.Search.{all}
-use Rattle.table.proofs.Apart.{all-next, all-end, differs}
+use Rattle.bits.proofs.Search.{all-next, all-end}
+use Rattle.table.proofs.Apart.{differs}
 use Rattle.table.proofs.look.last.Statement.{statement}
 use Rattle.table.proofs.look.last.Tie as tie
 
