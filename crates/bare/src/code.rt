@@ -1,4 +1,5 @@
-// What the bare calls are made of: check bits, words, remainders, the information nearest to a number (the crates lookup and fours have the tables).
+// What the bare calls are made of: words, remainders, the information nearest to a number. The tables are in the crates
+// `lookup` and `fours`.
 ghost use mathlib.Core.Path.{_≡_};
 ghost use Prim.Native.Nat.{_/_, _%_, _*_, _^_, _<_};
 ghost use Rattle.golay.specs.Code.{check, remainder, word23, word24, nearest, Patterns};
@@ -27,7 +28,8 @@ pub fn remainder(n: u32) -> u32
     lookup::check(n % 4096) % 2048 ^ n / 4096
 }
 
-// The information of the word nearest to 23 bits, by the rows: what the pattern of their remainder says is flipped of it, flipped back.
+// The information of the word nearest to 23 bits, by the rows: what the pattern of their remainder says is flipped of it,
+// flipped back.
 pub fn near(n: u32) -> u32
     requires { ⌜ n < 2 ^ 23 ⌝ }
     ensures { λ r. ⌜ r ≡ nearest word23 n ⌝ }

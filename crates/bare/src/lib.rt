@@ -68,7 +68,8 @@ impl TypeByte {
     pub const CORRECTED: u32 = 2;
 }
 
-// 33: a header of 2^23 or more. Below it none is refused. By the constant table of patterns, which is set up only where the header is damaged.
+// 33: a header of 2^23 or more. Below it none is refused. By the constant table of patterns, which is set up only where the
+// header is damaged.
 pub fn read_header(n: u32) -> Header
     ensures { λ r. ⌜ r ≡ headerRead n ⌝ }
 {
@@ -158,7 +159,8 @@ pub fn read_word(n: u32) -> Word
     }
 }
 
-// What 24 bits are read as, as one number, which needs no memory: as they stand where the check bits are right, otherwise by the rows.
+// What 24 bits are read as, as one number, which needs no memory: as they stand where the check bits are right, otherwise by
+// the rows.
 pub fn judged(n: u32) -> u32
     requires { ⌜ n < 2 ^ 24 ⌝ }
     ensures { λ r. ⌜ Judged n r ⌝ }

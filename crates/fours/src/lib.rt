@@ -1,4 +1,5 @@
-// The table of patterns in rows of `match`, four entries to a number: nothing is set up where it is used (crate lookup has the table as one constant).
+// The table of patterns in rows of `match`, four entries to a number: nothing is set up where it is used. The crate `lookup`
+// has the table as one constant.
 //
 // rows    the rows
 ghost use mathlib.Core.Path.{_≡_};
@@ -9,7 +10,7 @@ ghost use Rattle.golay.proofs.Rule.{patterns};
 
 mod rows;
 
-// The first twelve bits of the pattern of a remainder, by the rows: what is flipped of the information. They are that table's.
+// The first twelve bits of the pattern of a remainder: what is flipped of the information. They are that table's.
 pub fn turned(r: u32) -> u32
     requires { ⌜ r < 2048 ⌝ }
     ensures { λ v. ⌜ v ≡ getD patterns r 0 % 4096 ⌝ }

@@ -1,5 +1,5 @@
-// The table of patterns in rows, four entries to a number: of each the first twelve bits, sixteen bits apart, the lowest remainder's lowest.
-// Row j has the remainders from 256 j on. The last entry of a row is the arm of all other numbers.
+// The table of patterns in rows, four entries to a number: of each the first twelve bits, sixteen bits apart, the lowest
+// remainder's lowest. Row j has the remainders from 256 j on. The last entry of a row is the arm of all other numbers.
 ghost use mathlib.Core.Path.{_≡_};
 ghost use Prim.Native.Nat.{_<_};
 ghost use lib.ListN.{getD};

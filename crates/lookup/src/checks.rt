@@ -1,5 +1,5 @@
-// The check bits, the last twelve of a 24-bit word, of an information's six low bits and of its six high bits. The last entry of each is the arm of
-// all other numbers.
+// The check bits, the last twelve of a 24-bit word, of an information's six low bits and of its six high bits. The last entry
+// of each is the arm of all other numbers.
 ghost use mathlib.Core.Path.{_≡_};
 ghost use Prim.Native.Nat.{_<_};
 ghost use lib.ListN.{getD, drop};

@@ -1,5 +1,6 @@
-// The table of 2,048 error patterns, and the check bits. A constant array is set up anew on the stack by each function that names it; a `match` on a
-// number stands among the program's constants, with nothing to set up. So only `patterns` names the table (the crate `fours` has it in rows), and the check bits are rows.
+// The table of 2,048 error patterns, and the check bits. A constant array is set up anew on the stack by each function that
+// names it; a `match` on a number stands among the program's constants, with nothing to set up. So only `patterns` names the
+// table (the crate `fours` has it in rows), and the check bits are rows.
 //
 // checks    the check bits
 ghost use mathlib.Core.Path.{_≡_};
@@ -2067,9 +2068,9 @@ pub fn patterns() -> [u32; 2048]
     PATTERNS
 }
 
-// The last twelve bits of an information's 24-bit word: those of its six low bits and of its six high bits, added, since the code is
-// linear. The parity is odd, so that the check bits of 0 are not 0: they are among those of the high bits. That these are six is said once more
-// for the compiler, which then leaves out a test.
+// The last twelve bits of an information's 24-bit word: those of its six low bits and of its six high bits, added, since the
+// code is linear. The parity is odd, so that the check bits of 0 are not 0: they are among those of the high bits. That these
+// are six is said once more for the compiler, which then leaves out a test.
 pub fn check(i: u32) -> u32
     requires { ⌜ i < 4096 ⌝ }
     ensures { λ r. ⌜ r ≡ check i ⌝ }
