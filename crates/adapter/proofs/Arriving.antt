@@ -4,6 +4,7 @@
 --   Sized, image-sized           where none of them holds, the image and the state have their lengths
 --   AtPlace                      an answer with the state after it, past those rows
 --   image-refused, image-placed       the answer with the bytes after, by the answer of those rows
+--   place-49                     49 by the code's test
 --   place-27, place-lt           27 by the code's test; where that fails, there is a slot of the address
 --   slot-served                  the answer with the state after, by what the lent slot answered
 --   reading-typed, reading-protected, reading-plain     the reading by the packet's type and the slot's protection
@@ -13,7 +14,7 @@
 use mathlib.Core.Path.{_≡_, refl, sym, ap, ap₂, _∙_, subst}
 use mathlib.Core.Bool.{Bool, true, false, not, _&&_, _||_}
 use mathlib.Core.List.{List, [], _∷_, _++_}
-use Prim.Native.Nat.{ℕ, zero, suc, _*_, _<_}
+use Prim.Native.Nat.{ℕ, zero, suc, _*_, _≤_, _<_}
 use native.Mathlib.Omega.{arith}
 use native.Mathlib.Decide.{decLt}
 use borrow.Author.Tests.{ltb-true, lt-ltb, le-ltb, eq-eqb, ne-eqb, eqb-true, not-false}
@@ -29,7 +30,7 @@ use Rattle.packet.specs.declared.Reading.{Reading}
 use Rattle.packet.proofs.Answers.{indexOf, typeNumber, IsData, answer-type, answer-plain, answer-protected}
 use Rattle.slot.specs.Slot.{slotSize, headOf}
 use Rattle.head.specs.declared.Head.{Head}
-use Rattle.table.specs.State.{slots, stateSize, slotAt, find}
+use Rattle.table.specs.State.{slots, stateSize, setting, slotAt, find}
 use Rattle.table.specs.Calls.{stateRows, endAnswer}
 use Rattle.table.proofs.States.{find-le}
 use Rattle.table.proofs.Looking.{state-rest, state-refused, state-passed, past-state, slot-part}
@@ -37,7 +38,7 @@ use Rattle.table.proofs.Doing.{span, slot-given}
 use Rattle.group.specs.Group.{taken, takenAfter}
 use Rattle.group.specs.declared.Answer.{Answer}
 use Rattle.adapter.proofs.Laws.{answered-refused, answered-passed}
-use Rattle.adapter.specs.Calls.{addressOf, followed, imageRows, placeRow, unplaced, readingAt, slotAnswered, slotAfter, refusedAnswer, answeredBy, packetAnswered, packetAfter}
+use Rattle.adapter.specs.Calls.{addressOf, flipsOf, beyond, followed, imageRows, placeRows, unplaced, readingAt, slotAnswered, slotAfter, refusedAnswer, answeredBy, packetAnswered, packetAfter}
 
 -- ---- the rows that need no slot
 
@@ -92,15 +93,15 @@ rows-further false false true d rest = refl
 rows-further false false false true rest = refl
 rows-further false false false false rest = refl
 
--- an answer with the state after it, by the row of 27 and the slot
+-- an answer with the state after it, by the rows of 49 and 27 and the slot
 abbrev pub AtPlace : List ℕ → List ℕ → Answer → List ℕ → Type 0
 AtPlace s image x t =
-    (x ≡ answeredBy (refusal (placeRow s image)) (slotAnswered s image)) × (t ≡ done (refusal (placeRow s image)) (slotAfter s image) s)
+    (x ≡ answeredBy (refusal (placeRows s image)) (slotAnswered s image)) × (t ≡ done (refusal (placeRows s image)) (slotAfter s image) s)
 
 module _ (s image : List ℕ) (r : ℕ) (e : r ≡ refusal (imageRows s image [])) where
-  unplaced-further : unplaced s image ≡ further r (refusal (placeRow s image))
+  unplaced-further : unplaced s image ≡ further r (refusal (placeRows s image))
   unfolding unplaced
-  unplaced-further = rows-further _ _ _ _ (placeRow s image) ∙ ap (λ (n : ℕ). further n (refusal (placeRow s image))) (sym e)
+  unplaced-further = rows-further _ _ _ _ (placeRows s image) ∙ ap (λ (n : ℕ). further n (refusal (placeRows s image))) (sym e)
 
   pub image-refused : (x : Answer) → (r ≡ 0 → ⊥) → x ≡ refusedAnswer r → (x ≡ packetAnswered s image) × (s ≡ packetAfter s image)
   unfolding packetAfter
@@ -114,7 +115,7 @@ module _ (s image : List ℕ) (r : ℕ) (e : r ≡ refusal (imageRows s image []
   pub image-placed : (x : Answer) (t : List ℕ) → r ≡ 0 → AtPlace s image x t → (x ≡ packetAnswered s image) × (t ≡ packetAfter s image)
   unfolding packetAfter
   image-placed x t z q =
-      let same : refusal (placeRow s image) ≡ unplaced s image = sym (unplaced-further ∙ further-passed r _ z) in (
+      let same : refusal (placeRows s image) ≡ unplaced s image = sym (unplaced-further ∙ further-passed r _ z) in (
         q .0 ∙ ap (λ (n : ℕ). answeredBy n (slotAnswered s image)) same,
         q .1 ∙ ap (λ (n : ℕ). done n (slotAfter s image) s) same,
       )
@@ -134,17 +135,34 @@ no-place s (suc a) =
         eq-eqb (find s (suc a)) slots (omega (arith, find-le s (suc a)))
         ∙ sym (ap not (le-ltb (find s (suc a)) slots (omega arith)))
 
-module _ (s image : List ℕ) (a k : ℕ) (ea : a ≡ addressOf image) (ek : k ≡ find s a) where
+-- refused by one of these rows
+at-refused : (s image : List ℕ) (n : ℕ) (x : Answer) → refusal (placeRows s image) ≡ suc n → x ≡ refusedAnswer (suc n) → AtPlace s image x s
+at-refused s image n x e ex =
+    let un : refusal (placeRows s image) ≡ 0 → ⊥ = λ z. omega (arith, e, z) in (
+      ex ∙ ap refusedAnswer (sym e) ∙ sym (answered-refused (refusal (placeRows s image)) (slotAnswered s image) un),
+      sym (done-refused (refusal (placeRows s image)) (slotAfter s image) s un),
+    )
+
+-- 49, by a setting and the flips of a header
+module _ (s image : List ℕ) (m f : ℕ) (em : m ≡ setting s) (ef : f ≡ flipsOf image) where
+  more : beyond s image ≡ ltb m f
+  unfolding beyond
+  more = ap₂ ltb (sym em) (sym ef)
+
+  pub place-49 : m < f → (x : Answer) → x ≡ refusedAnswer 49 → AtPlace s image x s
+  place-49 t x = at-refused s image 48 x (refusal-hit (beyond s image) 49 _ (more ∙ lt-ltb m f t))
+
+  pub within-few : f ≤ m → beyond s image ≡ false
+  within-few t = more ∙ le-ltb m f t
+
+module _ (s image : List ℕ) (few : beyond s image ≡ false) (a k : ℕ) (ea : a ≡ addressOf image) (ek : k ≡ find s a) where
   test : (eqb a 0 || eqb k slots) ≡ not (followed s (addressOf image))
   test = ap (λ (x : ℕ). eqb a 0 || eqb x slots) ek ∙ no-place s a ∙ ap (λ (x : ℕ). not (followed s x)) ea
 
   pub place-27 : (eqb a 0 || eqb k slots) ≡ true → (x : Answer) → x ≡ refusedAnswer 27 → AtPlace s image x s
-  place-27 t x ex =
-      let hit : 27 ≡ refusal (placeRow s image) = sym (refusal-hit (not (followed s (addressOf image))) 27 [] (sym test ∙ t)) in
-      let un : refusal (placeRow s image) ≡ 0 → ⊥ = λ z. omega (arith, hit, z) in (
-        ex ∙ ap refusedAnswer hit ∙ sym (answered-refused (refusal (placeRow s image)) (slotAnswered s image) un),
-        sym (done-refused (refusal (placeRow s image)) (slotAfter s image) s un),
-      )
+  place-27 t x =
+      at-refused s image 26 x
+      (refusal-miss (beyond s image) 49 _ few ∙ refusal-hit (not (followed s (addressOf image))) 27 [] (sym test ∙ t))
 
   pub place-lt : (eqb a 0 || eqb k slots) ≡ false → k < slots
   unfolding followed
@@ -153,8 +171,9 @@ module _ (s image : List ℕ) (a k : ℕ) (ea : a ≡ addressOf image) (ek : k �
       (ltb-true (find s (addressOf image)) slots
       (and-right (ltb 0 (addressOf image)) _ (not-false (followed s (addressOf image)) (sym test ∙ t))))
 
-  place-found : (eqb a 0 || eqb k slots) ≡ false → refusal (placeRow s image) ≡ 0
-  place-found t = refusal-miss (not (followed s (addressOf image))) 27 [] (sym test ∙ t) ∙ refusal-none
+  place-found : (eqb a 0 || eqb k slots) ≡ false → refusal (placeRows s image) ≡ 0
+  place-found t =
+      refusal-miss (beyond s image) 49 _ few ∙ refusal-miss (not (followed s (addressOf image))) 27 [] (sym test ∙ t) ∙ refusal-none
 
   -- the slot was lent and came back
   pub slot-served : (y : Answer) (b : List ℕ) → (eqb a 0 || eqb k slots) ≡ false
@@ -167,9 +186,9 @@ module _ (s image : List ℕ) (a k : ℕ) (ea : a ≡ addressOf image) (ek : k �
       let x : take (span (k * slotSize)) (drop (k * slotSize) s) ≡ slotAt (find s (addressOf image)) s =
       slot-part k s ∙ ap (λ (i : ℕ). slotAt i s) j in (
         q .0 ∙ ap (λ (z : List ℕ). taken (readingAt z image) (headOf z)) x
-            ∙ sym (answered-passed (refusal (placeRow s image)) (slotAnswered s image) (place-found t)),
+            ∙ sym (answered-passed (refusal (placeRows s image)) (slotAnswered s image) (place-found t)),
         slot-given (λ (y : List ℕ). takenAfter (readingAt y image) y) k _ s b j (q .1)
-            ∙ sym (done-passed (refusal (placeRow s image)) _ s (place-found t)),
+            ∙ sym (done-passed (refusal (placeRows s image)) _ s (place-found t)),
       )
 
 -- ---- the reading, by the packet's type and the slot's protection

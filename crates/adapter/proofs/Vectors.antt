@@ -4,6 +4,7 @@
 --   writes            22 before 23 before 20; addresses 1 and 1,022 pass; messages of 360 and 180 bytes, an output of 376
 --   message, images-begin     the message 0, 1, .. 179, and the first six bytes of its four images
 --   packets           20 before 34 before 21 before 27
+--   beyond-0, within-27, beyond-21     a header with one flip: 49 at the setting 0, after 21 and before 27, and changes nothing; at 1 it is read
 --   arrived           what a packet is answered that is read as 17 where 17 is followed, protected
 --   answers, starts   28, 29, 29, 30 by the type; 1 for a data packet with index 0
 --   unfollowed-told   27 carries nothing
@@ -12,7 +13,7 @@
 --
 -- Assumes nothing.
 use mathlib.Core.Path.{_≡_, refl, sym, ap, ap₂, _∙_, subst}
-use mathlib.Core.Bool.{true, cond, not}
+use mathlib.Core.Bool.{true, cond, not, false}
 use mathlib.Core.List.{List, [], _∷_, _++_, map}
 use Prim.Native.Nat.{ℕ, suc, _<_, _≤_}
 use native.Mathlib.Omega.{arith}
@@ -22,7 +23,7 @@ use lib.ListN.{length, getD, take, drop}
 use Rattle.bits.specs.Bits.{flips, bitsOf, number, sent, numbersIn, blank}
 use Rattle.bits.specs.Rows.{refusal, further}
 use Rattle.bits.specs.Search.{first}
-use Rattle.bits.proofs.Rows.{refusal-miss}
+use Rattle.bits.proofs.Rows.{refusal-miss, refusal-none}
 use Rattle.bits.proofs.Runs.{Below, sent-below, numbersIn-below}
 use Rattle.golay.specs.Code.{less, line, divide, remainder, word23, word24, nearest}
 use Rattle.golay.proofs.Reading.{nearest24-is}
@@ -31,7 +32,8 @@ use Rattle.bare.specs.Bare.{headerRead, typeNear}
 use Rattle.bare.specs.declared.Header.{Header}
 use Rattle.bare.specs.declared.Word.{Word}
 use Rattle.bare.proofs.Theorems.{word-unreadable}
-use Rattle.bare.proofs.Vectors.{header-17, zero-far}
+use Rattle.bare.proofs.Bare.{within-three}
+use Rattle.bare.proofs.Vectors.{header-17, within-each, zero-far}
 use Rattle.image.specs.Image.{headerOf, bytesOf, spareOf, imageOf}
 use Rattle.image.proofs.Vectors as image
 use Rattle.words.specs.Protected.{wordsOf, informations, failed, wordsRead, dataRead}
@@ -47,17 +49,19 @@ use Rattle.slot.specs.Slot.{headOf}
 use Rattle.head.specs.Head.{wishOf, newHead}
 use Rattle.head.specs.Move.{perOf, needsOf, rowOf, moveOf, moveNumber}
 use Rattle.head.specs.declared.Head.{Head}
-use Rattle.table.specs.State.{slots, slotAt, find}
-use Rattle.table.proofs.Looking.{state-34}
+use Rattle.table.specs.State.{slots, setting, slotAt, find}
+use Rattle.table.specs.Calls.{endAnswer}
+use Rattle.table.proofs.Looking.{state-34, state-rest}
+use Rattle.table.proofs.States.{find-le}
 use Rattle.table.proofs.Shows.{start-shows, find-place, follow-head, end-done}
-use Rattle.table.proofs.Vectors.{spoiled, spoiled-length, spoiled-not, started, ok, nobody, followed, followed-17, followed-shows, one}
+use Rattle.table.proofs.Vectors.{spoiled, spoiled-length, spoiled-not, started, ok, nobody, followed, followed-17, followed-shows, one, set, set-ok, set-setting, set-absent}
 use Rattle.group.specs.Group as group
 use Rattle.group.specs.Group.{answerOf, takenNumber}
 use Rattle.group.specs.declared.Answer.{Answer}
 use Rattle.group.proofs.Vectors.{answer}
 use Rattle.adapter.specs.Calls as calls
-use Rattle.adapter.proofs.Arriving.{image-0, image-placed, place-27}
-use Rattle.adapter.proofs.Laws.{both-followed, Placed, placed-zero, size-refused, spare-refused, answered-passed, packet-number, packet-refused}
+use Rattle.adapter.proofs.Arriving.{image-0, image-placed, within-few, place-27}
+use Rattle.adapter.proofs.Laws.{both-followed, Placed, placed-zero, size-refused, spare-refused, beyond-refused, answered-passed, packet-number, packet-refused}
 
 -- ---- the writer, by the lengths of message and output
 
@@ -118,12 +122,21 @@ address-17 : (image : List ℕ) → headerOf image ≡ 0x75F011 → calls.addres
 unfolding calls.addressOf
 address-17 image e = ap (λ (n : ℕ). headerRead n .address) e ∙ ap (λ (h : Header). h .address) header-17
 
+-- and with no flip
+flips-17 : (image : List ℕ) → headerOf image ≡ 0x75F011 → calls.flipsOf image ≡ 0
+unfolding calls.flipsOf
+flips-17 image e = ap (λ (n : ℕ). headerRead n .flips) e ∙ ap (λ (h : Header). h .flips) header-17
+
+-- which is within every setting
+clean-within : (s image : List ℕ) → headerOf image ≡ 0x75F011 → calls.beyond s image ≡ false
+clean-within s image e = within-few s image (setting s) 0 refl (sym (flips-17 image e)) (omega arith)
+
 pub unfollowed-told : calls.packetAnswered started image.plain ≡ answer 27 0 0 0
 unfolding first
 unfollowed-told =
     let none = image-0 started image.plain refl 0 (sym (end-done started nobody start-shows)) refl 0 (sym image.plain-spare) (λ q. omega (arith, q)) in
     let away =
-    place-27 started image.plain 17 16 (sym (address-17 image.plain image.plain-header)) (find-place started nobody start-shows 17) refl
+    place-27 started image.plain (clean-within started image.plain image.plain-header) 17 16 (sym (address-17 image.plain image.plain-header)) (find-place started nobody start-shows 17) refl
     (calls.refusedAnswer 27) refl in
     sym (image-placed started image.plain 0 none (calls.refusedAnswer 27) started refl away .0)
 
@@ -140,6 +153,66 @@ packets = λ i.
     ∷ refused started marked 21 (spare-refused started marked refl ok marked-spare) (λ q. omega (arith, q)) i
     ∷ unfollowed i ∷ []
 
+-- ---- the plain image with bit 0 of its header turned over, where nothing is followed, at the settings 0 and 1: 49, after 21 and before 27
+
+abbrev turned : List ℕ
+turned = 0x10 ∷ drop 1 image.plain
+
+abbrev one-flip : Header
+one-flip = record { number = 0; address = 17; index = 0; flips = 1 }
+
+turned-read : headerRead (headerOf turned) ≡ one-flip
+unfolding headerOf number sent bitsOf
+turned-read = sym (within-three 0x75F010) ∙ ap (λ (hs : List Header). getD hs 2 one-flip) (within-each .1)
+
+turned-flips : calls.flipsOf turned ≡ 1
+unfolding calls.flipsOf
+turned-flips = ap (λ (h : Header). h .flips) turned-read
+
+turned-address : calls.addressOf turned ≡ 17
+unfolding calls.addressOf
+turned-address = ap (λ (h : Header). h .address) turned-read
+
+turned-spare : spareOf turned ≡ 0
+unfolding spareOf number sent bitsOf
+turned-spare = refl
+
+pub beyond-0 : calls.packetAnswer (set 0) turned ≡ 49
+beyond-0 =
+    refused (set 0) turned 49
+    (beyond-refused (set 0) turned refl (set-ok 0 (lit≤ tt)) (ap (λ (n : ℕ). eqb n 1) turned-spare)
+    (omega (arith, turned-flips, set-setting 0))) (λ q. omega (arith, q))
+
+-- "a header refused so .. changes nothing"
+pub beyond-after : calls.packetAfter (set 0) turned ≡ set 0
+beyond-after = packet-refused (set 0) turned (λ z. omega (arith, z, e)) .1
+  where
+    e : calls.unplaced (set 0) turned ≡ 49
+    e = beyond-refused (set 0) turned refl (set-ok 0 (lit≤ tt)) (ap (λ (n : ℕ). eqb n 1) turned-spare) (omega (arith, turned-flips, set-setting 0))
+
+-- at 1 it is read, as an address that nobody follows
+pub within-27 : calls.packetAnswer (set 1) turned ≡ 27
+unfolding first endAnswer
+within-27 =
+    let ok = set-ok 1 (lit≤ tt) in
+    let none =
+    image-0 (set 1) turned refl 0 (sym (state-rest (set 1) [] (ok .size) (ok .all-good) ∙ refusal-none)) refl 0 (sym turned-spare) (λ q. omega (arith, q)) in
+    let few = within-few (set 1) turned 1 1 (sym (set-setting 1)) (sym turned-flips) (lit≤ tt) in
+    let at : 16 ≡ find (set 1) 17 = omega (arith, set-absent 1 17 (lit≤ tt), find-le (set 1) 17) in
+    let away = place-27 (set 1) turned few 17 16 (sym turned-address) at refl (calls.refusedAnswer 27) refl in
+    packet-number (set 1) turned
+    ∙ ap (λ (x : Answer). x .number) (sym (image-placed (set 1) turned 0 none (calls.refusedAnswer 27) (set 1) refl away .0))
+
+abbrev both : List ℕ
+both = take 93 turned ++ (0xAC ∷ [])
+
+both-spare : spareOf both ≡ 1
+unfolding spareOf number sent bitsOf
+both-spare = refl
+
+pub beyond-21 : calls.packetAnswer (set 0) both ≡ 21
+beyond-21 = refused (set 0) both 21 (spare-refused (set 0) both refl (set-ok 0 (lit≤ tt)) both-spare) (λ q. omega (arith, q))
+
 -- ---- packets at the slot that follows 17, protected, and awaits 0
 
 module _ (image : List ℕ) (l : length image ≡ 94) (h : headerOf image ≡ 0x75F011) (spare : spareOf image ≡ 0) where
@@ -152,6 +225,7 @@ module _ (image : List ℕ) (l : length image ≡ 94) (h : headerOf image ≡ 0x
     size = l;
     state = followed-shows .passed;
     spare = ap (λ (n : ℕ). eqb n 1) spare;
+    within = omega (arith, flips-17 image h);
     place = both-followed followed (calls.addressOf image) (subst (λ (a : ℕ). 0 < a) (sym (address-17 image h)) (lit< tt))
         (subst (λ (k : ℕ). k < slots) (sym found) (lit< tt));
   }

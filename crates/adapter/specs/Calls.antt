@@ -1,9 +1,11 @@
--- The packet call and the group writer (document 01, sections 4 and 6), each as two functions of what was lent: its answer,
+-- The packet call and the group writer (document 01, sections 4 and 6; document 02, Ask 7), each as two functions of what was lent: its answer,
 -- and the bytes after.
 --
 --   addressOf image          the address that its header is read with
 --   followed s a             a slot of the state follows the address
---   unplaced s image         20, 34, 21, which need no slot, and 27
+--   flipsOf image            how many flips its header is read with
+--   beyond s image           more than the state's setting: the packet belongs to no slot
+--   unplaced s image         20, 34, 21, which need no slot, 49 and 27
 --   readingAt x image        what an image is received as where its slot has the bytes x
 --   slotAnswered, slotAfter  what the slot of its address answers, and the state with that slot after; slotAnswer: its number
 --   refusedAnswer n          the answer that is a number and carries nothing
@@ -26,15 +28,21 @@ use Rattle.packet.specs.declared.Reading.{Reading}
 use Rattle.runs.specs.Part.{part}
 use Rattle.slot.specs.Slot.{headOf}
 use Rattle.head.specs.Head.{within}
-use Rattle.table.specs.State.{slots, slotAt, withSlot, find}
+use Rattle.table.specs.State.{slots, setting, slotAt, withSlot, find}
 use Rattle.table.specs.Calls.{stateRows}
 use Rattle.group.specs.Group.{taken, takenAfter}
 use Rattle.group.specs.declared.Answer.{Answer}
 
--- ---- packet: 20, 34, 21, 27, 28, 29, 30, 31, 32
+-- ---- packet: 20, 34, 21, 49, 27, 28, 29, 30, 31, 32
 
 unfoldable pub addressOf : List ℕ → ℕ
 addressOf image = headerRead (headerOf image) .address
+
+unfoldable pub flipsOf : List ℕ → ℕ
+flipsOf image = headerRead (headerOf image) .flips
+
+unfoldable pub beyond : List ℕ → List ℕ → Bool
+beyond s image = ltb (setting s) (flipsOf image)
 
 -- a free slot has address 0, which is never followed
 unfoldable pub followed : List ℕ → ℕ → Bool
@@ -44,11 +52,11 @@ followed s a = ltb 0 a && ltb (find s a) slots
 abbrev pub imageRows : List ℕ → List ℕ → List Row → List Row
 imageRows s image rest = row (not (eqb (length image) 94)) 20 ∷ stateRows s (row (eqb (spareOf image) 1) 21 ∷ rest)
 
-abbrev pub placeRow : List ℕ → List ℕ → List Row
-placeRow s image = row (not (followed s (addressOf image))) 27 ∷ []
+abbrev pub placeRows : List ℕ → List ℕ → List Row
+placeRows s image = row (beyond s image) 49 ∷ row (not (followed s (addressOf image))) 27 ∷ []
 
 unfoldable pub unplaced : List ℕ → List ℕ → ℕ
-unplaced s image = refusal (imageRows s image (placeRow s image))
+unplaced s image = refusal (imageRows s image (placeRows s image))
 
 unfoldable pub readingAt : List ℕ → List ℕ → Reading
 readingAt x image = received (eqb (headOf x .wish .protection) 1) image

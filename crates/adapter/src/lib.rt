@@ -12,7 +12,7 @@ ghost use Rattle.packet.specs.Received.{dataAs};
 ghost use Rattle.slot.specs.Slot.{slotSize, headOf};
 ghost use Rattle.table.specs.State.{stateSize};
 ghost use Rattle.group.specs.Group.{taken, takenAfter};
-ghost use Rattle.adapter.specs.Calls.{readingAt, slotAnswered, slotAfter, refusedAnswer, answeredBy, packetAnswered, packetAnswer, packetAfter, imageRows, placeRow};
+ghost use Rattle.adapter.specs.Calls.{readingAt, slotAnswered, slotAfter, refusedAnswer, answeredBy, packetAnswered, packetAnswer, packetAfter, imageRows, placeRows};
 use bare::Header;
 use faults::Faults;
 use group::Answer;
@@ -25,7 +25,7 @@ use words::Data;
 
 pub mod write;
 
-// One image: 20, 34, 21, 27, 28, 29, 30, 31, 32, or 1 started, 2 held, 3 whole.
+// One image: 20, 34, 21, 49, 27, 28, 29, 30, 31, 32, or 1 started, 2 held, 3 whole.
 pub fn packet(state: &mut [u8], image: &[u8]) -> u8
     ensures { λ r. ⌜ r ≡ packetAnswer (now (state .entry)) (now (image .entry)) ⌝ }
     ensures { λ _. ⌜ now (state .exit) ≡ packetAfter (now (state .entry)) (now (image .entry)) ⌝ }
@@ -72,15 +72,18 @@ fn refused(number: u8) -> Answer
     }
 }
 
-// 27, or what the slot of the address answers.
+// 49, 27, or what the slot of the address answers.
 fn arrived(state: &mut [u8], header: Header, image: &[u8]) -> Answer
     requires { ⌜ length (now state) ≡ stateSize ⌝ }
     requires { ⌜ header ≡ headerRead (headerOf (now image)) ⌝ }
     requires { ⌜ length (now image) ≡ 94 ⌝ }
-    ensures { λ r. ⌜ r ≡ answeredBy (refusal (placeRow (now (state .entry)) (now (image .entry)))) (slotAnswered (now (state .entry)) (now (image .entry))) ⌝ }
+    ensures { λ r. ⌜ r ≡ answeredBy (refusal (placeRows (now (state .entry)) (now (image .entry)))) (slotAnswered (now (state .entry)) (now (image .entry))) ⌝ }
     ensures { λ _. ⌜ now (state .exit)
-        ≡ done (refusal (placeRow (now (state .entry)) (now (image .entry)))) (slotAfter (now (state .entry)) (now (image .entry))) (now (state .entry)) ⌝ }
+        ≡ done (refusal (placeRows (now (state .entry)) (now (image .entry)))) (slotAfter (now (state .entry)) (now (image .entry))) (now (state .entry)) ⌝ }
 {
+    if look::setting(state) < header.flips {
+        return refused(49);
+    }
     let address = header.address as u32;
     let k = look::find(state, address);
     if (address == 0) | (k == Table::SLOTS) {

@@ -1,6 +1,7 @@
 -- The bare calls case by case: what each definition of specs/Bare.antt comes to where a row holds and where none does.
 --
 --   header-large, header-small, header-word    33; read as the nearest word
+--   within-33, within-48, within-49, within-0  the reader with a setting; within-three: at 3 it is the reader without one
 --   header-address, header-index, header-written
 --   word-large, word-none, word-near, word-clean, near-small, judged-clean, judged-by
 --   word-much, word-written
@@ -18,11 +19,13 @@ use Rattle.bits.specs.Bits.{flips}
 use Rattle.bits.specs.Rows.{row, refusal, given}
 use Rattle.bits.proofs.Flips.{flips-same}
 use Rattle.bits.proofs.Rows.{refusal-hit, refusal-miss}
-use Rattle.bare.specs.Bare.{headerRead, headerWritten, wordRead, wordWritten, Judged}
+use Rattle.bare.specs.Bare.{headerRead, mostFlips, headerWithin, headerRefused, headerWritten, wordRead, wordWritten, Judged}
 use Rattle.golay.specs.Code.{word23, word24, check, nearest}
 use Rattle.bare.specs.declared.Header.{Header}
 use Rattle.bare.specs.declared.Word.{Word}
 use Rattle.bare.specs.declared.Written.{Written}
+use native.Mathlib.Decide.{decLt}
+use Rattle.golay.proofs.Nearest.{nearest-near}
 use Rattle.golay.proofs.Reading.{clean-word, nearest23-lt, nearest24-is, nearest24-none}
 use Rattle.golay.proofs.Words.{word23-first}
 
@@ -67,6 +70,63 @@ header-word n w h e =
 
     turned : ones (bitXor (word23 (nearest word23 n)) n) ≡ ones (bitXor n w)
     turned = ap (λ (x : ℕ). ones (bitXor x n)) (sym e) ∙ ap ones (xor-comm w n)
+
+-- ---- headers with a setting
+
+abbrev flipsRead : ℕ → ℕ
+flipsRead n = flips (word23 (nearest word23 n)) n
+
+abbrev withinRows : ℕ → ℕ → ℕ
+withinRows n most = refusal (row (leb (2 ^ 23) n) 33 ∷ row (ltb mostFlips most) 48 ∷ row (ltb most (flipsRead n)) 49 ∷ [])
+
+within-answer : (n most k : ℕ) → withinRows n most ≡ k → headerWithin n most ≡ headerAs k (nearest word23 n) n
+unfolding headerWithin headerAs
+within-answer n most k e = ap (λ (x : ℕ). headerAs x (nearest word23 n) n) e
+
+pub within-33 : (n most : ℕ) → 2 ^ 23 ≤ n → headerWithin n most ≡ headerRefused 33
+unfolding headerAs given
+within-33 n most h = within-answer n most 33 (refusal-hit (leb (2 ^ 23) n) 33 _ (le-leb (2 ^ 23) n h))
+
+pub header-flips : (n : ℕ) → n < 2 ^ 23 → headerRead n .flips ≡ flips (word23 (nearest word23 n)) n
+unfolding headerAs given
+header-flips n h = ap (λ (x : Header). x .flips) (header-small n h)
+
+-- a header of 23 bits lies within three flips of its word
+pub header-few : (n : ℕ) → n < 2 ^ 23 → headerRead n .flips ≤ mostFlips
+header-few n h = omega (arith, header-flips n h, nearest-near word23 n (nearest23-lt n h))
+
+module _ (n most : ℕ) (h : n < 2 ^ 23) where
+  past-33 : withinRows n most ≡ refusal (row (ltb mostFlips most) 48 ∷ row (ltb most (flipsRead n)) 49 ∷ [])
+  past-33 = refusal-miss (leb (2 ^ 23) n) 33 _ (lt-leb (2 ^ 23) n h)
+
+  pub within-48 : mostFlips < most → headerWithin n most ≡ headerRefused 48
+  unfolding headerAs given
+  within-48 l = within-answer n most 48 (past-33 ∙ refusal-hit (ltb mostFlips most) 48 _ (lt-ltb mostFlips most l))
+
+  module _ (l : most ≤ mostFlips) where
+    past-48 : withinRows n most ≡ refusal (row (ltb most (flipsRead n)) 49 ∷ [])
+    past-48 = past-33 ∙ refusal-miss (ltb mostFlips most) 48 _ (le-ltb mostFlips most l)
+
+    pub within-49 : most < headerRead n .flips → headerWithin n most ≡ headerRefused 49
+    unfolding headerAs given
+    within-49 f =
+        within-answer n most 49
+        (past-48 ∙ refusal-hit (ltb most (flipsRead n)) 49 [] (lt-ltb most (flipsRead n) (subst (λ (x : ℕ). most < x) (header-flips n h) f)))
+
+    pub within-0 : headerRead n .flips ≤ most → headerWithin n most ≡ headerRead n
+    unfolding refusal
+    within-0 f =
+        within-answer n most 0
+        (past-48 ∙ refusal-miss (ltb most (flipsRead n)) 49 [] (le-ltb most (flipsRead n) (subst (λ (x : ℕ). x ≤ most) (header-flips n h) f)))
+        ∙ sym (header-small n h)
+
+-- the reader without a setting is the reader at 3: 49 cannot occur there
+pub within-three : (n : ℕ) → headerWithin n mostFlips ≡ headerRead n
+within-three n = go (decLt n (2 ^ 23))
+  where
+    go : Dec (n < 2 ^ 23) → headerWithin n mostFlips ≡ headerRead n
+    go (yes h) = within-0 n mostFlips h (omega arith) (header-few n h)
+    go (no h) = within-33 n mostFlips (omega (arith, h)) ∙ sym (header-large n (omega (arith, h)))
 
 writtenAs : ℕ → ℕ → Written
 writtenAs answer v = record { number = answer; value = given answer v }

@@ -3,7 +3,7 @@
 use mathlib.Core.Path.{_≡_}
 use Prim.Native.Nat.{ℕ}
 use Rattle.bits.proofs.Determined.{determined}
-use Rattle.bare.specs.Bare.{headerRead, headerWritten, wordRead, wordWritten, typeRead, typeWritten}
+use Rattle.bare.specs.Bare.{headerRead, headerWithin, headerWritten, wordRead, wordWritten, typeRead, typeWritten}
 use Rattle.bare.specs.declared.Header.{Header}
 use Rattle.bare.specs.declared.TypeByte.{TypeByte}
 use Rattle.bare.specs.declared.Word.{Word}
@@ -11,6 +11,9 @@ use Rattle.bare.specs.declared.Written.{Written}
 
 pub read-header-same : (n : ℕ) (r s : Header) → r ≡ headerRead n → s ≡ headerRead n → r ≡ s
 read-header-same n r s = determined
+
+pub read-header-within-same : (n most : ℕ) (r s : Header) → r ≡ headerWithin n most → s ≡ headerWithin n most → r ≡ s
+read-header-within-same n most r s = determined
 
 pub write-header-same : (a i : ℕ) (r s : Written) → r ≡ headerWritten a i → s ≡ headerWritten a i → r ≡ s
 write-header-same a i r s = determined

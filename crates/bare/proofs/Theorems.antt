@@ -2,13 +2,15 @@
 --
 --   header-exactly    each number of 23 bits lies within three flips of exactly one word, and is read as it
 --   header-flipped    a written header with at most three flips is read as it was written, with the number of flips
+--   within-exactly    the reader with a setting: accepted exactly if that word lies within the setting, and read as it
+--   within-flipped, within-beyond    a written header with no more flips than the setting, and with more
 --   word-exactly      a number of 24 bits is accepted exactly if a word lies within three flips, and is read as it
 --   word-flipped      a written word with at most three flips is read as it was written, with the number of flips
 --   word-four         with four it is refused
 --   header-back, word-back    reading what was written gives it back
 --
 -- Assumes nothing.
-use mathlib.Core.Path.{_≡_, refl, sym, ap, _∙_}
+use mathlib.Core.Path.{_≡_, refl, sym, ap, _∙_, subst}
 use Prim.Native.Nat.{ℕ, _+_, _*_, _/_, _%_, _^_, _≤_, _<_}
 use native.Mathlib.Omega.{arith}
 use native.Mathlib.Decide.{decLt}
@@ -18,11 +20,12 @@ use mathlib.Core.Logic.{_↔_}
 use Rattle.bits.specs.Bits.{flips}
 use Rattle.bits.specs.Rows.{given}
 use Rattle.bits.proofs.Flips.{flips-of, ones-zero}
-use Rattle.bare.specs.Bare.{headerRead, headerWritten, wordRead, wordWritten}
+use Rattle.bare.specs.Bare.{headerRead, mostFlips, headerWithin, headerRefused, headerWritten, wordRead, wordWritten}
 use Rattle.golay.specs.Code.{word23, word24, nearest}
+use Rattle.bare.specs.declared.Header.{Header}
 use Rattle.bare.specs.declared.Word.{Word}
 use Rattle.bare.specs.declared.Written.{Written}
-use Rattle.bare.proofs.Bare.{headerAs, header-small, header-written, word-near, word-none, word-written}
+use Rattle.bare.proofs.Bare.{headerAs, header-small, header-flips, within-49, within-0, header-written, word-near, word-none, word-written}
 use Rattle.golay.proofs.Nearest.{nearest-near, nearest-le, nearest-one, nearest-read, nearest-far}
 use Rattle.golay.proofs.Reading.{nearest23-lt}
 use Rattle.golay.proofs.Words.{word23-apart, word23-lt, word24-apart, word24-lt}
@@ -73,6 +76,62 @@ header-back a i ha hi =
     ap headerRead (sym (xor-zero-r (headerWritten a i .value)))
     ∙ header-flipped a i 0 ha hi (omega arith) (omega (arith, ones-zero))
     ∙ (λ j. record { number = 0; address = a; index = i; flips = ones-zero j })
+
+-- ---- 23 bits with a setting
+
+pub record ReadWithin (n most i : ℕ) : Type 0 where
+  pub word : ReadAs n i
+  pub accepted : (headerWithin n most .number ≡ 0) ↔ (flips (word23 i) n ≤ most)
+  pub reads : flips (word23 i) n ≤ most → headerWithin n most ≡ headerRead n
+  pub refuses : most < flips (word23 i) n → headerWithin n most ≡ headerRefused 49
+
+pub within-exactly : (n most : ℕ) → n < 2 ^ 23 → most ≤ mostFlips → ReadWithin n most (nearest word23 n)
+within-exactly n most h l = record {
+  word = header-exactly n h;
+  accepted = (λ e. go e (decLt most (flips (word23 (nearest word23 n)) n)), λ f. ap (λ (x : Header). x .number) (near f) ∙ zero);
+  reads = near;
+  refuses = far;
+}
+  where
+    same : headerRead n .flips ≡ flips (word23 (nearest word23 n)) n
+    same = header-flips n h
+
+    near : flips (word23 (nearest word23 n)) n ≤ most → headerWithin n most ≡ headerRead n
+    near f = within-0 n most h l (subst (λ (x : ℕ). x ≤ most) (sym same) f)
+
+    far : most < flips (word23 (nearest word23 n)) n → headerWithin n most ≡ headerRefused 49
+    far f = within-49 n most h l (subst (λ (x : ℕ). most < x) (sym same) f)
+
+    zero : headerRead n .number ≡ 0
+    zero = ap (λ (x : Header). x .number) (header-exactly n h .reads)
+
+    go : headerWithin n most .number ≡ 0 → Dec (most < flips (word23 (nearest word23 n)) n) → flips (word23 (nearest word23 n)) n ≤ most
+    go e (yes f) = absurd (omega (arith, e, ap (λ (x : Header). x .number) (far f)))
+    go e (no f) = omega (arith, f)
+
+-- a written header with at most three flips, at a setting
+module _ (a i e most : ℕ) (ha : a ≤ 1023) (hi : i ≤ 3) (he : e < 2 ^ 23) (few : ones e ≤ 3) (l : most ≤ mostFlips) where
+  flipped : ℕ
+  flipped = bitXor (headerWritten a i .value) e
+
+  small : flipped < 2 ^ 23
+  unfolding flipped
+  small = xor-lt 23 (headerWritten a i .value) e
+      (subst (λ (w : Written). w .value < 2 ^ 23) (sym (header-written a i ha hi)) (word23-lt (a + 1024 * i) (omega arith))) he
+
+  turned : headerRead flipped .flips ≡ ones e
+  unfolding flipped
+  turned = ap (λ (x : Header). x .flips) (header-flipped a i e ha hi he few)
+
+  pub within-flipped : ones e ≤ most
+      → headerWithin (bitXor (headerWritten a i .value) e) most ≡ record { number = 0; address = a; index = i; flips = ones e }
+  unfolding flipped
+  within-flipped f =
+      within-0 flipped most small l (subst (λ (x : ℕ). x ≤ most) (sym turned) f) ∙ header-flipped a i e ha hi he few
+
+  pub within-beyond : most < ones e → headerWithin (bitXor (headerWritten a i .value) e) most ≡ headerRefused 49
+  unfolding flipped
+  within-beyond f = within-49 flipped most small l (subst (λ (x : ℕ). most < x) (sym turned) f)
 
 -- ---- 24 bits
 

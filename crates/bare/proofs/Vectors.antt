@@ -3,6 +3,8 @@
 --
 --   headers-written, words-written    what is written of an address and an index, and of an information
 --   headers-read, words-read          what is read of these headers; of the word of 0 with no, one, three and four flips
+--   within-each                       header 0x75F011 with no, one, two and three flips, at the settings 0 to 3
+--   within-refused                    33 before 48 before 49
 --   written-33, read-33               address 1,023 and 1,024, index 3 and 4, information 4,095 and 4,096; header 2^23 - 1 and 2^23, word 2^24
 --   types-written, types-read, type-unreadable    the four types, bytes with two flips, and 55
 --
@@ -19,12 +21,12 @@ use Rattle.bits.specs.Rows.{refusal, given}
 use Rattle.bits.proofs.Flips.{ones-in}
 use Rattle.golay.specs.Code.{less, line, divide, remainder, word23}
 use Rattle.golay.proofs.Vectors.{words}
-use Rattle.bare.specs.Bare.{headerRead, headerWritten, wordRead, wordWritten, typeNear, typeAs, typeRead, among, typeWritten}
+use Rattle.bare.specs.Bare.{headerRead, headerWithin, headerRefused, headerWritten, wordRead, wordWritten, typeNear, typeAs, typeRead, among, typeWritten}
 use Rattle.bare.specs.declared.Header.{Header}
 use Rattle.bare.specs.declared.Word.{Word}
 use Rattle.bare.specs.declared.Written.{Written}
 use Rattle.bare.proofs.Bare.{word-written}
-use Rattle.bare.proofs.Theorems.{header-back, word-flipped, word-four}
+use Rattle.bare.proofs.Theorems.{header-back, within-flipped, within-beyond, word-flipped, word-four}
 
 abbrev written : ℕ → Written
 written n = record { number = 0; value = n }
@@ -56,6 +58,49 @@ headers-read = λ i.
     header-17 i ∷ header-back 17 1 (lit≤ tt) (lit≤ tt) i ∷ header-back 17 2 (lit≤ tt) (lit≤ tt) i ∷ header-back 17 3 (lit≤ tt) (lit≤ tt) i
     ∷ header-back 1 0 (lit≤ tt) (lit≤ tt) i ∷ header-back 1022 0 (lit≤ tt) (lit≤ tt) i ∷ header-back 1023 0 (lit≤ tt) (lit≤ tt) i
     ∷ header-back 1023 3 (lit≤ tt) (lit≤ tt) i ∷ header-back 0 3 (lit≤ tt) (lit≤ tt) i ∷ []
+
+-- ---- headers with a setting: address 17, index 0, as it is sent, and with bit 0, bits 0 and 5, bits 0, 5 and 22 turned over
+
+abbrev turned : ℕ → Header
+turned flips = record { number = 0; address = 17; index = 0; flips = flips }
+
+module _ (e k most : ℕ) (h : e < 2 ^ 23) (c : onesIn 23 e ≡ k) (few : k ≤ 3) (l : most ≤ 3) where
+  many : ones e ≡ k
+  many = ones-in 23 e h ∙ c
+
+  at : headerWithin (bitXor 0x75F011 e) most ≡ headerWithin (bitXor (headerWritten 17 0 .value) e) most
+  unfolding headerWritten refusal given word23 remainder divide line less
+  at = refl
+
+  near : k ≤ most → headerWithin (bitXor 0x75F011 e) most ≡ turned k
+  near f =
+      at ∙ within-flipped 17 0 e most (lit≤ tt) (lit≤ tt) h (subst (λ (x : ℕ). x ≤ 3) (sym many) few) l (subst (λ (x : ℕ). x ≤ most) (sym many) f)
+      ∙ ap turned many
+
+  far : most < k → headerWithin (bitXor 0x75F011 e) most ≡ headerRefused 49
+  far f = at ∙ within-beyond 17 0 e most (lit≤ tt) (lit≤ tt) h (subst (λ (x : ℕ). x ≤ 3) (sym many) few) l (subst (λ (x : ℕ). most < x) (sym many) f)
+
+-- 0x75F011, 0x75F010, 0x75F030, 0x35F030
+pub within-each : (map (headerWithin 0x75F011) (0 ∷ 3 ∷ []) ≡ (turned 0 ∷ turned 0 ∷ []))
+    × (map (headerWithin 0x75F010) (0 ∷ 1 ∷ 3 ∷ []) ≡ (headerRefused 49 ∷ turned 1 ∷ turned 1 ∷ []))
+    × (map (headerWithin 0x75F030) (1 ∷ 2 ∷ 3 ∷ []) ≡ (headerRefused 49 ∷ turned 2 ∷ turned 2 ∷ []))
+    × (map (headerWithin 0x35F030) (0 ∷ 2 ∷ 3 ∷ []) ≡ (headerRefused 49 ∷ headerRefused 49 ∷ turned 3 ∷ []))
+unfolding onesIn
+within-each = (
+  λ i. near 0 0 0 (lit< tt) refl (lit≤ tt) (lit≤ tt) (lit≤ tt) i ∷ near 0 0 3 (lit< tt) refl (lit≤ tt) (lit≤ tt) (lit≤ tt) i ∷ [],
+  λ i. far 1 1 0 (lit< tt) refl (lit≤ tt) (lit≤ tt) (lit< tt) i ∷ near 1 1 1 (lit< tt) refl (lit≤ tt) (lit≤ tt) (lit≤ tt) i
+      ∷ near 1 1 3 (lit< tt) refl (lit≤ tt) (lit≤ tt) (lit≤ tt) i ∷ [],
+  λ i. far 0x21 2 1 (lit< tt) refl (lit≤ tt) (lit≤ tt) (lit< tt) i ∷ near 0x21 2 2 (lit< tt) refl (lit≤ tt) (lit≤ tt) (lit≤ tt) i
+      ∷ near 0x21 2 3 (lit< tt) refl (lit≤ tt) (lit≤ tt) (lit≤ tt) i ∷ [],
+  λ i. far 0x400021 3 0 (lit< tt) refl (lit≤ tt) (lit≤ tt) (lit< tt) i ∷ far 0x400021 3 2 (lit< tt) refl (lit≤ tt) (lit≤ tt) (lit< tt) i
+      ∷ near 0x400021 3 3 (lit< tt) refl (lit≤ tt) (lit≤ tt) (lit≤ tt) i ∷ [],
+)
+
+-- a header too large before a setting above 3, and that before the flips
+pub within-refused : (headerWithin 8388608 4 ∷ headerWithin 8388608 0 ∷ headerWithin 0x35F030 4 ∷ headerWithin 0x75F011 4 ∷ [])
+    ≡ (headerRefused 33 ∷ headerRefused 33 ∷ headerRefused 48 ∷ headerRefused 48 ∷ [])
+unfolding headerWithin refusal given
+within-refused = refl
 
 -- ---- words of informations 0, 1, 2, 2,048, 0x123 and 4,095
 

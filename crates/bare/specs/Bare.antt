@@ -2,6 +2,7 @@
 -- gives 0 as its values.
 --
 --   headerRead, headerWritten      a header of 23 bits: address 10, index 2 (4.3.6.1), read as the nearest word
+--   headerWithin n most            the same, but refused where more than `most` flips had to be corrected (document 02, Ask 7)
 --   wordRead, wordWritten          a word of 24 bits: information 12; Judged: information and flips as one number
 --   types, typeNear                the four type bytes (7.4.2.3), and the one within two flips of a byte (house rule)
 --   typeRead, typeWritten
@@ -24,6 +25,21 @@ headerRead n =
     let answer = refusal (row (leb (2 ^ 23) n) 33 ∷ []) in
     let i = nearest word23 n in
     record { number = answer; address = given answer (i % 1024); index = given answer (i / 1024); flips = given answer (flips (word23 i) n) }
+
+-- "the greatest number of flips to correct, 0 to 3"
+abbrev pub mostFlips : ℕ
+mostFlips = 3
+
+-- 33: header 2^23 or more; 48: a setting above 3; 49: more flips than the setting
+unfoldable pub headerWithin : ℕ → ℕ → Header
+headerWithin n most =
+    let i = nearest word23 n in
+    let answer = refusal (row (leb (2 ^ 23) n) 33 ∷ row (ltb mostFlips most) 48 ∷ row (ltb most (flips (word23 i) n)) 49 ∷ []) in
+    record { number = answer; address = given answer (i % 1024); index = given answer (i / 1024); flips = given answer (flips (word23 i) n) }
+
+-- a header that is refused
+abbrev pub headerRefused : ℕ → Header
+headerRefused number = record { number = number; address = 0; index = 0; flips = 0 }
 
 -- 33: address above 1,023, index above 3
 unfoldable pub headerWritten : ℕ → ℕ → Written

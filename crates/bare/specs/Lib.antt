@@ -1,2 +1,3 @@
 pub mod Bare
 pub mod Edges
+pub mod Noise

@@ -5,11 +5,11 @@ ghost use mathlib.Core.Path.{_≡_};
 ghost use Prim.Native.Nat.{_%_, _^_, _<_, _≤_};
 ghost use Rattle.bits.specs.Bits.{flips};
 ghost use Rattle.golay.specs.Code.{word23, remainder, nearest};
-ghost use Rattle.bare.specs.Bare.{headerRead, headerWritten, wordRead, wordWritten, Judged, typeRead, typeAs, typeWritten};
+ghost use Rattle.bare.specs.Bare.{headerRead, headerWithin, headerRefused, headerWritten, wordRead, wordWritten, Judged, typeRead, typeAs, typeWritten};
 
 pub mod code;
 
-// A header of 23 bits as it is read: number 0 or 33, address, index, and how many bits were flipped.
+// A header of 23 bits as it is read: number 0, 33, 48 or 49, address, index, and how many bits were flipped.
 pub struct Header {
     pub number: u8,
     pub address: u16,
@@ -44,6 +44,9 @@ impl Header {
     pub const ADDRESSES: u32 = 1024;
 
     pub const INDICES: u32 = 4;
+
+    // How many flips are corrected at the most: each number of 23 bits lies that near to a word.
+    pub const CORRECTED: u32 = 3;
 }
 
 impl Word {
@@ -68,19 +71,46 @@ impl TypeByte {
     pub const CORRECTED: u32 = 2;
 }
 
-// 33: a header of 2^23 or more. Below it none is refused. By the constant table of patterns, which is set up only where the
-// header is damaged.
+// 33: a header of 2^23 or more. Below it none is refused: each lies within three flips of a word.
 pub fn read_header(n: u32) -> Header
     ensures { λ r. ⌜ r ≡ headerRead n ⌝ }
 {
+    read_header_within(n, Header::CORRECTED)
+}
+
+// 33: a header of 2^23 or more; 48: a setting above 3; 49: more flips than the setting.
+pub fn read_header_within(n: u32, most: u32) -> Header
+    ensures { λ r. ⌜ r ≡ headerWithin n most ⌝ }
+{
     if Header::NUMBERS <= n {
-        return Header {
-            number: 33,
-            address: 0,
-            index: 0,
-            flips: 0,
-        };
+        return refused(33);
     }
+    if Header::CORRECTED < most {
+        return refused(48);
+    }
+    let header = by_table(n);
+    if most < header.flips as u32 {
+        return refused(49);
+    }
+    header
+}
+
+fn refused(number: u8) -> Header
+    ensures { λ r. ⌜ r ≡ headerRefused number ⌝ }
+{
+    Header {
+        number,
+        address: 0,
+        index: 0,
+        flips: 0,
+    }
+}
+
+// The nearest header by the constant table of patterns, which is set up only where the header is damaged.
+fn by_table(n: u32) -> Header
+    requires { ⌜ n < 2 ^ 23 ⌝ }
+    ensures { λ r. ⌜ r ≡ headerRead n ⌝ }
+{
     if code::remainder(n) == 0 {
         return header_of(n, n);
     }

@@ -171,14 +171,14 @@ data-came true t d i is e l b kept = go (decLt (dataRead (usefulOf t) .place) 30
         inl (answer-protected t is ∙ data-whole (indexOf t) (dataRead (usefulOf t)) (omega arith)
         ∙ ap₂ readableAs e (data-back d (usefulOf t) 4 (omega arith) l b kept whole))
 
-pub received-came : (p : Bool) (a i : ℕ) (d t : List ℕ) → a ≤ 1023 → i ≤ 3 → length d ≡ dataSize p → Below 256 d
-    → Came p (sentImage p a i d) t → (received p t ≡ readableAs i d) ⊎ Refused (received p t)
-received-came p a i d t ha hi l b came = go (by-type p t (came .size))
+pub received-came : (p : Bool) (most a i : ℕ) (d t : List ℕ) → most ≤ 3 → a ≤ 1023 → i ≤ 3 → length d ≡ dataSize p → Below 256 d
+    → Came p most (sentImage p a i d) t → (received p t ≡ readableAs i d) ⊎ Refused (received p t)
+received-came p most a i d t hm ha hi l b came = go (by-type p t (came .size))
   where
     go : Refused (received p t) ⊎ IsData t → (received p t ≡ readableAs i d) ⊎ Refused (received p t)
     go (inl r) = inr r
     go (inr is) =
-        data-came p t d i is (header-came p a i d ha hi l b t (came .header) .1) l b
+        data-came p t d i is (header-came p a i d ha hi l b t (le-trans (came .header) hm) .1) l b
         (subst (λ (u : List ℕ). Kept 4 p u (usefulOf t)) (sent-useful p a i d ha hi l b) (came .useful))
 
 -- a data packet, by a type byte with at most two flips
@@ -200,12 +200,12 @@ data-corrected true t d i is e l b kept =
     answer-protected t is ∙ data-whole (indexOf t) (dataRead u) (omega (arith, place-of u, whole))
     ∙ ap₂ readableAs e (data-back d u 3 (omega arith) l b kept whole)
 
-pub received-corrected : (p : Bool) (a i : ℕ) (d t : List ℕ) → a ≤ 1023 → i ≤ 3 → length d ≡ dataSize p → Below 256 d
-    → Corrected p (sentImage p a i d) t → received p t ≡ readableAs i d
-received-corrected p a i d t ha hi l b came =
+pub received-corrected : (p : Bool) (most a i : ℕ) (d t : List ℕ) → most ≤ 3 → a ≤ 1023 → i ≤ 3 → length d ≡ dataSize p → Below 256 d
+    → Corrected p most (sentImage p a i d) t → received p t ≡ readableAs i d
+received-corrected p most a i d t hm ha hi l b came =
     data-corrected p t d i
     (type-kept t (came .size) (subst (λ (bs : List ℕ). flips (getD bs 0 0) (getD (bytesOf t) 0 0) ≤ 2) (sent-bytes p a i d ha hi l b) (came .type)))
-    (header-came p a i d ha hi l b t (came .header) .1) l b
+    (header-came p a i d ha hi l b t (le-trans (came .header) hm) .1) l b
     (subst (λ (u : List ℕ). Kept 3 p u (usefulOf t)) (sent-useful p a i d ha hi l b) (came .useful))
 
 -- what was not damaged is corrected
@@ -213,9 +213,9 @@ kept-whole : (p : Bool) (u : List ℕ) → Kept 3 p u u
 kept-whole false u = refl
 kept-whole true u = λ w h. omega (arith, flips-same (getD (wordsOf u) w 0))
 
-pub sent-corrected : (p : Bool) (a i : ℕ) (d : List ℕ) → Corrected p (sentImage p a i d) (sentImage p a i d)
+pub sent-corrected : (p : Bool) (most a i : ℕ) (d : List ℕ) → Corrected p most (sentImage p a i d) (sentImage p a i d)
 unfolding written
-sent-corrected p a i d =
+sent-corrected p most a i d =
     let s = sentImage p a i d in
     record {
       size = image-length (word23 (a + 1024 * i)) (0x00 ∷ carried p d);
@@ -229,10 +229,10 @@ kept-more : (p : Bool) (u v : List ℕ) → Kept 3 p u v → Kept 4 p u v
 kept-more false u v k = k
 kept-more true u v k = λ w h. omega (arith, k w h)
 
-pub corrected-came : (p : Bool) (s t : List ℕ) → Corrected p s t → Came p s t
-corrected-came p s t c = record { size = c .size; header = c .header; useful = kept-more p (usefulOf s) (usefulOf t) (c .useful) }
+pub corrected-came : (p : Bool) (most : ℕ) (s t : List ℕ) → Corrected p most s t → Came p most s t
+corrected-came p most s t c = record { size = c .size; header = c .header; useful = kept-more p (usefulOf s) (usefulOf t) (c .useful) }
 
 -- "reading a written image gives what went in"
 pub received-sent : (p : Bool) (a i : ℕ) (d : List ℕ) → a ≤ 1023 → i ≤ 3 → length d ≡ dataSize p → Below 256 d
     → received p (sentImage p a i d) ≡ readableAs i d
-received-sent p a i d ha hi l b = received-corrected p a i d (sentImage p a i d) ha hi l b (sent-corrected p a i d)
+received-sent p a i d ha hi l b = received-corrected p 0 a i d (sentImage p a i d) (omega arith) ha hi l b (sent-corrected p 0 a i d)

@@ -5,7 +5,7 @@
 --   flipped-size, flipped-spare  94 bytes, spare bit 0
 --   wordFlips s t w              how many flips there are in word w of t, which came of s
 --   flipped-header, flipped-type, flipped-word, flipped-other     how many flips there are, and where
---   flipped-came                 three in the header and four in a word, and any type byte, may come of what was sent
+--   flipped-came                 no more than are let pass in the header, four in a word, and any type byte, may come of what was sent
 --   flipped-read                 three, three and two in the type byte are corrected
 --   flipped-short                four in a word: 31
 --   flipped-control              a type byte that is read as 3F: 29
@@ -193,8 +193,8 @@ module _ (a c : ℕ) (d : List ℕ) (x : Flipping) (z : Fits a c d x) where
       go (yes e) = subst (λ (k : ℕ). wordFlips (sentImage true a c d) (flipped a c d x) k ≤ most) (sym e) (omega (arith, few, flipped-word))
       go (no e) = omega (arith, flipped-other w e)
 
-  pub flipped-came : ones (x .header) ≤ 3 → ones (x .word) ≤ 4 → Came true (sentImage true a c d) (flipped a c d x)
-  flipped-came few four = record {
+  pub flipped-came : (most : ℕ) → ones (x .header) ≤ most → ones (x .word) ≤ 4 → Came true most (sentImage true a c d) (flipped a c d x)
+  flipped-came most few four = record {
     size = flipped-size;
     header = omega (arith, few, flipped-header);
     useful = flipped-kept 4 four;
@@ -204,7 +204,7 @@ module _ (a c : ℕ) (d : List ℕ) (x : Flipping) (z : Fits a c d x) where
 
   pub flipped-read : ones (x .header) ≤ 3 → flips 0x00 (x .type) ≤ 2 → ones (x .word) ≤ 3 → received true (flipped a c d x) ≡ readableAs c d
   flipped-read few two three =
-      received-corrected true a c d (flipped a c d x) (z .address) (z .index) (z .size) (z .bytes) (record {
+      received-corrected true 3 a c d (flipped a c d x) (omega arith) (z .address) (z .index) (z .size) (z .bytes) (record {
         size = flipped-size;
         header = omega (arith, few, flipped-header);
         type = omega (arith, two, flipped-type);

@@ -6,7 +6,7 @@
 --   gathered-none, gathered-next    so they are before the first turn, and after one more
 --   differs, alone       an address is another than that at k; it is 0, or stands at none of the sixteen places behind it
 --   alone-used, alone-free    so it is tested
---   good-apart           all slots good and all addresses alone: the state is good
+--   good-apart           all slots good, all addresses alone and a setting of 0 to 3: the state is good
 --
 -- Assumes nothing.
 use mathlib.Core.Path.{_≡_, refl, sym, ap, ap₂, _∙_}
@@ -15,15 +15,16 @@ use mathlib.Core.List.{List}
 use Prim.Native.Nat.{ℕ, zero, _+_, _%_, _≤_, _<_}
 use native.Mathlib.Omega.{arith}
 use native.Mathlib.Decide.{decLt, ℕ-discrete}
-use borrow.Author.Tests.{lt-ltb, le-ltb, eq-eqb, ne-eqb}
-use lib.Dec.{ltb, eqb}
+use borrow.Author.Tests.{lt-ltb, le-ltb, eq-eqb, ne-eqb, le-leb, leb-true}
+use lib.Dec.{leb, ltb, eqb}
 use lib.ListN.{length, getD, set, replicate, getD-replicate, List·getD-eq-default, length-replicate}
 use lib.Seq.{getD-set-same, getD-set-other}
 use Rattle.bits.specs.Search.{all}
 use Rattle.bits.proofs.Search.{all-at, all-each, and-left, and-right, or-right, same-truth, clash}
+use Rattle.bare.specs.Bare.{mostFlips}
 use Rattle.slot.specs.Slot.{free, goodSlot}
 use Rattle.slot.proofs.Goods.{good-small}
-use Rattle.table.specs.State.{slots, slotAt, addressAt, good}
+use Rattle.table.specs.State.{slots, setting, slotAt, addressAt, good}
 use Rattle.table.proofs.States.{Good, good-each, each-good, find-only, used-address, used-one}
 
 used-at : (s : List ℕ) (k : ℕ) → goodSlot (slotAt k s) ≡ true → free (slotAt k s) ≡ false → 0 < addressAt s k
@@ -107,8 +108,12 @@ module _ (s xs : List ℕ) (g : Gathered s slots xs) where
           let same : getD xs j 0 ≡ getD xs i 0 = is-address j h (ok j h) ∙ e ∙ sym (is-address i (omega arith) (ok i (omega arith))) in
           clash (sym other ∙ ap not (eq-eqb (getD xs j 0) (getD xs i 0) same))
 
-  to-good : all (goodSlotAt s) slots 0 ≡ true → all (alone xs) slots 0 ≡ true → Good s
-  to-good gs a = record { slot = slot-good; first = λ k h f. find-only s (addressAt s k) k h refl (only k h f) }
+  to-good : all (goodSlotAt s) slots 0 ≡ true → all (alone xs) slots 0 ≡ true → setting s ≤ mostFlips → Good s
+  to-good gs a few = record {
+    slot = slot-good;
+    first = λ k h f. find-only s (addressAt s k) k h refl (only k h f);
+    setting = few;
+  }
     where
       slot-good : (k : ℕ) → k < slots → goodSlot (slotAt k s) ≡ true
       slot-good k h = all-at (goodSlotAt s) slots 0 gs k (omega arith) h
@@ -140,9 +145,14 @@ module _ (s xs : List ℕ) (g : Gathered s slots xs) where
           ap₂ _||_ (ne-eqb (getD xs k 0) 0 ne)
           (all-each (differs xs k) slots (k + 1) (λ j l m. ap not (ne-eqb (getD xs j 0) (getD xs k 0) (other ne j l (decLt j slots)))))
 
-  pub good-apart : (all (goodSlotAt s) slots 0 && all (alone xs) slots 0) ≡ good s
-  good-apart =
-      same-truth (all (goodSlotAt s) slots 0 && all (alone xs) slots 0) (good s)
-      (λ e. each-good s (to-good (and-left _ _ e) (and-right (all (goodSlotAt s) slots 0) _ e)))
+  pub good-apart : (n : ℕ) → n ≡ setting s → ((all (goodSlotAt s) slots 0 && all (alone xs) slots 0) && leb n mostFlips) ≡ good s
+  good-apart n q =
+      let slots-so = all (goodSlotAt s) slots 0 in
+      let apart-so = all (alone xs) slots 0 in
+      ap (λ (x : ℕ). (slots-so && apart-so) && leb x mostFlips) q
+      ∙ same-truth ((slots-so && apart-so) && leb (setting s) mostFlips) (good s)
+      (λ e. let both = and-left (slots-so && apart-so) _ e in
+      each-good s (to-good (and-left slots-so _ both) (and-right slots-so _ both) (leb-true (setting s) mostFlips (and-right (slots-so && apart-so) _ e))))
       (λ e. let ok = good-each s e in
-      ap₂ _&&_ (all-each (goodSlotAt s) slots 0 (λ k l h. ok .slot k h)) (all-each (alone xs) slots 0 (λ k l h. from-good ok k h)))
+      ap₂ _&&_ (ap₂ _&&_ (all-each (goodSlotAt s) slots 0 (λ k l h. ok .slot k h)) (all-each (alone xs) slots 0 (λ k l h. from-good ok k h)))
+      (le-leb (setting s) mostFlips (ok .setting)))

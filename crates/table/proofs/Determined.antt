@@ -5,7 +5,7 @@ use mathlib.Core.List.{List}
 use Prim.Native.Nat.{ℕ}
 use Rattle.bits.proofs.Determined.{determined}
 use Rattle.head.specs.declared.Wish.{Wish}
-use Rattle.table.specs.Calls.{startAnswer, startAfter, followAnswer, followAfter, leaveAnswer, leaveAfter, endAnswer, endAfter}
+use Rattle.table.specs.Calls.{startAnswer, startAfter, followAnswer, followAfter, leaveAnswer, leaveAfter, endAnswer, endAfter, setAnswer, setAfter}
 
 -- an answer and the bytes after, by the two functions of a call
 abbrev pub Same : ℕ → List ℕ → Type 0
@@ -26,3 +26,6 @@ leave-same s a = same (leaveAnswer s a) (leaveAfter s a)
 
 pub end-same : (s : List ℕ) → Same (endAnswer s) (endAfter s)
 end-same s = same (endAnswer s) (endAfter s)
+
+pub set-same : (s : List ℕ) (most : ℕ) → Same (setAnswer s most) (setAfter s most)
+set-same s most = same (setAnswer s most) (setAfter s most)

@@ -1,31 +1,33 @@
 -- What the calls' code does, against their definitions.
 --
 --   start-refused, start-passed  start's one row, by the test of the length
---   follow-length, end-length    an accepted call's state has 11,776 bytes
+--   follow-length, end-length    an accepted call's state has 11,777 bytes
 --   Known, known                 what holds of a followed address
 --   span-length                  the part that is lent of slot k is a slot's length
 --   slot-given, slot-stored, slot-cleared    and the state with what came back of it
+--   setting-stored               the state with the setting's byte stored
 --   ages-turn, ages-end          a turn and the end of the loop that ages the slots
 --
 -- Assumes nothing.
 use mathlib.Core.Path.{_≡_, sym, ap, ap₂, _∙_}
 use mathlib.Core.Bool.{not}
-use mathlib.Core.List.{List, [], _++_}
+use mathlib.Core.List.{List, [], _∷_, _++_}
 use Prim.Native.Nat.{ℕ, suc, _+_, _-_, _*_, _≤_, _<_}
 use native.Mathlib.Omega.{arith}
 use native.Mathlib.Numerals.{add-one}
 use borrow.Author.Tests.{eq-eqb, ne-eqb}
 use lib.Dec.{eqb}
-use lib.ListN.{length, take, drop}
+use lib.ListN.{length, take, drop, set}
 use Rattle.bits.specs.Bits.{blank}
 use Rattle.bits.specs.Rows.{refusal}
 use Rattle.bits.proofs.Rows.{refusal-hit, refusal-miss}
 use Rattle.runs.specs.Part.{part, put}
+use Rattle.runs.proofs.Parts.{sets-put}
 use Rattle.slot.specs.Slot.{slotSize, headOf, withHead}
 use Rattle.head.specs.Head.{agedHead}
 use Rattle.head.specs.declared.Head.{Head}
 use Rattle.slot.proofs.Heads.{withHead-length}
-use Rattle.table.specs.State.{stateSize, slots, slotAt, withSlot, find}
+use Rattle.table.specs.State.{stateSize, slots, tailAt, withSetting, slotAt, withSlot, find}
 use Rattle.head.specs.declared.Wish.{Wish}
 use Rattle.table.specs.Calls.{startAnswer, followAnswer, leaveAnswer, endAnswer, ages}
 use Rattle.table.proofs.States.{slot-length, with-length}
@@ -93,6 +95,10 @@ pub slot-cleared : (k j : ℕ) (s b : List ℕ) → length s ≡ stateSize → j
     → (take (k * slotSize) s ++ (b ++ drop (span (k * slotSize)) (drop (k * slotSize) s))) ≡ withSlot j (blank slotSize) s
 slot-cleared k j s b l h q e =
     slot-given (λ (x : List ℕ). blank (length x)) k j s b q e ∙ ap (λ (n : ℕ). withSlot j (blank n) s) (slot-length s l j h)
+
+pub setting-stored : (s : List ℕ) (most : ℕ) → length s ≡ stateSize → set s tailAt most ≡ withSetting most s
+unfolding withSetting
+setting-stored s most l = sets-put tailAt (most ∷ []) s (omega arith)
 
 -- ---- the loop: the slots from k on are still to be aged
 

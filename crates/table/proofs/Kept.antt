@@ -1,8 +1,8 @@
 -- Every call keeps the state good, whatever it answers.
 --
 --   follow-passed, leave-passed    what holds where a call is accepted: none of its rows
---   slot-blank, blank-good     the state of 0 alone
---   start-good, follow-good, leave-good, end-good
+--   blank-good, started-length, slot-started, started-good     the state of 0 alone, and as start leaves it
+--   start-good, follow-good, leave-good, end-good, set-good
 --   age-waits       the age does not move before the first whole group
 --
 -- Assumes nothing.
@@ -16,6 +16,7 @@ use lib.Dec.{T, ltb, eqb}
 use mathlib.Core.Logic.{_⊎_, inl, inr}
 use lib.ListN.{length, getD}
 use Rattle.bits.specs.Bits.{blank}
+use Rattle.bare.specs.Bare.{mostFlips}
 use Rattle.bits.specs.Rows.{done}
 use Rattle.bits.proofs.Rows.{refusal-passed, refusal-miss, refusal-none, done-either}
 use Rattle.bits.proofs.Storing.{blank-length}
@@ -28,10 +29,10 @@ use Rattle.slot.specs.Slot.{slotSize, headOf, withHead, goodSlot, free}
 use Rattle.head.specs.Head.{freeHead, newHead, agedHead, within, goodWish, goodHead}
 use Rattle.head.specs.declared.Wish.{Wish}
 use Rattle.head.proofs.Wishes.{wish-passed}
-use Rattle.table.specs.State.{slots, stateSize, slotAt, withSlot, addressAt, find, good}
-use Rattle.table.specs.Calls.{startAnswer, startAfter, followAnswer, followAfter, leaveAnswer, leaveAfter, endAnswer, ages, endAfter}
-use Rattle.table.proofs.Looking.{Passed, past-state}
-use Rattle.table.proofs.States.{Good, good-each, each-good, find-has, slot-length, with-length, good-followed, good-left, good-change, address-is}
+use Rattle.table.specs.State.{slots, tailAt, stateSize, setting, withSetting, startedState, slotAt, withSlot, addressAt, find, good}
+use Rattle.table.specs.Calls.{startAnswer, startAfter, followAnswer, followAfter, leaveAnswer, leaveAfter, endAnswer, ages, endAfter, setAnswer, setAfter}
+use Rattle.table.proofs.Looking.{Passed, past-state, set-passed}
+use Rattle.table.proofs.States.{Good, good-each, each-good, find-has, slot-length, with-length, set-length, setting-put, slot-kept, good-set, good-followed, good-left, good-change, address-is}
 
 pub record Followed (s : List ℕ) (w : Wish) : Type 0 where
   pub state : Passed s
@@ -61,22 +62,36 @@ leave-passed s a e =
 
 -- ---- start
 
-pub slot-blank : (k : ℕ) → k < slots → slotAt k (blank stateSize) ≡ blank slotSize
+slot-blank : (k : ℕ) → k < slots → slotAt k (blank stateSize) ≡ blank slotSize
 unfolding slotAt
 slot-blank k h = part-blank (k * slotSize) slotSize stateSize (omega arith)
 
-pub blank-good : Good (blank stateSize)
+blank-good : Good (blank stateSize)
+unfolding setting
 blank-good = record {
   slot = λ k h. ap goodSlot (slot-blank k h) ∙ good-free slotSize;
   first = λ k h f. absurd (subst T (sym (ap free (slot-blank k h) ∙ blank-free slotSize) ∙ f) tt);
+  setting = omega (arith, blank-at stateSize tailAt);
 }
+
+pub started-length : length startedState ≡ stateSize
+started-length = set-length (blank stateSize) (blank-length stateSize) mostFlips
+
+pub slot-started : (k : ℕ) → k < slots → slotAt k startedState ≡ blank slotSize
+slot-started k h = slot-kept (blank stateSize) (blank-length stateSize) mostFlips k h ∙ slot-blank k h
+
+pub started-good : Good startedState
+started-good = good-set (blank stateSize) (blank-length stateSize) blank-good mostFlips (omega arith)
+
+pub setting-started : setting startedState ≡ mostFlips
+setting-started = setting-put (blank stateSize) (blank-length stateSize) mostFlips
 
 pub start-good : (s : List ℕ) → length s ≡ stateSize → good (startAfter s) ≡ true
 unfolding startAfter startAnswer done
 start-good s l =
-    ap (λ (n : ℕ). good (done n (blank stateSize) s))
+    ap (λ (n : ℕ). good (done n startedState s))
     (refusal-miss (not (eqb (length s) stateSize)) 20 [] (ap not (eq-eqb (length s) stateSize l)) ∙ refusal-none)
-    ∙ each-good (blank stateSize) blank-good
+    ∙ each-good startedState started-good
 
 -- ---- follow
 
@@ -148,6 +163,14 @@ unfolding endAfter endAnswer
 end-good s g =
     done-either (λ (x : List ℕ). good x ≡ true) (endAnswer s) (ages slots 0 s) s
     (λ e. each-good _ (ages-good slots 0 s (omega arith) (past-state s [] e .0 .size) (good-each s g))) g
+
+-- ---- the setting
+
+pub set-good : (s : List ℕ) (most : ℕ) → good s ≡ true → good (setAfter s most) ≡ true
+unfolding setAfter
+set-good s most g =
+    done-either (λ (x : List ℕ). good x ≡ true) (setAnswer s most) (withSetting most s) s
+    (λ e. let q = set-passed s most e in each-good _ (good-set s (q .0 .size) (good-each s g) most (q .1))) g
 
 -- "age is not moved from the follow call on, only from the first whole group"
 pub age-waits : (h : Head) → h .group ≡ 0 → agedHead h .age ≡ h .age

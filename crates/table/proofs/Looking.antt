@@ -4,7 +4,7 @@
 --   find-down, find-hit, find-pass, find-end     the search from the last slot to the first
 --   state-*          the rows of the state, before a call's own
 --   outside          a test on both sides of a range
---   leave-22 .., follow-22 ..    the rows of leave, ask and follow, in the code's tests
+--   leave-22 .., follow-22 ..    the rows of leave, ask and follow, in the code's tests; set-state .., the setting's
 --
 -- Assumes nothing.
 use mathlib.Core.Path.{_≡_, refl, sym, ap, _∙_, subst}
@@ -12,12 +12,13 @@ use mathlib.Core.Bool.{Bool, true, false, cond, not, _||_}
 use mathlib.Core.List.{List, [], _∷_}
 use Prim.Native.Nat.{ℕ, suc, _+_, _-_, _*_, _≤_, _<_}
 use native.Mathlib.Omega.{arith}
-use borrow.Author.Tests.{lt-ltb, le-ltb, eq-eqb, ne-eqb, eqb-true, not-false}
+use borrow.Author.Tests.{lt-ltb, le-ltb, ltb-false, eq-eqb, ne-eqb, eqb-true, not-false}
 use lib.Dec.{ltb, eqb}
 use lib.ListN.{length, take, drop}
 use Rattle.bits.specs.Rows.{Row, row, refusal}
 use Rattle.bits.specs.Search.{first}
 use Rattle.bits.proofs.Rows.{refusal-hit, refusal-miss, refusal-passed, refusal-none}
+use Rattle.bare.specs.Bare.{mostFlips}
 use Rattle.runs.specs.Part.{part}
 use Rattle.slot.specs.Slot.{slotSize, headOf}
 use Rattle.head.specs.Head.{within, wishRows, wishAnswer}
@@ -25,7 +26,7 @@ use Rattle.head.specs.declared.Wish.{Wish}
 use Rattle.head.proofs.Wishes.{outside, wish-refused, wish-rest}
 use Rattle.head.specs.declared.Head.{Head}
 use Rattle.table.specs.State.{slots, stateSize, slotAt, addressAt, find, good}
-use Rattle.table.specs.Calls.{stateRows, endAnswer, followAnswer, leaveAnswer}
+use Rattle.table.specs.Calls.{stateRows, endAnswer, followAnswer, leaveAnswer, setAnswer}
 use Rattle.table.proofs.States.{has}
 
 pub slot-part : (k : ℕ) (s : List ℕ) → take (k * slotSize + slotSize - k * slotSize) (drop (k * slotSize) s) ≡ slotAt k s
@@ -172,3 +173,27 @@ module _ (s : List ℕ) (w : Wish) (ok : Passed s) where
       follow-0 h =
           past25 ∙ refusal-miss (not (ltb (find s 0) slots)) 26 [] (ap not (lt-ltb (find s 0) slots (subst (λ (x : ℕ). x < slots) f h)))
           ∙ refusal-none
+
+-- ---- the setting, row by row
+
+pub set-state : (s : List ℕ) (most n : ℕ) → n ≡ endAnswer s → (n ≡ 0 → ⊥) → n ≡ setAnswer s most
+unfolding setAnswer
+set-state s most = state-refused s (row (ltb mostFlips most) 48 ∷ [])
+
+module _ (s : List ℕ) (most : ℕ) (ok : Passed s) where
+  set-own : setAnswer s most ≡ refusal (row (ltb mostFlips most) 48 ∷ [])
+  unfolding setAnswer
+  set-own = state-rest s _ (ok .size) (ok .all-good)
+
+  pub set-48 : mostFlips < most → setAnswer s most ≡ 48
+  set-48 h = set-own ∙ refusal-hit (ltb mostFlips most) 48 [] (lt-ltb mostFlips most h)
+
+  pub set-0 : most ≤ mostFlips → setAnswer s most ≡ 0
+  set-0 h = set-own ∙ refusal-miss (ltb mostFlips most) 48 [] (le-ltb mostFlips most h) ∙ refusal-none
+
+-- where it is accepted, none of its rows holds
+pub set-passed : (s : List ℕ) (most : ℕ) → setAnswer s most ≡ 0 → (Passed s) × (most ≤ mostFlips)
+unfolding setAnswer
+set-passed s most e =
+    let rest = past-state s (row (ltb mostFlips most) 48 ∷ []) e in
+    (rest .0, ltb-false mostFlips most (refusal-passed (ltb mostFlips most) 48 [] (omega arith) (rest .1) .0))

@@ -1,4 +1,4 @@
--- What a state shows, by the addresses of its slots: enough to know what each call answers, without computing 11,776 bytes.
+-- What a state shows, by the addresses of its slots: enough to know what each call answers, without computing 11,777 bytes.
 --
 --   Shows s f                 a good state whose slot k has address f k
 --   place f a, find-place     the lowest slot of an address, which computes where f does
@@ -29,11 +29,11 @@ use Rattle.head.specs.declared.Head.{Head}
 use Rattle.head.proofs.Bounds.{good-new}
 use Rattle.slot.proofs.Goods.{good-load, head-blank}
 use Rattle.slot.proofs.Heads.{withHead-length}
-use Rattle.table.specs.State.{slots, stateSize, slotAt, withSlot, addressAt, find, good}
+use Rattle.table.specs.State.{slots, stateSize, startedState, slotAt, withSlot, addressAt, find, good}
 use Rattle.table.specs.Calls.{followAnswer, followAfter, leaveAnswer, leaveAfter, endAnswer, endAfter, ages}
 use Rattle.table.proofs.Looking.{Passed, state-rest}
 use Rattle.table.proofs.States.{has, slot-length, with-length, slot-same, address-is, address-same, address-other, good-each, each-good, good-change}
-use Rattle.table.proofs.Kept.{Followed, follow-passed, leave-passed, slot-blank, blank-good, follow-good, leave-good, aged-slot}
+use Rattle.table.proofs.Kept.{Followed, follow-passed, leave-passed, started-length, slot-started, started-good, follow-good, leave-good, aged-slot}
 
 pub record Shows (s : List ℕ) (f : ℕ → ℕ) : Type 0 where
   pub passed : Passed s
@@ -48,10 +48,10 @@ find-place s f v a = first-agree (λ (k : ℕ). eqb (f k) a) (has s a) slots 0 (
 
 -- ---- start
 
-pub start-shows : Shows (blank stateSize) (λ k. 0)
+pub start-shows : Shows startedState (λ k. 0)
 start-shows = record {
-  passed = record { size = blank-length stateSize; all-good = each-good (blank stateSize) blank-good };
-  each = λ k h. sym (address-is (blank stateSize) k) ∙ ap (λ (x : List ℕ). headOf x .wish .address) (slot-blank k h)
+  passed = record { size = started-length; all-good = each-good startedState started-good };
+  each = λ k h. sym (address-is startedState k) ∙ ap (λ (x : List ℕ). headOf x .wish .address) (slot-started k h)
       ∙ ap (λ (h : Head). h .wish .address) (head-blank slotSize);
 }
 

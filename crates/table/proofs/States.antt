@@ -1,12 +1,15 @@
 -- Laws of the state of 16 slots.
 --
 --   slot-length, slot-same, slot-other    a slot of the state, after a change of it or of another
+--   setting-kept                          a slot's change keeps the setting
+--   put-length, slot-kept, setting-put    the state with another setting: its length, its slots, its setting
 --   find-*                                the lowest slot of an address
 --   Good, good-each, each-good            good as facts, and back
 --   used-one                              no two used slots share an address
 --   good-change                           a change of one slot keeps the state good if the slot stays good and keeps its
 --                                         address
 --   good-followed, good-left              so do follow's change and leave's
+--   good-set                              and another setting, of 0 to 3
 --
 -- Assumes nothing.
 use mathlib.Core.Path.{_≡_, refl, sym, ap, ap₂, _∙_, subst}
@@ -15,19 +18,20 @@ use mathlib.Core.List.{List, [], _∷_}
 use Prim.Native.Nat.{ℕ, zero, suc, _+_, _*_, _≤_, _<_}
 use native.Mathlib.Omega.{arith}
 use native.Mathlib.Decide.{decLt, ℕ-discrete}
-use borrow.Author.Tests.{eq-eqb, ne-eqb, eqb-true, leb-true}
-use lib.Dec.{T, eqb, eqb-refl, eqb→eq}
+use borrow.Author.Tests.{eq-eqb, ne-eqb, eqb-true, leb-true, le-leb}
+use lib.Dec.{T, leb, eqb, eqb-refl, eqb→eq}
 use lib.ListN.{length, drop, getD, length-drop}
 use lib.Seq.{length-take-le}
-use Rattle.bits.specs.Search.{first}
+use Rattle.bits.specs.Search.{first, all}
+use Rattle.bare.specs.Bare.{mostFlips}
 use Rattle.bits.proofs.Search.{first-le, first-holds, first-only, first-agree, first-least, all-at, all-each, and-left, and-right, or-right}
 use Rattle.runs.specs.Part.{part, put}
 use Rattle.slot.specs.Slot.{headAt, slotSize, headOf, free, goodSlot}
 use Rattle.runs.specs.Numbers.{fourAt}
 use Rattle.head.specs.Head.{within, goodHead}
-use Rattle.runs.proofs.Parts.{put-length, part-put, part-put-before, part-put-after}
+use Rattle.runs.proofs.Parts.{put-length, part-put, part-put-before, part-put-after, getD-put-in, getD-put-after}
 use Rattle.head.proofs.Bounds.{wish-bounds, good-bounds}
-use Rattle.table.specs.State.{slots, stateSize, slotAt, withSlot, addressAt, find, goodAt, good}
+use Rattle.table.specs.State.{slots, tailAt, tailSize, stateSize, setting, withSetting, slotAt, withSlot, addressAt, find, goodAt, good}
 
 -- ---- slots
 
@@ -60,6 +64,30 @@ module _ (s : List ℕ) (l : length s ≡ stateSize) where
     pub address-other : (j : ℕ) → (j ≡ k → ⊥) → addressAt (withSlot k b s) j ≡ addressAt s j
     unfolding addressAt
     address-other j ne = ap (λ (x : List ℕ). headOf x .wish .address) (slot-other j ne)
+
+    -- the setting stands behind the slots
+    pub setting-kept : setting (withSlot k b s) ≡ setting s
+    unfolding setting withSlot
+    setting-kept = getD-put-after (k * slotSize) slotSize b s tailAt (omega arith) lb (omega arith)
+
+  -- ---- the state with another setting
+
+  module _ (most : ℕ) where
+    pub set-length : length (withSetting most s) ≡ stateSize
+    unfolding withSetting
+    set-length = put-length tailAt tailSize (most ∷ []) s (omega arith) refl ∙ l
+
+    pub setting-put : setting (withSetting most s) ≡ most
+    unfolding setting withSetting
+    setting-put = getD-put-in tailAt tailSize (most ∷ []) s 0 (omega arith) refl (omega arith)
+
+    pub slot-kept : (k : ℕ) → k < slots → slotAt k (withSetting most s) ≡ slotAt k s
+    unfolding slotAt withSetting
+    slot-kept k h = part-put-before tailAt tailSize (most ∷ []) s (k * slotSize) slotSize (omega arith) (omega arith)
+
+    pub address-kept : (k : ℕ) → k < slots → addressAt (withSetting most s) k ≡ addressAt s k
+    unfolding addressAt
+    address-kept k h = ap (λ (x : List ℕ). headOf x .wish .address) (slot-kept k h)
 
 pub address-is : (s : List ℕ) (k : ℕ) → headOf (slotAt k s) .wish .address ≡ addressAt s k
 unfolding addressAt
@@ -94,21 +122,27 @@ find-agree s t a h = first-agree (has s a) (has t a) slots 0 (λ k l m. h k m)
 pub record Good (s : List ℕ) : Type 0 where
   pub slot : (k : ℕ) → k < slots → goodSlot (slotAt k s) ≡ true
   pub first : (k : ℕ) → k < slots → free (slotAt k s) ≡ false → find s (addressAt s k) ≡ k
+  pub setting : setting s ≤ mostFlips
 
 pub good-each : (s : List ℕ) → good s ≡ true → Good s
 unfolding good goodAt
-good-each s e = record {
-  slot = λ k h. and-left (goodSlot (slotAt k s)) _ (all-at (goodAt s) slots 0 e k (omega arith) h);
-  first = λ k h f. eqb-true (find s (addressAt s k)) k
-      (or-right (free (slotAt k s)) _ (and-right (goodSlot (slotAt k s)) _ (all-at (goodAt s) slots 0 e k (omega arith) h)) f);
-}
+good-each s e =
+    let each = and-left (all (goodAt s) slots 0) _ e in
+    record {
+      slot = λ k h. and-left (goodSlot (slotAt k s)) _ (all-at (goodAt s) slots 0 each k (omega arith) h);
+      first = λ k h f. eqb-true (find s (addressAt s k)) k
+          (or-right (free (slotAt k s)) _ (and-right (goodSlot (slotAt k s)) _ (all-at (goodAt s) slots 0 each k (omega arith) h)) f);
+      setting = leb-true (setting s) mostFlips (and-right (all (goodAt s) slots 0) _ e);
+    }
 
 pub each-good : (s : List ℕ) → Good s → good s ≡ true
 unfolding good goodAt
 each-good s g =
-    all-each (goodAt s) slots 0
+    ap₂ _&&_
+    (all-each (goodAt s) slots 0
     (λ k l h. join (goodSlot (slotAt k s)) (free (slotAt k s)) (eqb (find s (addressAt s k)) k) (g .slot k h)
-    (λ f. eq-eqb (find s (addressAt s k)) k (g .first k h f)))
+    (λ f. eq-eqb (find s (addressAt s k)) k (g .first k h f))))
+    (le-leb (setting s) mostFlips (g .setting))
   where
     join : (a f e : Bool) → a ≡ true → (f ≡ false → e ≡ true) → (a && (f || e)) ≡ true
     join a true e p q = ap (λ (x : Bool). x && true) p
@@ -173,6 +207,7 @@ module _ (s : List ℕ) (l : length s ≡ stateSize) (g : Good s) (k : ℕ) (b :
   good-with apart found = record {
     slot = λ j hj. slot-at j hj (ℕ-discrete j k);
     first = λ j hj f. first-at j hj f (ℕ-discrete j k);
+    setting = subst (λ (x : ℕ). x ≤ mostFlips) (sym (setting-kept s l k b h lb)) (g .setting);
   }
     where
       slot-at : (j : ℕ) → j < slots → Dec (j ≡ k) → goodSlot (slotAt j (withSlot k b s)) ≡ true
@@ -240,3 +275,17 @@ module _ (s : List ℕ) (l : length s ≡ stateSize) (g : Good s) (k : ℕ) (b :
       apart j hj ne f =
           ne-eqb (headOf b .wish .address) (addressAt s j) (λ q. omega (arith, q, free-address b fb, used-pos s g j hj f))
           ∙ sym (ne-eqb (addressAt s k) (addressAt s j) (λ q. ne (used-one s g j k hj h (sym q) (omega (arith, q, used-pos s g j hj f)))))
+
+-- ---- another setting: every slot stays, and so does what is found
+
+pub find-kept : (s : List ℕ) → length s ≡ stateSize → (most a : ℕ) → find (withSetting most s) a ≡ find s a
+find-kept s l most a =
+    find-agree (withSetting most s) s a (λ k h. ap (λ (x : ℕ). eqb x a) (address-kept s l most k h))
+
+pub good-set : (s : List ℕ) → length s ≡ stateSize → Good s → (most : ℕ) → most ≤ mostFlips → Good (withSetting most s)
+good-set s l g most h = record {
+  slot = λ k hk. ap goodSlot (slot-kept s l most k hk) ∙ g .slot k hk;
+  first = λ k hk f. find-kept s l most _ ∙ ap (find s) (address-kept s l most k hk)
+      ∙ g .first k hk (sym (ap free (slot-kept s l most k hk)) ∙ f);
+  setting = subst (λ (x : ℕ). x ≤ mostFlips) (sym (setting-put s l most)) h;
+}

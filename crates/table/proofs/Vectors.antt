@@ -8,38 +8,42 @@
 --   follows-refused               follow 20 and 34, before any other row
 --   follows                       22 before 23 before 24 where several hold; addresses 1 and 1,022, limits 1 and 1,500 pass
 --   follows-again                 24 before 25; another address passes
+--   started-bytes, started-setting     what start leaves: 11,776 bytes of 0, and the setting 3
+--   loose                         a state with the setting 4 is not good; sets: 20, 34, 48, and 0 at 0 to 3
+--   set most                      the started state with a setting of 0 to 3, which is good and has no address
 --   follows-full                  the seventeenth: 26, and 25 before it; it passes after a leave
 --
 -- Assumes nothing.
 use mathlib.Core.Path.{_≡_, refl, sym, ap, ap₂, _∙_, subst}
 use mathlib.Core.Bool.{Bool, true, false, cond, _&&_, _||_}
-use mathlib.Core.List.{List, [], _∷_}
+use mathlib.Core.List.{List, [], _∷_, _++_}
 use Prim.Native.Nat.{ℕ, zero, suc, _≤_, _<_, _+_, _-_}
 use native.Mathlib.Omega.{arith}
 use native.Mathlib.Decide.{ℕ-discrete, decLt}
 use borrow.Author.Tests.{eq-eqb, ne-eqb, lt-ltb, le-ltb, le-leb}
 use lib.Dec.{T, leb, ltb, eqb, leb→le, eqb→eq, lit<, lit≤}
-use lib.ListN.{length}
+use lib.ListN.{length, take, drop}
 use Rattle.bits.specs.Bits.{blank}
 use Rattle.bits.specs.Rows.{refusal}
 use Rattle.bits.specs.Search.{first}
 use Rattle.bits.proofs.Every.{both, both-left, both-right, every, every-at}
-use Rattle.bits.proofs.Storing.{blank-length}
-use Rattle.runs.specs.Part.{part}
+use Rattle.bits.proofs.Storing.{blank-length, drop-blank}
+use Rattle.runs.specs.Part.{part, put}
 use Rattle.runs.specs.Numbers.{fourAt}
 use Rattle.slot.specs.Slot.{slotSize, headOf, free, goodSlot}
 use Rattle.head.specs.Head.{goodHead, wishOf, goodWish, wishAnswer}
 use Rattle.head.specs.declared.Wish.{Wish}
 use Rattle.head.proofs.Wishes.{wish-passes}
-use Rattle.table.specs.State.{slots, stateSize, startedState, slotAt, good}
-use Rattle.table.specs.Calls.{startAnswer, followAnswer, followAfter, leaveAnswer, leaveAfter, endAnswer}
+use Rattle.table.specs.State.{slots, tailAt, tailSize, stateSize, setting, withSetting, startedState, slotAt, find, good}
+use Rattle.table.specs.Calls.{startAnswer, followAnswer, followAfter, leaveAnswer, leaveAfter, endAnswer, setAnswer}
 use Rattle.table.proofs.Doing.{start-refused, start-passed}
 use Rattle.runs.proofs.Parts.{part-blank}
-use Rattle.table.proofs.Looking.{Passed, state-20, state-34, leave-22, leave-27, leave-0, follow-wish, follow-25, follow-26, follow-0}
+use Rattle.table.proofs.Looking.{Passed, state-20, state-34, leave-22, leave-27, leave-0, follow-wish, follow-25, follow-26, follow-0, set-48, set-0}
+use Rattle.table.proofs.Kept.{started-length, started-good, setting-started}
 use Rattle.table.proofs.Shows.{Shows, place, with, find-place, start-shows, follow-shows, leave-shows, end-done}
-use Rattle.table.proofs.States.{good-each}
+use Rattle.table.proofs.States.{good-each, each-good, set-length, setting-put, find-kept, good-set}
 
--- ---- 20: a state of none, of 11,775 and of 11,777 bytes
+-- ---- 20: a state of none, of 11,776 and of 11,778 bytes
 
 wrong : (n : ℕ) → (n ≡ stateSize → ⊥) → length (blank n) ≡ stateSize → ⊥
 wrong n ne e = ne (sym (blank-length n) ∙ e)
@@ -57,7 +61,7 @@ long : length (blank (stateSize + 1)) ≡ stateSize → ⊥
 long = wrong (stateSize + 1) (λ q. omega (arith, q))
 
 -- the paper's number
-pub size : stateSize ≡ 11776
+pub size : stateSize ≡ 11777
 size = refl
 
 pub starts : (startAnswer empty ∷ startAnswer (blank (stateSize - 1)) ∷ startAnswer (blank (stateSize + 1)) ∷ startAnswer (blank stateSize) ∷ []) ≡ (20 ∷ 20 ∷ 20 ∷ 0 ∷ [])
@@ -93,8 +97,76 @@ spoiled-not = go (good spoiled) refl
 abbrev pub started : List ℕ
 started = startedState
 
+abbrev pub nobody : ℕ → ℕ
+nobody k = 0
+
 pub ok : Passed started
 ok = start-shows .passed
+
+-- "start puts 3": 11,776 bytes of 0 and then the setting
+take-blank : (n m : ℕ) → n ≤ m → take n (blank m) ≡ blank n
+unfolding part
+take-blank n m h = part-blank 0 n m (omega arith)
+
+blank-none : blank 0 ≡ []
+unfolding blank
+blank-none = refl
+
+pub started-bytes : started ≡ blank 11776 ++ (3 ∷ [])
+unfolding withSetting put
+started-bytes =
+    ap₂ (λ (x y : List ℕ). x ++ (3 ∷ y)) (take-blank tailAt stateSize (lit≤ tt))
+    (ap (drop tailSize) (drop-blank tailAt stateSize) ∙ drop-blank tailSize (stateSize - tailAt) ∙ blank-none)
+
+pub started-setting : setting started ≡ 3
+started-setting = setting-started
+
+-- ---- the setting
+
+-- "a good state holds 0 to 3"
+abbrev pub loose : List ℕ
+loose = withSetting 4 started
+
+pub loose-length : length loose ≡ stateSize
+loose-length = set-length started started-length 4
+
+pub loose-not : good loose ≡ false
+loose-not = go (good loose) refl
+  where
+    go : (b : Bool) → good loose ≡ b → good loose ≡ false
+    go true q = absurd (omega (arith, good-each loose q .setting, setting-put started started-length 4))
+    go false q = q
+
+set-20 : (s : List ℕ) (most : ℕ) → (length s ≡ stateSize → ⊥) → setAnswer s most ≡ 20
+unfolding setAnswer
+set-20 s most = state-20 s _
+
+set-34 : (s : List ℕ) (most : ℕ) → length s ≡ stateSize → good s ≡ false → setAnswer s most ≡ 34
+unfolding setAnswer
+set-34 s most = state-34 s _
+
+pub sets : (setAnswer empty 4 ∷ setAnswer (blank 11776) 0 ∷ setAnswer spoiled 4 ∷ setAnswer loose 0 ∷ setAnswer started 4 ∷ setAnswer started 0
+    ∷ setAnswer started 3 ∷ []) ≡ (20 ∷ 20 ∷ 34 ∷ 34 ∷ 48 ∷ 0 ∷ 0 ∷ [])
+sets = λ i.
+    set-20 empty 4 none i ∷ set-20 (blank 11776) 0 short i ∷ set-34 spoiled 4 spoiled-length spoiled-not i
+    ∷ set-34 loose 0 loose-length loose-not i ∷ set-48 started 4 ok (lit< tt) i ∷ set-0 started 0 ok (lit≤ tt) i
+    ∷ set-0 started 3 ok (lit≤ tt) i ∷ []
+
+abbrev pub set : ℕ → List ℕ
+set most = withSetting most started
+
+pub set-ok : (most : ℕ) → most ≤ 3 → Passed (set most)
+set-ok most h = record {
+  size = set-length started started-length most;
+  all-good = each-good (set most) (good-set started started-length started-good most h);
+}
+
+pub set-setting : (most : ℕ) → setting (set most) ≡ most
+set-setting most = setting-put started started-length most
+
+pub set-absent : (most a : ℕ) → slots ≤ place nobody a → slots ≤ find (set most) a
+set-absent most a h =
+    subst (λ (k : ℕ). slots ≤ k) (find-place started nobody start-shows a ∙ sym (find-kept started started-length most a)) h
 
 -- what is answered to an address by its place
 module _ (s : List ℕ) (f : ℕ → ℕ) (v : Shows s f) (a : ℕ) (t22 : (ltb a 1 || ltb 1022 a) ≡ false) where
@@ -118,9 +190,6 @@ module _ (s : List ℕ) (f : ℕ → ℕ) (v : Shows s f) (w : Wish) (t : wishAn
 -- a wish that is refused
 refused : (w : Wish) (n : ℕ) → wishAnswer w ≡ suc n → followAnswer started w ≡ suc n
 refused w n e = follow-wish started w ok (λ z. omega (arith, z, e)) ∙ e
-
-abbrev pub nobody : ℕ → ℕ
-nobody k = 0
 
 pub followed-17 : followAnswer started (wishOf 17 1 2) ≡ 0
 unfolding first wishAnswer refusal

@@ -1,10 +1,11 @@
 -- The calls that change the state, each as two functions of what was lent: its answer, and the bytes after (document 01,
--- sections 3, 5 and 6). A refused call changes nothing.
+-- sections 3, 5 and 6; document 02, Ask 7). A refused call changes nothing.
 --
 --   startAnswer, startAfter     20
 --   followAnswer, followAfter   20, 34, 22, 23, 24, 25, 26
 --   leaveAnswer, leaveAfter     20, 34, 22, 27
 --   endAnswer, endAfter         20, 34: the end of a subframe
+--   setAnswer, setAfter         20, 34, 48: the setting
 use mathlib.Core.Bool.{not}
 use mathlib.Core.List.{List, [], _∷_}
 use Prim.Native.Nat.{ℕ, zero, suc}
@@ -12,16 +13,17 @@ use lib.Dec.{ltb, eqb}
 use lib.ListN.{length}
 use Rattle.bits.specs.Bits.{blank}
 use Rattle.bits.specs.Rows.{Row, row, refusal, done}
+use Rattle.bare.specs.Bare.{mostFlips}
 use Rattle.slot.specs.Slot.{slotSize, headOf, withHead}
 use Rattle.head.specs.Head.{wishRows, newHead, agedHead, within}
 use Rattle.head.specs.declared.Wish.{Wish}
-use Rattle.table.specs.State.{slots, stateSize, startedState, slotAt, withSlot, find, good}
+use Rattle.table.specs.State.{slots, stateSize, startedState, withSetting, slotAt, withSlot, find, good}
 
--- 20: state not 11,776; 34: state not good; then the call's own rows
+-- 20: state not 11,777; 34: state not good; then the call's own rows
 abbrev pub stateRows : List ℕ → List Row → List Row
 stateRows s rest = row (not (eqb (length s) stateSize)) 20 ∷ row (not (good s)) 34 ∷ rest
 
--- ---- start: "Starting sets every byte to 0."
+-- ---- start: "Starting sets every byte to 0", but for the setting
 
 unfoldable pub startAnswer : List ℕ → ℕ
 startAnswer s = refusal (row (not (eqb (length s) stateSize)) 20 ∷ [])
@@ -66,3 +68,11 @@ ages (suc n) k s = ages n (suc k) (withSlot k (withHead (agedHead (headOf (slotA
 
 unfoldable pub endAfter : List ℕ → List ℕ
 endAfter s = done (endAnswer s) (ages slots 0 s) s
+
+-- ---- the setting: the greatest number of flips to correct in a packet's header
+
+unfoldable pub setAnswer : List ℕ → ℕ → ℕ
+setAnswer s most = refusal (stateRows s (row (ltb mostFlips most) 48 ∷ []))
+
+unfoldable pub setAfter : List ℕ → ℕ → List ℕ
+setAfter s most = done (setAnswer s most) (withSetting most s) s

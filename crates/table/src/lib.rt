@@ -1,11 +1,12 @@
-// The state of 16 slots, and the calls that change it but for the packet call. No call has a `requires`: every slice and
+// The state of 16 slots and a setting, and the calls that change it but for the packet call. No call has a `requires`: every slice and
 // every number is answered.
 //
 // look     what the state is asked before a change: heads, the slot of an address, whether it is good
 ghost use mathlib.Core.Path.{_≡_};
 ghost use lib.ListN.{length};
 ghost use Rattle.table.specs.State.{slots, stateSize};
-ghost use Rattle.table.specs.Calls.{startAnswer, startAfter, followAnswer, followAfter, leaveAnswer, leaveAfter, endAnswer, endAfter, ages};
+ghost use Rattle.table.specs.Calls.{startAnswer, startAfter, followAnswer, followAfter, leaveAnswer, leaveAfter, endAnswer, endAfter, ages, setAnswer, setAfter};
+use bare::Header;
 use head::Head;
 use head::Wish;
 use slot::Slot;
@@ -17,13 +18,13 @@ pub struct Table {}
 impl Table {
     pub const SLOTS: usize = 16;
 
-    // Behind the slots, empty: where later requests keep more.
-    pub const TAIL: usize = 0;
+    // Behind the slots, one byte: the greatest number of flips to correct in a packet's header.
+    pub const SETTING: usize = Self::SLOTS * Slot::SIZE;
 
-    pub const SIZE: usize = Self::SLOTS * Slot::SIZE + Self::TAIL;
+    pub const SIZE: usize = Self::SETTING + 1;
 }
 
-// 20. Every byte becomes 0.
+// 20. Every byte becomes 0, but for the setting, which becomes 3.
 pub fn start(state: &mut [u8]) -> u8
     ensures { λ r. ⌜ r ≡ startAnswer (now (state .entry)) ⌝ }
     ensures { λ _. ⌜ now (state .exit) ≡ startAfter (now (state .entry)) ⌝ }
@@ -32,6 +33,7 @@ pub fn start(state: &mut [u8]) -> u8
         return 20;
     }
     runs::clear(state);
+    state[Table::SETTING] = Header::CORRECTED as u8;
     0
 }
 
@@ -90,4 +92,20 @@ fn age(state: &mut [u8])
         Slot::store(aged, &mut state[at..at + Slot::SIZE]);
         k += 1;
     }
+}
+
+// 20, 34, 48. From now on the header of a packet may have so many flips.
+pub fn set_header_flips(state: &mut [u8], most: u32) -> u8
+    ensures { λ r. ⌜ r ≡ setAnswer (now (state .entry)) most ⌝ }
+    ensures { λ _. ⌜ now (state .exit) ≡ setAfter (now (state .entry)) most ⌝ }
+{
+    let answer = look::checked(state);
+    if answer != 0 {
+        return answer;
+    }
+    if Header::CORRECTED < most {
+        return 48;
+    }
+    state[Table::SETTING] = most as u8;
+    0
 }

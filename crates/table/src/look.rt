@@ -6,8 +6,9 @@ ghost use lib.Dec.{eqb};
 ghost use lib.ListN.{length, getD};
 ghost use Rattle.bits.specs.Search.{all};
 ghost use Rattle.slot.specs.Slot.{headOf};
-ghost use Rattle.table.specs.State.{slots, stateSize, slotAt, find, good};
+ghost use Rattle.table.specs.State.{slots, stateSize, setting, slotAt, find, good};
 ghost use Rattle.table.specs.Calls.{endAnswer, followAnswer, leaveAnswer};
+use bare::Header;
 use crate::Table;
 use head::Head;
 use head::Wish;
@@ -21,6 +22,14 @@ pub fn head(state: &[u8], k: usize) -> Head
 {
     let at = k * Slot::SIZE;
     Slot::load(&state[at..at + Slot::SIZE])
+}
+
+// The greatest number of flips to correct in a packet's header.
+pub fn setting(state: &[u8]) -> u8
+    requires { ⌜ length (now state) ≡ stateSize ⌝ }
+    ensures { λ r. ⌜ r ≡ setting (now (state .entry)) ⌝ }
+{
+    state[Table::SETTING]
 }
 
 // The lowest slot with an address, 16 where there is none. From the last to the first, so that no test ends it early.
@@ -72,7 +81,7 @@ fn apart(addresses: &[u16]) -> bool
     so
 }
 
-// Each slot is good, and no two used ones share an address. The addresses are gathered first: in the state they stand 736
+// Each slot is good, no two used ones share an address, and the setting is 0 to 3. The addresses are gathered first: in the state they stand 736
 // bytes apart. Two bytes of each are enough, since a good slot's address has no more, and eight are then compared at once.
 pub fn is_good(state: &[u8]) -> bool
     requires { ⌜ length (now state) ≡ stateSize ⌝ }
@@ -88,7 +97,7 @@ pub fn is_good(state: &[u8]) -> bool
         addresses[k] = (own.wish.address % 65536) as u16;
         k += 1;
     }
-    so & apart(&addresses)
+    so & apart(&addresses) & (setting(state) as u32 <= Header::CORRECTED)
 }
 
 // 20, 34.

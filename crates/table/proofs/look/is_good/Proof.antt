@@ -1,11 +1,12 @@
 -- `table::look::is_good` meets its contract: the loop folds the slots together and gathers their addresses, which are then held
--- against each other.
+-- against each other; then the setting.
 -- Assumes nothing.
 use mathlib.Core.Path.{_≡_, refl, sym, ap, ap₂, _∙_, subst}
 use mathlib.Core.Bool.{Bool, _&&_}
 use Prim.Native.Nat.{ℕ, _+_, _-_, _%_, _≤_}
 use native.Mathlib.Omega.{arith}
 use borrow.Author.Needs.{needs}
+use lib.Dec.{leb}
 use lib.ListN.{length, length-set}
 use Rattle.bits.specs.Search.{all}
 use Rattle.head.specs.declared.Head.{Head}
@@ -85,13 +86,21 @@ slice-aggregate-apart c = sym (c .before .before .loop .inv .2)
 apart-requires : tie.Need-apart-requires Inv-loop μ-loop
 apart-requires c κs = c .before .before .loop .inv .2
 
+setting-requires : tie.Need-setting-requires Inv-loop μ-loop
+setting-requires c κs = search needs
+
+cast-result : tie.Need-cast-result Inv-loop μ-loop
+cast-result c = search needs
+
 returns : tie.Need-returns Inv-loop μ-loop
 returns c =
-    let s = c .before .before .before .before .before .args .state .now in
-    let l = c .before .before .before .loop in
+    let all-read = c .before in
+    let s = all-read .before .before .before .before .before .args .state .now in
+    let l = all-read .before .before .before .loop in
     let end : l .k ≡ 16 = omega arith in
-    ap₂ _&&_ (all-end (goodSlotAt s) (l .so) (all (goodSlotAt s) 16 0) (16 - l .k) (l .k) (omega arith) (l .inv .1)) (c .apart .ensures)
-    ∙ good-apart s (l .addresses) (subst (λ (n : ℕ). Gathered s n (l .addresses)) end (l .inv .3))
+    ap (λ (b : Bool). b && leb (c .setting .result) 3)
+    (ap₂ _&&_ (all-end (goodSlotAt s) (l .so) (all (goodSlotAt s) 16 0) (16 - l .k) (l .k) (omega arith) (l .inv .1)) (all-read .apart .ensures))
+    ∙ good-apart s (l .addresses) (subst (λ (n : ℕ). Gathered s n (l .addresses)) end (l .inv .3)) (c .setting .result) (c .setting .ensures)
 
 pub is-good-spec : {M : Type 1} → statement M
 is-good-spec =
@@ -115,4 +124,6 @@ is-good-spec =
     loop-again
     slice-aggregate-apart
     apart-requires
+    setting-requires
+    cast-result
     returns)
