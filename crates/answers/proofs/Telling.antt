@@ -13,7 +13,7 @@ use mathlib.Core.List.{List, [], _∷_, _++_, append-nil, append-assoc}
 use Prim.Native.Nat.{ℕ, _+_}
 use lib.ListN.{length, drop}
 use Rattle.bits.specs.Bits.{blank}
-use Rattle.table.specs.State.{stateSize}
+use Rattle.table.specs.State.{startedState}
 use Rattle.records.specs.declared.Step.{Step}
 use Rattle.records.specs.declared.Step.the-variants.{Record, End, More, Bad}
 use Rattle.serving.specs.Served.{pass, onBad, cut, chunksFrom, chunkAnswers, fileAnswers, joined}
@@ -112,7 +112,7 @@ said-from (c ∷ cs) t kept k =
 
 pub said-whole : (cs : List (List ℕ)) → heading ++ (said cs ++ atEnd (after cs)) ≡ text (fileAnswers (joined cs))
 unfolding said after begun text chunkAnswers
-said-whole cs = ap (λ (x : List ℕ). heading ++ x) (said-from cs (blank stateSize) [] 1 ∙ ap (lines 1) (chunks-file cs))
+said-whole cs = ap (λ (x : List ℕ). heading ++ x) (said-from cs startedState [] 1 ∙ ap (lines 1) (chunks-file cs))
 
 -- ---- the reads so far
 

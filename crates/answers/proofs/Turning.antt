@@ -17,7 +17,7 @@ use lib.ListN.{length, take, drop, length-take, length-drop}
 use lib.Seq.{length-take-le, take-at, take-add}
 use Rattle.bits.specs.Bits.{blank}
 use Rattle.bits.proofs.Rows.{done-passed}
-use Rattle.table.specs.State.{stateSize}
+use Rattle.table.specs.State.{stateSize, startedState}
 use Rattle.table.specs.Calls.{startAnswer, startAfter}
 use Rattle.table.proofs.Doing.{start-passed}
 use Rattle.serving.specs.Served.{pass, cut}
@@ -97,7 +97,7 @@ held-read t buffer read kept k number going h =
 pub reached-first : (t u buffer : List ℕ) → length t ≡ stateSize → u ≡ startAfter t → Reached (held u buffer 0 1 true)
 unfolding held after afterFrom begun startAfter
 reached-first t u buffer l e =
-    let start : u ≡ blank stateSize = e ∙ done-passed (startAnswer t) (blank stateSize) t (sym (start-passed t l)) in
+    let start : u ≡ startedState = e ∙ done-passed (startAnswer t) startedState t (sym (start-passed t l)) in
     record { chunks = []; so = λ i. record { state = start i; kept = []; number = 1; going = true } }
 
 reached-chunk : (p : Progress) (c : List ℕ) → Reached p → Reached (onward p c)

@@ -18,7 +18,7 @@ use mathlib.Core.List.{List, [], _∷_, _++_}
 use Prim.Native.Nat.{ℕ, _+_}
 use lib.ListN.{length, take, drop}
 use Rattle.bits.specs.Bits.{blank}
-use Rattle.table.specs.State.{stateSize}
+use Rattle.table.specs.State.{startedState}
 use Rattle.records.specs.declared.Step.{Step}
 use Rattle.records.specs.declared.Step.the-variants.{Record, End, More, Bad}
 use Rattle.serving.specs.Served.{pass, onBad, cut}
@@ -31,7 +31,7 @@ pub record Progress : Type 0 where
   pub going : Bool
 
 unfoldable pub begun : Progress
-begun = record { state = blank stateSize; kept = []; number = 1; going = true }
+begun = record { state = startedState; kept = []; number = 1; going = true }
 
 -- ---- one read
 

@@ -3,6 +3,7 @@
 //
 //     start = NUMBER STATE                   follow ADDRESS PROTECTION LIMIT = NUMBER STATE
 //     leave ADDRESS = NUMBER STATE           end = NUMBER STATE
+//     set-header-flips MOST = NUMBER STATE
 //     packet IMAGE LENGTH = NUMBER STATE     an image, 0 to 3, of which so many bytes are lent
 //     ask ADDRESS = NUMBER PLACE LENGTH SHOWN
 //     board ADDRESS LENGTH = NUMBER LENGTH SHOWN           so many bytes of the message are the notice
@@ -18,7 +19,7 @@ use rows::bytes::front;
 use rows::tell;
 
 pub fn called(row: Row, state: &mut [u8], images: &mut [u8], message: &mut [u8]) -> Answer {
-    let names = b"start follow leave end packet ask board write ";
+    let names = b"start follow leave end packet ask board write set-header-flips ";
     let v = row.values;
     match tell::place(names, row.name) {
         0 => behind(0, table::start(state), state),
@@ -29,6 +30,7 @@ pub fn called(row: Row, state: &mut [u8], images: &mut [u8], message: &mut [u8])
         5 => ask(v, state),
         6 => board(v, state, message),
         7 => write(v, images, message),
+        8 => behind(1, table::set_header_flips(state, (v[0] % Row::WIDE) as u32), state),
         _ => images::called(row, images, message),
     }
 }

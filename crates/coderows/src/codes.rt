@@ -1,12 +1,16 @@
 // The bare calls, one by one, and the digest of many.
 //
 //     read-header N = NUMBER ADDRESS INDEX FLIPS     write-header ADDRESS INDEX = NUMBER HEADER
+//     read-header-within N MOST = NUMBER ADDRESS INDEX FLIPS
 //     read-word N = NUMBER INFORMATION FLIPS         write-word N = NUMBER WORD
 //     read-type N = NUMBER VALUE FLIPS               write-type N = NUMBER VALUE
-//     many CALL FIRST STEP TIMES = DIGEST            of what a call, 0 to 5 in this order, answers of FIRST, FIRST + STEP, ..
+//     many CALL FIRST STEP TIMES = DIGEST            of what a call answers of FIRST, FIRST + STEP, ..
 //
-// Of many, a header to be written is one number: its address, and 1,024 for each index. Their digest goes over the numbers of each
+// The calls are read-header 0, write-header 1, read-word 2, write-word 3, read-type 4, write-type 5, read-header-within 6. Of many, a header
+// to be written is one number: its address, and 1,024 for each index; and one to be read within a setting: the header, and 2^23 for each
+// flip of the setting. Their digest goes over the numbers of each
 // answer, four of them and four bytes a number, lowest first.
+use bare::Header;
 use bare::Written;
 use rows::Answer;
 use rows::Row;
@@ -15,31 +19,31 @@ use rows::bytes::with;
 use rows::tell;
 
 pub fn called(row: Row) -> Answer {
-    let names = b"read-header write-header read-word write-word read-type write-type many ";
+    let names = b"read-header write-header read-word write-word read-type write-type read-header-within many ";
     let v = row.values;
     let call = tell::place(names, row.name);
-    if call == 6 {
+    if call == 7 {
         return Answer::one(4, many(v));
     }
     one(call, (v[0] % Row::WIDE) as u32, (v[1] % Row::WIDE) as u32)
 }
 
-fn one(call: u8, n: u32, index: u32) -> Answer {
+fn one(call: u8, n: u32, second: u32) -> Answer {
     match call {
-        0 => header(n),
-        1 => written(2, bare::write_header(n, index)),
+        0 => header(1, bare::read_header(n)),
+        1 => written(2, bare::write_header(n, second)),
         2 => word(n),
         3 => written(1, bare::write_word(n)),
         4 => kind((n % 256) as u8),
         5 => written(1, bare::write_type((n % 256) as u8)),
+        6 => header(2, bare::read_header_within(n, second)),
         _ => Answer::unknown(),
     }
 }
 
-fn header(n: u32) -> Answer {
-    let read = bare::read_header(n);
+fn header(args: usize, read: Header) -> Answer {
     Answer {
-        args: 1,
+        args,
         len: 4,
         values: [
             read.number as u64,
@@ -92,10 +96,10 @@ fn many(v: [u64; 24]) -> u64 {
 }
 
 fn one_of(call: u8, n: u32) -> Answer {
-    if call == 1 {
-        one(call, n % 1024, n / 1024)
-    } else {
-        one(call, n, 0)
+    match call {
+        1 => one(call, n % Header::ADDRESSES, n / Header::ADDRESSES),
+        6 => one(call, n % Header::NUMBERS, n / Header::NUMBERS),
+        _ => one(call, n, 0),
     }
 }
 

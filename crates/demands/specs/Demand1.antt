@@ -4,28 +4,29 @@
 --
 -- The calls are functions of every list of bytes and every number: that they take all and end is in their type.
 --
---   unchanging       the refusals that change nothing: 20 to 27, 33 and 34
+--   unchanging       the refusals that change nothing: 20 to 27, 33 and 34; 48 and 49
 --   dropping         those that drop an unfinished group: 28 to 32
---   Dropped k s t    slot k's unfinished room is 0, its gap marked, its awaited index 0; all else of the state s is in t as it was
+--   Dropped k s t    slot k's unfinished room is 0, its gap marked, its awaited index 0; all else of the state s is in t as it was, the
+--                    setting too
 --   AllZero ns       each is 0
 --   DroppedBy x s t  so by a packet at an address that is followed, and by no other call; all that only read are one case
 --   Demand1 m
 use mathlib.Core.Path.{_≡_}
 use mathlib.Core.Bool.{true}
-use mathlib.Core.List.{List, [], _∷_}
+use mathlib.Core.List.{List, [], _∷_, _++_}
 use Prim.Native.Nat.{ℕ, _<_}
 use lib.ListN.{length}
 use Rattle.bits.specs.Bits.{blank}
 use Rattle.slot.specs.Slot.{roomSize, headOf, unfinished, stored}
 use Rattle.head.specs.Head.{droppedHead}
-use Rattle.table.specs.State.{stateSize, slots, slotAt, find}
+use Rattle.table.specs.State.{slots, setting, slotAt, find}
 use Rattle.history.specs.Sent.{In}
 use Rattle.adapter.specs.Calls.{addressOf, followed}
-use Rattle.demands.specs.Machine.{Question, ask, Call, start, follow, leave, packet, subframeEnd, asks, Bare, Machine}
+use Rattle.demands.specs.Machine.{Question, ask, Call, start, follow, leave, packet, subframeEnd, setFlips, asks, Bare, Machine}
 use Rattle.demands.specs.Rows.{rowsOf, ownNumbers, writeRows, bareRows, Answers}
 
 abbrev pub unchanging : List ℕ
-unchanging = 20 ∷ 21 ∷ 22 ∷ 23 ∷ 24 ∷ 25 ∷ 26 ∷ 27 ∷ 33 ∷ 34 ∷ []
+unchanging = 20 ∷ 21 ∷ 22 ∷ 23 ∷ 24 ∷ 25 ∷ 26 ∷ 27 ∷ 33 ∷ 34 ∷ 48 ∷ 49 ∷ []
 
 abbrev pub dropping : List ℕ
 dropping = 28 ∷ 29 ∷ 30 ∷ 31 ∷ 32 ∷ []
@@ -36,6 +37,7 @@ pub record Dropped (k : ℕ) (s t : List ℕ) : Type 0 where
   pub room : unfinished (slotAt k t) ≡ blank roomSize
   pub group : stored (slotAt k t) ≡ stored (slotAt k s)
   pub head : headOf (slotAt k t) ≡ droppedHead (headOf (slotAt k s))
+  pub tail : setting t ≡ setting s
 
 unfoldable pub AllZero : List ℕ → Type 0
 AllZero [] = Unit {0}
@@ -48,6 +50,7 @@ DroppedBy start s t = ⊥
 DroppedBy (follow w) s t = ⊥
 DroppedBy (leave a) s t = ⊥
 DroppedBy subframeEnd s t = ⊥
+DroppedBy (setFlips most) s t = ⊥
 DroppedBy (asks q) s t = ⊥
 
 pub record Demand1 (m : Machine) : Type 0 where
@@ -62,8 +65,8 @@ pub record Demand1 (m : Machine) : Type 0 where
   pub unwritten : (a p : ℕ) (message output : List ℕ) → (m .writes a p message output ≡ 0 → ⊥) → m .written a p message output ≡ output
   -- "A refused bare reading or writing gives 0 as its value."
   pub valueless : (x : Bare) → (m .bare x ≡ 0 → ⊥) → AllZero (m .values x)
-  -- "Starting sets every byte to 0."
-  pub started : (s : List ℕ) → length s ≡ stateSize → m .after start s ≡ blank stateSize
+  -- "Starting sets every byte to 0", but for the setting: "start puts 3"
+  pub started : (s : List ℕ) → length s ≡ 11777 → m .after start s ≡ blank 11776 ++ (3 ∷ [])
   -- "Answers 5 to 7 come with the part of the state that holds the group, [..] 4 and refusals come with an empty part."
   pub empty : (a : ℕ) (s : List ℕ) → (In (m .answer (asks (ask a)) s) (5 ∷ 6 ∷ 7 ∷ []) → ⊥) → m .shown a s ≡ []
   -- a call that only reads, and board text, change no byte that was lent

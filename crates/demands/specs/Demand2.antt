@@ -1,11 +1,11 @@
 -- Demand 2: "Headers, type bytes, Golay words and linked groups are those of ETS 300 352, reading and writing. A group that we write and
 -- then read in order, at its address followed with the same protection, is the group that went in." With damage too: no more than
--- the codes correct, three flips in each header, two in each type byte, three in each protected word.
+-- is corrected, in each header the setting of the state that it is read on, two in each type byte, three in each protected word.
 --
 --   Follows s a p              the state is good, and an address is followed with this protection
 --   Writable a p m o           address, protection and both lengths are such that a group is written
 --   imageAt o i                image i of what was written
---   Sound p o i t              t came of image i with no more damage than that, its spare bit 0
+--   Sound p most o i t         t came of image i with no more damage than that, its spare bit 0
 --   Demand2 m
 use mathlib.Core.Path.{_≡_}
 use mathlib.Core.Bool.{Bool, true}
@@ -17,7 +17,7 @@ use Rattle.image.specs.Image.{spareOf}
 use Rattle.packet.specs.Damage.{Corrected}
 use Rattle.runs.specs.Part.{part}
 use Rattle.slot.specs.Slot.{headOf}
-use Rattle.table.specs.State.{stateSize, slots, slotAt, find, good}
+use Rattle.table.specs.State.{stateSize, setting, slots, slotAt, find, good}
 use Rattle.adapter.specs.Calls.{groupSize, imagesSize, groupImages, followed}
 use Rattle.demands.specs.Machine.{ask, Call, packet, asks, Machine, Bytes, run, Bare, bareNumber, bareValues}
 
@@ -37,8 +37,8 @@ pub record Writable (a p : ℕ) (m o : List ℕ) : Type 0 where
 abbrev pub imageAt : List ℕ → ℕ → List ℕ
 imageAt o i = part (i * 94) 94 o
 
-pub record Sound (p : Bool) (o : List ℕ) (i : ℕ) (t : List ℕ) : Type 0 where
-  pub corrected : Corrected p (imageAt o i) t
+pub record Sound (p : Bool) (most : ℕ) (o : List ℕ) (i : ℕ) (t : List ℕ) : Type 0 where
+  pub corrected : Corrected p most (imageAt o i) t
   pub spare : spareOf t ≡ 0
 
 -- the answers to four images in turn
@@ -65,9 +65,9 @@ pub record Demand2 (m : Machine) : Type 0 where
   pub size : (a p : ℕ) (message output : List ℕ) → Writable a p message output → length (m .written a p message output) ≡ 376
   -- each image is itself sound: no flip, and its spare bit is 0
   pub sound : (a p : ℕ) (message output : List ℕ) → Writable a p message output → Bytes message → (i : ℕ) → i < 4
-      → Sound (eqb p 1) (m .written a p message output) i (imageAt (m .written a p message output) i)
+      → Sound (eqb p 1) 0 (m .written a p message output) i (imageAt (m .written a p message output) i)
   pub back : (s : List ℕ) (a p : ℕ) (message output t0 t1 t2 t3 : List ℕ) → Follows s a p → length message ≡ groupSize (eqb p 1)
       → Bytes message → length output ≡ imagesSize
-      → Sound (eqb p 1) (m .written a p message output) 0 t0 → Sound (eqb p 1) (m .written a p message output) 1 t1
-      → Sound (eqb p 1) (m .written a p message output) 2 t2 → Sound (eqb p 1) (m .written a p message output) 3 t3
+      → Sound (eqb p 1) (setting s) (m .written a p message output) 0 t0 → Sound (eqb p 1) (setting s) (m .written a p message output) 1 t1
+      → Sound (eqb p 1) (setting s) (m .written a p message output) 2 t2 → Sound (eqb p 1) (setting s) (m .written a p message output) 3 t3
       → ReadBack m s a message (t0 ∷ t1 ∷ t2 ∷ t3 ∷ [])

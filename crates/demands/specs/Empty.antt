@@ -10,9 +10,9 @@ use mathlib.Core.List.{List}
 use Prim.Native.Nat.{ℕ, zero, suc}
 use Rattle.bare.specs.Bare.{headerRead}
 use Rattle.image.specs.Image.{headerOf}
-use Rattle.table.specs.Calls.{startAfter, followAfter, leaveAfter, endAfter}
+use Rattle.table.specs.Calls.{startAfter, followAfter, leaveAfter, endAfter, setAfter}
 use Rattle.adapter.specs.Calls.{packetAnswer, packetAfter}
-use Rattle.demands.specs.Machine.{Call, start, follow, leave, packet, subframeEnd, asks, Machine, ours, ourAnswer}
+use Rattle.demands.specs.Machine.{Call, start, follow, leave, packet, subframeEnd, setFlips, asks, Machine, ours, ourAnswer}
 
 -- ours, but for what is answered and left
 abbrev pub but : (Call → List ℕ → ℕ) → (Call → List ℕ → List ℕ) → Machine
@@ -48,6 +48,7 @@ answerTo f (follow w) s = ourAnswer (follow w) s
 answerTo f (leave a) s = ourAnswer (leave a) s
 answerTo f (packet image) s = f s image
 answerTo f subframeEnd s = ourAnswer subframeEnd s
+answerTo f (setFlips most) s = ourAnswer (setFlips most) s
 answerTo f (asks q) s = ourAnswer (asks q) s
 
 unfoldable pub leaving : (List ℕ → List ℕ → List ℕ) → (List ℕ → List ℕ) → Call → List ℕ → List ℕ
@@ -56,6 +57,7 @@ leaving f g (follow w) s = followAfter s w
 leaving f g (leave a) s = leaveAfter s a
 leaving f g (packet image) s = f s image
 leaving f g subframeEnd s = g s
+leaving f g (setFlips most) s = setAfter s most
 leaving f g (asks q) s = s
 
 abbrev pub deaf : ℕ → Machine

@@ -15,40 +15,43 @@
 --   babbling       ask refused shows a byte; boasting: board text's number is always 5
 --   mute           every bare call gives 33 and 0
 --   sparing        the writer sets the spare bit of the first image
+--   unheeding      packets are read at 3, whatever the setting; severe: one refused with 49 drops the group of its address
+--   forgetful      leave puts 3; harsh: start puts 0; stubborn: the setting's call answers 0 and puts nothing
 use mathlib.Core.Bool.{Bool, cond, not, _&&_, _||_}
 use mathlib.Core.List.{List, [], _∷_}
 use Prim.Native.Nat.{ℕ, zero, suc, _+_, _-_}
 use lib.Dec.{ltb, eqb}
-use lib.ListN.{length, getD, set}
+use lib.ListN.{length, getD, set, take}
 use Rattle.bits.specs.Bits.{blank}
 use Rattle.bits.specs.Rows.{done}
 use Rattle.slot.specs.Slot.{roomSize, headOf, withHead, withUnfinished, withStored, free}
-use Rattle.head.specs.Head.{wishOf}
+use Rattle.head.specs.Head.{wishOf, droppedHead}
 use Rattle.head.specs.declared.Head.{Head}
 use Rattle.head.specs.declared.Wish.{Wish}
-use Rattle.table.specs.State.{stateSize, slots, slotAt, withSlot, find}
-use Rattle.table.specs.Calls.{startAnswer, startAfter, followAnswer, followAfter, leaveAnswer, leaveAfter, endAnswer, endAfter}
+use Rattle.table.specs.State.{tailAt, stateSize, setting, withSetting, slots, slotAt, withSlot, find}
+use Rattle.table.specs.Calls.{startAnswer, startAfter, followAnswer, followAfter, leaveAnswer, leaveAfter, endAnswer, endAfter, setAnswer, setAfter}
 use Rattle.asking.specs.Asking.{asked, askPart}
 use Rattle.faults.specs.Faults.{numberDrops}
 use Rattle.adapter.specs.Calls.{addressOf, packetAnswer, packetAfter, writeAfter}
-use Rattle.demands.specs.Machine.{Question, ask, Call, start, follow, leave, packet, subframeEnd, asks, Board, Machine, ours, questionAnswer, ourAnswer, ourAfter, ourBoard, Bare, run}
+use Rattle.demands.specs.Machine.{Question, ask, Call, start, follow, leave, packet, subframeEnd, setFlips, asks, Board, Machine, ours, questionAnswer, ourAnswer, ourAfter, ourBoard, Bare, run}
 use Rattle.demands.specs.Rows.{indexOf}
 use Rattle.demands.specs.Empty.{but}
 
 -- ---- one thing by each call, and ours but for one part
 
 unfoldable pub byCall : {A : Type 0} → (List ℕ → A) → (Wish → List ℕ → A) → (ℕ → List ℕ → A) → (List ℕ → List ℕ → A) → (List ℕ → A)
-    → (Question → List ℕ → A) → Call → List ℕ → A
-byCall st fo le pa en qu start s = st s
-byCall st fo le pa en qu (follow w) s = fo w s
-byCall st fo le pa en qu (leave a) s = le a s
-byCall st fo le pa en qu (packet image) s = pa image s
-byCall st fo le pa en qu subframeEnd s = en s
-byCall st fo le pa en qu (asks q) s = qu q s
+    → (ℕ → List ℕ → A) → (Question → List ℕ → A) → Call → List ℕ → A
+byCall st fo le pa en se qu start s = st s
+byCall st fo le pa en se qu (follow w) s = fo w s
+byCall st fo le pa en se qu (leave a) s = le a s
+byCall st fo le pa en se qu (packet image) s = pa image s
+byCall st fo le pa en se qu subframeEnd s = en s
+byCall st fo le pa en se qu (setFlips most) s = se most s
+byCall st fo le pa en se qu (asks q) s = qu q s
 
 -- another answer to follow, packet, subframe end and what only reads
 abbrev answering : (Wish → List ℕ → ℕ) → (List ℕ → List ℕ → ℕ) → (List ℕ → ℕ) → (Question → List ℕ → ℕ) → Call → List ℕ → ℕ
-answering fo pa en qu = byCall startAnswer fo (λ a s. leaveAnswer s a) pa en qu
+answering fo pa en qu = byCall startAnswer fo (λ a s. leaveAnswer s a) pa en (λ most s. setAnswer s most) qu
 
 abbrev follows : Wish → List ℕ → ℕ
 follows w s = followAnswer s w
@@ -63,7 +66,7 @@ asking f (ask a) s = f a s
 -- another state after start, follow, leave, packet and subframe end
 abbrev leaving : (List ℕ → List ℕ) → (Wish → List ℕ → List ℕ) → (ℕ → List ℕ → List ℕ) → (List ℕ → List ℕ → List ℕ) → (List ℕ → List ℕ)
     → Call → List ℕ → List ℕ
-leaving st fo le pa en = byCall st fo le pa en (λ q s. s)
+leaving st fo le pa en = byCall st fo le pa en (λ most s. setAfter s most) (λ q s. s)
 
 abbrev followed : Wish → List ℕ → List ℕ
 followed w s = followAfter s w
@@ -174,7 +177,7 @@ abbrev pub leaking : Machine
 leaking = but ourAnswer (leaving startAfter followed (λ a s. done (leaveAnswer s a) (followAfter (leaveAfter s a) (wishOf 500 0 1)) s) arrived endAfter)
 
 abbrev pub brittle : Machine
-brittle = but ourAnswer (leaving startAfter followed left arrived (λ s. cond (free s) (1 ∷ blank (stateSize - 1)) (endAfter s)))
+brittle = but ourAnswer (leaving startAfter followed left arrived (λ s. cond (free (take tailAt s)) (1 ∷ blank (stateSize - 1)) (endAfter s)))
 
 -- ---- right only from a follow on
 
@@ -190,6 +193,31 @@ hasty =
     but
     (answering follows (λ image s. cond (dirty (slotOf s (addressOf image)) && eqb (indexOf image) 1) 3 (packetAnswer s image)) endAnswer questionAnswer)
     ourAfter
+
+-- ---- the setting
+
+abbrev pub unheeding : Machine
+unheeding =
+    but (answering follows (λ image s. packetAnswer (withSetting 3 s) image) endAnswer questionAnswer)
+    (leaving startAfter followed left (λ image s. withSetting (setting s) (packetAfter (withSetting 3 s) image)) endAfter)
+
+abbrev pub severe : Machine
+severe =
+    but ourAnswer
+    (leaving startAfter followed left
+    (λ image s. let k = find s (addressOf image) in
+    let x = slotAt k s in
+    cond (eqb (packetAnswer s image) 49) (withSlot k (withHead (droppedHead (headOf x)) (withUnfinished (blank roomSize) x)) s) (packetAfter s image))
+    endAfter)
+
+abbrev pub forgetful : Machine
+forgetful = but ourAnswer (leaving startAfter followed (λ a s. done (leaveAnswer s a) (withSetting 3 (leaveAfter s a)) s) arrived endAfter)
+
+abbrev pub harsh : Machine
+harsh = but ourAnswer (leaving (λ s. done (startAnswer s) (withSetting 0 (startAfter s)) s) followed left arrived endAfter)
+
+abbrev pub stubborn : Machine
+stubborn = but ourAnswer (byCall startAfter followed left arrived endAfter (λ most s. s) (λ q s. s))
 
 -- ---- the bare calls, and the writer
 

@@ -8,4 +8,6 @@ pub mod Harmful
 pub mod Machine
 pub mod Rows
 pub mod Seen
+pub mod Setting
 pub mod Table
+pub mod Three

@@ -16,9 +16,9 @@
 use mathlib.Core.List.{List, [], _∷_}
 use Prim.Native.Nat.{ℕ, _<_}
 use lib.ListN.{length, getD}
-use Rattle.bare.specs.Bare.{headerRead, headerWritten, wordRead, wordWritten, typeRead, typeWritten}
+use Rattle.bare.specs.Bare.{headerRead, headerWithin, headerWritten, wordRead, wordWritten, typeRead, typeWritten}
 use Rattle.head.specs.declared.Wish.{Wish}
-use Rattle.table.specs.Calls.{startAnswer, startAfter, followAnswer, followAfter, leaveAnswer, leaveAfter, endAnswer, endAfter}
+use Rattle.table.specs.Calls.{startAnswer, startAfter, followAnswer, followAfter, leaveAnswer, leaveAfter, endAnswer, endAfter, setAnswer, setAfter}
 use Rattle.asking.specs.Asking.{asked, askPart, boardText}
 use Rattle.adapter.specs.Calls.{packetAnswer, packetAfter, writeAnswer, writeAfter}
 
@@ -36,12 +36,16 @@ pub data Call : Type 0 where
   -- an image
   packet : List ℕ → Call
   subframeEnd : Call
+  -- the setting: the greatest number of flips to correct in a packet's header
+  setFlips : ℕ → Call
   -- any call that only reads
   asks : Question → Call
 
 -- the single readers and writers of sections 1 and 2
 pub data Bare : Type 0 where
   readHeader : ℕ → Bare
+  -- a header, and the setting
+  readWithin : ℕ → ℕ → Bare
   -- address, index
   writeHeader : ℕ → ℕ → Bare
   readWord : ℕ → Bare
@@ -78,6 +82,7 @@ ourAnswer (follow w) s = followAnswer s w
 ourAnswer (leave a) s = leaveAnswer s a
 ourAnswer (packet image) s = packetAnswer s image
 ourAnswer subframeEnd s = endAnswer s
+ourAnswer (setFlips most) s = setAnswer s most
 ourAnswer (asks q) s = questionAnswer q s
 
 unfoldable pub ourAfter : Call → List ℕ → List ℕ
@@ -86,20 +91,23 @@ ourAfter (follow w) s = followAfter s w
 ourAfter (leave a) s = leaveAfter s a
 ourAfter (packet image) s = packetAfter s image
 ourAfter subframeEnd s = endAfter s
+ourAfter (setFlips most) s = setAfter s most
 ourAfter (asks q) s = s
 
 -- the bare calls by the standard's definitions: the number, and beside it
 unfoldable pub bareNumber : Bare → ℕ
 bareNumber (readHeader n) = headerRead n .number
+bareNumber (readWithin n most) = headerWithin n most .number
 bareNumber (writeHeader a i) = headerWritten a i .number
 bareNumber (readWord n) = wordRead n .number
 bareNumber (writeWord i) = wordWritten i .number
 bareNumber (readType b) = typeRead b .number
 bareNumber (writeType b) = typeWritten b .number
 
--- address, index and flips; the header; information and flips; the word; type and flips; the type
+-- address, index and flips, the same; the header; information and flips; the word; type and flips; the type
 unfoldable pub bareValues : Bare → List ℕ
 bareValues (readHeader n) = headerRead n .address ∷ headerRead n .index ∷ headerRead n .flips ∷ []
+bareValues (readWithin n most) = headerWithin n most .address ∷ headerWithin n most .index ∷ headerWithin n most .flips ∷ []
 bareValues (writeHeader a i) = headerWritten a i .value ∷ []
 bareValues (readWord n) = wordRead n .information ∷ wordRead n .flips ∷ []
 bareValues (writeWord i) = wordWritten i .value ∷ []

@@ -1,4 +1,4 @@
--- Document 01, section 6: the rows of each call in its order, with their numbers written out. "A call is refused exactly when a
+-- Document 01, section 6, with document 02's Ask 7: the rows of each call in its order, with their numbers written out. "A call is refused exactly when a
 -- row in its order holds, and with the first such; otherwise it is accepted": then its answer is one of the call's own numbers.
 --
 -- The numbers and the order stand here once more, beside those that the contracts cite, so that no row can change with the code unseen.
@@ -18,7 +18,8 @@ use Prim.Native.Nat.{ℕ, _^_}
 use lib.Dec.{leb, ltb, eqb}
 use lib.ListN.{length}
 use Rattle.bits.specs.Rows.{Row, row, refusal}
-use Rattle.golay.specs.Code.{word24, nearest}
+use Rattle.bits.specs.Bits.{flips}
+use Rattle.golay.specs.Code.{word23, word24, nearest}
 use Rattle.bare.specs.Bare.{headerRead, types, typeNear, among}
 use Rattle.image.specs.Image.{headerOf, spareOf}
 use Rattle.packet.specs.Received.{typeOf, usefulOf, unreadable}
@@ -26,19 +27,19 @@ use Rattle.slot.specs.Slot.{headOf}
 use Rattle.head.specs.Head.{within}
 use Rattle.head.specs.declared.Head.{Head}
 use Rattle.head.specs.declared.Wish.{Wish}
-use Rattle.table.specs.State.{slotAt, find, good}
+use Rattle.table.specs.State.{setting, slotAt, find, good}
 use Rattle.history.specs.Sent.{In}
-use Rattle.adapter.specs.Calls.{addressOf, followed}
-use Rattle.demands.specs.Machine.{Question, ask, Call, start, follow, leave, packet, subframeEnd, asks, Bare, readHeader, writeHeader, readWord, writeWord, readType, writeType}
+use Rattle.adapter.specs.Calls.{addressOf, flipsOf, followed}
+use Rattle.demands.specs.Machine.{Question, ask, Call, start, follow, leave, packet, subframeEnd, setFlips, asks, Bare, readHeader, readWithin, writeHeader, readWord, writeWord, readType, writeType}
 
 -- ---- the calls on a state
 
 abbrev pub holds : List ℕ → ℕ → Bool
 holds s a = ltb (find s a) 16
 
--- 20 "state not 11,776", 34 "state not good"
+-- 20 "state not 11,777", 34 "state not good"
 abbrev pub stateRows : List ℕ → List Row → List Row
-stateRows s rest = row (not (eqb (length s) 11776)) 20 ∷ row (not (good s)) 34 ∷ rest
+stateRows s rest = row (not (eqb (length s) 11777)) 20 ∷ row (not (good s)) 34 ∷ rest
 
 -- 22 "address not 1 to 1,022", 23 "protection not 0 or 1", 24 "limit not 1 to 1,500", 25 "address already followed", 26 "no free
 -- slot", the last two by what is followed and what is free
@@ -67,17 +68,20 @@ slotRows h image =
 unfoldable pub questionRows : Question → List ℕ → List Row
 questionRows (ask a) s = stateRows s (addressRows a (not (holds s a)))
 
+-- 48 "a setting above 3", 49 "more flips in the header than the setting"
 unfoldable pub rowsOf : Call → List ℕ → List Row
-rowsOf start s = row (not (eqb (length s) 11776)) 20 ∷ []
+rowsOf start s = row (not (eqb (length s) 11777)) 20 ∷ []
 rowsOf (follow w) s = stateRows s (wishRows w (holds s (w .address)) (not (holds s 0)))
 rowsOf (leave a) s = stateRows s (addressRows a (not (holds s a)))
 rowsOf (packet image) s =
     row (not (eqb (length image) 94)) 20
     ∷ stateRows s
     (row (eqb (spareOf image) 1) 21
+    ∷ row (ltb (setting s) (flipsOf image)) 49
     ∷ row (not (followed s (addressOf image))) 27
     ∷ slotRows (headOf (slotAt (find s (addressOf image)) s)) image)
 rowsOf subframeEnd s = stateRows s []
+rowsOf (setFlips most) s = stateRows s (row (ltb 3 most) 48 ∷ [])
 rowsOf (asks q) s = questionRows q s
 
 -- 4 nothing yet, 5 fresh, 6 doubtful, 7 stale
@@ -91,6 +95,7 @@ ownNumbers (follow w) = 0 ∷ []
 ownNumbers (leave a) = 0 ∷ []
 ownNumbers (packet image) = 1 ∷ 2 ∷ 3 ∷ []
 ownNumbers subframeEnd = 0 ∷ []
+ownNumbers (setFlips most) = 0 ∷ []
 ownNumbers (asks q) = questionNumbers q
 
 -- ---- the group writer, by the lengths of message and output
@@ -103,10 +108,11 @@ writeRows a p message output =
     ∷ row (not (eqb output 376)) 20
     ∷ []
 
--- ---- the bare calls: 33 "a bare number too large"; 31 no word within three flips; 28 no type within two, or not one of the four
+-- ---- the bare calls: 33 "a bare number too large"; 48, 49 as above; 31 no word within three flips; 28 no type within two, or not one of the four
 
 unfoldable pub bareRows : Bare → List Row
 bareRows (readHeader n) = row (leb (2 ^ 23) n) 33 ∷ []
+bareRows (readWithin n most) = row (leb (2 ^ 23) n) 33 ∷ row (ltb 3 most) 48 ∷ row (ltb most (flips (word23 (nearest word23 n)) n)) 49 ∷ []
 bareRows (writeHeader a i) = row (ltb 1023 a) 33 ∷ row (ltb 3 i) 33 ∷ []
 bareRows (readWord n) = row (leb (2 ^ 24) n) 33 ∷ row (leb 4096 (nearest word24 n)) 31 ∷ []
 bareRows (writeWord i) = row (leb 4096 i) 33 ∷ []

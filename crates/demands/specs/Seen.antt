@@ -1,16 +1,16 @@
 -- What calls are to one followed address: which images reach it and what they are received as, and what its slot's own marks say. Nothing
 -- here looks at a machine's answers. A call that only reads is no event.
 --
---   arrivesAt a image     the image has 94 bytes, its spare bit is 0, and it is read as the address
+--   arrivesAt a k image   the image has 94 bytes, its spare bit is 0, and it is read as the address with no more flips than the setting k
 --   eventOf p image       what it is there: a readable data packet, or refused with 28 to 31
---   eventsOf a p h        the events that a list of calls means at the address: those images, and the subframe ends
+--   eventsOf a p k h      the events that a list of calls means at the address, from a setting on: those images, and the subframe ends
 --   seenIn x              the address that a slot's bytes follow: its head, the bytes of the packets it holds, the group it shows
 --   marksOf h             the transcript that a slot's marks stand for: group and age, gap, awaited index; marksBy: by these
 --   latest g out          the last group handed out; g where there is none
 use mathlib.Core.Bool.{Bool, cond, not, _&&_}
 use mathlib.Core.List.{List, [], _∷_, _++_}
 use Prim.Native.Nat.{ℕ, zero, suc, _*_}
-use lib.Dec.{ltb, eqb}
+use lib.Dec.{leb, ltb, eqb}
 use lib.ListN.{length, take, replicate}
 use Rattle.image.specs.Image.{spareOf}
 use Rattle.packet.specs.Received.{received}
@@ -25,13 +25,14 @@ use Rattle.faults.specs.Faults.{faultOf}
 use Rattle.history.specs.Followed.{Followed, Event, ended}
 use Rattle.history.specs.Followed as one
 use Rattle.history.specs.Transcript.{Entry, answered, subframe}
-use Rattle.adapter.specs.Calls.{addressOf}
-use Rattle.demands.specs.Machine.{Call, start, follow, leave, packet, subframeEnd, asks}
+use Rattle.adapter.specs.Calls.{addressOf, flipsOf}
+use Rattle.demands.specs.Machine.{Call, start, follow, leave, packet, subframeEnd, setFlips, asks}
+use Rattle.demands.specs.Setting.{settingNow}
 
 -- ---- what a call is at an address
 
-unfoldable pub arrivesAt : ℕ → List ℕ → Bool
-arrivesAt a image = eqb (length image) 94 && (not (eqb (spareOf image) 1) && eqb (addressOf image) a)
+unfoldable pub arrivesAt : ℕ → ℕ → List ℕ → Bool
+arrivesAt a k image = eqb (length image) 94 && (not (eqb (spareOf image) 1) && (leb (flipsOf image) k && eqb (addressOf image) a))
 
 -- by the number, index and bytes of what was received
 unfoldable pub eventBy : ℕ → ℕ → List ℕ → Event
@@ -41,17 +42,18 @@ eventBy (suc n) c b = one.refused (faultOf (suc n))
 unfoldable pub eventOf : Bool → List ℕ → Event
 eventOf p image = eventBy (received p image .number) (received p image .index) (take (dataSize p) (received p image .bytes))
 
-unfoldable pub eventsAt : ℕ → Bool → Call → List Event
-eventsAt a p start = []
-eventsAt a p (follow w) = []
-eventsAt a p (leave b) = []
-eventsAt a p (packet image) = cond (arrivesAt a image) (eventOf p image ∷ []) []
-eventsAt a p subframeEnd = ended ∷ []
-eventsAt a p (asks q) = []
+unfoldable pub eventsAt : ℕ → Bool → ℕ → Call → List Event
+eventsAt a p k start = []
+eventsAt a p k (follow w) = []
+eventsAt a p k (leave b) = []
+eventsAt a p k (packet image) = cond (arrivesAt a k image) (eventOf p image ∷ []) []
+eventsAt a p k subframeEnd = ended ∷ []
+eventsAt a p k (setFlips most) = []
+eventsAt a p k (asks q) = []
 
-unfoldable pub eventsOf : ℕ → Bool → List Call → List Event
-eventsOf a p [] = []
-eventsOf a p (x ∷ h) = eventsAt a p x ++ eventsOf a p h
+unfoldable pub eventsOf : ℕ → Bool → ℕ → List Call → List Event
+eventsOf a p k [] = []
+eventsOf a p k (x ∷ h) = eventsAt a p k x ++ eventsOf a p (settingNow x k) h
 
 -- the protection that an address is followed with
 abbrev pub by : Followed → Bool

@@ -1,4 +1,5 @@
--- The table of followed addresses is the history's: what follow and leave made of it and nothing else (document 01, sections 3 and 6).
+-- The table of followed addresses is the history's: what follow and leave made of it and nothing else (document 01, sections 3 and 6). So
+-- is the setting (document 02, Ask 7).
 -- The calls that only read are one case that changes nothing.
 --
 --   Good s                  a good state of the right length
@@ -7,22 +8,24 @@
 --   accepts w l             a follow of which no row holds, written out once more, where the addresses of l are followed
 --   followNow x l           the addresses that are followed after a call, where those of l were before it
 --   followedAfter h l       and after a list of calls; from a start on l is []
---   ByHistory m l t         what the calls answer on a state t in which the addresses of l are followed
+--   ByHistory m l k t       what the calls answer on a state t in which the addresses of l are followed and k is the setting
 --   KeepsTable m
 use mathlib.Core.Path.{_≡_}
 use mathlib.Core.Bool.{Bool, true, false, cond, not, _&&_, _||_}
 use mathlib.Core.List.{List, [], _∷_}
-use Prim.Native.Nat.{ℕ, _<_}
+use Prim.Native.Nat.{ℕ, _≤_, _<_}
+use mathlib.Core.Logic.{_↔_}
 use lib.Dec.{leb, ltb, eqb}
 use lib.ListN.{length}
-use Rattle.bits.specs.Rows.{refusal}
+use Rattle.bits.specs.Rows.{row, refusal}
 use Rattle.image.specs.Image.{spareOf}
 use Rattle.head.specs.Head.{within}
 use Rattle.head.specs.declared.Wish.{Wish}
-use Rattle.table.specs.State.{stateSize, slots, addressAt, find, good}
-use Rattle.adapter.specs.Calls.{addressOf}
-use Rattle.demands.specs.Machine.{ask, Call, start, follow, leave, packet, subframeEnd, asks, Machine, run}
+use Rattle.table.specs.State.{stateSize, setting, withSetting, slots, addressAt, find, good}
+use Rattle.adapter.specs.Calls.{addressOf, flipsOf}
+use Rattle.demands.specs.Machine.{ask, Call, start, follow, leave, packet, subframeEnd, setFlips, asks, Machine, run}
 use Rattle.demands.specs.Rows.{wishRows, addressRows, rowsOf, Answers}
+use Rattle.demands.specs.Setting.{settingNow, settingAfter}
 
 pub record Good (s : List ℕ) : Type 0 where
   pub size : length s ≡ stateSize
@@ -39,6 +42,7 @@ addressAfter (follow w) s k = cond (accepted (follow w) s && eqb k (find s 0)) (
 addressAfter (leave a) s k = cond (accepted (leave a) s && eqb k (find s a)) 0 (addressAt s k)
 addressAfter (packet image) s k = addressAt s k
 addressAfter subframeEnd s k = addressAt s k
+addressAfter (setFlips most) s k = addressAt s k
 addressAfter (asks q) s k = addressAt s k
 
 -- ---- from a start on, by the calls alone
@@ -62,19 +66,24 @@ followNow (follow w) l = cond (accepts w l) (w .address ∷ l) l
 followNow (leave a) l = without a l
 followNow (packet image) l = l
 followNow subframeEnd l = l
+followNow (setFlips most) l = l
 followNow (asks q) l = l
 
 unfoldable pub followedAfter : List Call → List ℕ → List ℕ
 followedAfter [] l = l
 followedAfter (x ∷ h) l = followedAfter h (followNow x l)
 
-pub record ByHistory (m : Machine) (l t : List ℕ) : Type 0 where
+pub record ByHistory (m : Machine) (l : List ℕ) (k : ℕ) (t : List ℕ) : Type 0 where
   -- with good wishes 25 exactly if it is followed, otherwise 26 exactly if sixteen are, otherwise 0
   pub follows : (w : Wish) → m .answer (follow w) t ≡ refusal (wishRows w (member (w .address) l) (eqb (length l) 16))
   -- from 1 to 1,022: 27 exactly if it is not followed
   pub leaves : (a : ℕ) → m .answer (leave a) t ≡ refusal (addressRows a (not (member a l)))
   pub asks : (a : ℕ) → Answers (addressRows a (not (member a l))) (4 ∷ 5 ∷ 6 ∷ 7 ∷ []) (m .answer (asks (ask a)) t)
-  pub packets : (image : List ℕ) → length image ≡ 94 → spareOf image ≡ 0 → member (addressOf image) l ≡ false → m .answer (packet image) t ≡ 27
+  -- 49 exactly if its header has more flips than the setting; otherwise 27 exactly if its address is not followed
+  pub beyond : (image : List ℕ) → length image ≡ 94 → spareOf image ≡ 0 → (m .answer (packet image) t ≡ 49) ↔ (k < flipsOf image)
+  pub packets : (image : List ℕ) → length image ≡ 94 → spareOf image ≡ 0 → flipsOf image ≤ k → member (addressOf image) l ≡ false
+      → m .answer (packet image) t ≡ 27
+  pub sets : (most : ℕ) → m .answer (setFlips most) t ≡ refusal (row (ltb 3 most) 48 ∷ [])
   pub ends : m .answer subframeEnd t ≡ 0
   pub never : (x : Call) → m .answer x t ≡ 34 → ⊥
 
@@ -82,4 +91,7 @@ pub record KeepsTable (m : Machine) : Type 0 where
   pub good : (x : Call) (s : List ℕ) → Good s → Good (m .after x s)
   pub addresses : (x : Call) (s : List ℕ) → Good s → (k : ℕ) → k < slots → addressAt (m .after x s) k ≡ addressAfter x s k
   pub history : (s : List ℕ) → length s ≡ stateSize → (h : List Call)
-      → ByHistory m (followedAfter h []) (run m h (m .after start s))
+      → ByHistory m (followedAfter h []) (settingAfter h 3) (run m h (m .after start s))
+  -- the setting is what the calls make of it, and its own call puts it and touches nothing else
+  pub settings : (x : Call) (s : List ℕ) → Good s → setting (m .after x s) ≡ settingNow x (setting s)
+  pub puts : (most : ℕ) (s : List ℕ) → Good s → most ≤ 3 → m .after (setFlips most) s ≡ withSetting most s

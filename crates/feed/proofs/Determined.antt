@@ -12,10 +12,10 @@ use mathlib.Core.List.{List}
 use Prim.Native.Nat.{ℕ}
 use lib.ListN.{length}
 use Rattle.bits.proofs.Determined.{determined}
-use Rattle.bare.specs.Bare.{headerRead, headerWritten, wordRead, wordWritten, typeRead, typeWritten}
+use Rattle.bare.specs.Bare.{headerRead, headerWithin, headerWritten, wordRead, wordWritten, typeRead, typeWritten}
 use Rattle.packet.specs.declared.Reading.{Reading}
 use Rattle.head.specs.declared.Wish.{Wish}
-use Rattle.table.specs.Calls.{startAnswer, startAfter, followAnswer, followAfter, leaveAnswer, leaveAfter, endAnswer, endAfter}
+use Rattle.table.specs.Calls.{startAnswer, startAfter, followAnswer, followAfter, leaveAnswer, leaveAfter, endAnswer, endAfter, setAnswer, setAfter}
 use Rattle.table.proofs.Determined as table
 use Rattle.table.proofs.Determined.{Same}
 use Rattle.asking.specs.Asking.{asked}
@@ -51,6 +51,11 @@ four a b c d r x v m q y w n ra xb vc md qa yb wc nd = (determined ra qa, (deter
 
 pub read-header-same : (n : ℕ) → Four (headerRead n .number) (headerRead n .address) (headerRead n .index) (headerRead n .flips)
 read-header-same n = four (headerRead n .number) (headerRead n .address) (headerRead n .index) (headerRead n .flips)
+
+pub read-header-within-same : (n most : ℕ)
+    → Four (headerWithin n most .number) (headerWithin n most .address) (headerWithin n most .index) (headerWithin n most .flips)
+read-header-within-same n most =
+    four (headerWithin n most .number) (headerWithin n most .address) (headerWithin n most .index) (headerWithin n most .flips)
 
 pub write-header-same : (a i : ℕ) → Two (headerWritten a i .number) (headerWritten a i .value)
 write-header-same a i = two (headerWritten a i .number) (headerWritten a i .value)
@@ -88,6 +93,9 @@ follow-same = table.follow-same
 
 pub leave-same : (s : List ℕ) (a : ℕ) → Same (leaveAnswer s a) (leaveAfter s a)
 leave-same = table.leave-same
+
+pub set-same : (s : List ℕ) (most : ℕ) → Same (setAnswer s most) (setAfter s most)
+set-same = table.set-same
 
 pub packet-same : (s image : List ℕ) → Same (packetAnswer s image) (packetAfter s image)
 packet-same = adapter.packet-same

@@ -2,13 +2,13 @@
 ghost use mathlib.Core.Path.{_≡_};
 ghost use lib.ListN.{length};
 ghost use Rattle.head.specs.Head.{wishOf};
-ghost use Rattle.table.specs.Calls.{startAnswer, startAfter, followAnswer, followAfter, leaveAnswer, leaveAfter, endAnswer, endAfter};
+ghost use Rattle.table.specs.Calls.{startAnswer, startAfter, followAnswer, followAfter, leaveAnswer, leaveAfter, endAnswer, endAfter, setAnswer, setAfter};
 ghost use Rattle.asking.specs.Asking.{asked};
 ghost use Rattle.adapter.specs.Calls.{packetAnswer, packetAfter, writeAnswer, writeAfter};
 ghost use Rattle.feed.specs.Board.{boardFrom, boardAt, boardLength};
 use head::Wish;
 
-// 20. Every byte becomes 0.
+// 20. Every byte becomes 0, but for the setting, which becomes 3.
 #[no_mangle]
 pub extern "C" fn feed_start(state: &mut [u8]) -> u8
     ensures { λ r. ⌜ r ≡ startAnswer (now (state .entry)) ⌝ }
@@ -35,13 +35,22 @@ pub extern "C" fn feed_leave(state: &mut [u8], address: u32) -> u8
     table::leave(state, address)
 }
 
-// 20, 34, 21, 27, 28, 29, 30, 31, 32; otherwise 1, 2 or 3.
+// 20, 34, 21, 49, 27, 28, 29, 30, 31, 32; otherwise 1, 2 or 3.
 #[no_mangle]
 pub extern "C" fn feed_packet(state: &mut [u8], image: &[u8]) -> u8
     ensures { λ r. ⌜ r ≡ packetAnswer (now (state .entry)) (now (image .entry)) ⌝ }
     ensures { λ _. ⌜ now (state .exit) ≡ packetAfter (now (state .entry)) (now (image .entry)) ⌝ }
 {
     adapter::packet(state, image)
+}
+
+// 20, 34, 48. From now on the header of a packet may have so many flips.
+#[no_mangle]
+pub extern "C" fn feed_set_header_flips(state: &mut [u8], most: u32) -> u8
+    ensures { λ r. ⌜ r ≡ setAnswer (now (state .entry)) most ⌝ }
+    ensures { λ _. ⌜ now (state .exit) ≡ setAfter (now (state .entry)) most ⌝ }
+{
+    table::set_header_flips(state, most)
 }
 
 // 20, 34.

@@ -3,7 +3,7 @@
 //
 // calls    the calls on a state, and the group writer
 ghost use mathlib.Core.Path.{_≡_};
-ghost use Rattle.bare.specs.Bare.{headerRead, headerWritten, wordRead, wordWritten, typeRead, typeWritten};
+ghost use Rattle.bare.specs.Bare.{headerRead, headerWithin, headerWritten, wordRead, wordWritten, typeRead, typeWritten};
 ghost use Rattle.feed.specs.Fed.{values, fed};
 use image::Packet;
 
@@ -18,6 +18,21 @@ pub extern "C" fn feed_read_header(n: u32, address: &mut u16, index: &mut u8, fl
     ensures { λ _. ⌜ now (flips .exit) ≡ headerRead n .flips ⌝ }
 {
     let header = bare::read_header(n);
+    *address = header.address;
+    *index = header.index;
+    *flips = header.flips;
+    header.number
+}
+
+// 33: a header of 2^23 or more; 48: a setting above 3; 49: more flips than the setting.
+#[no_mangle]
+pub extern "C" fn feed_read_header_within(n: u32, most: u32, address: &mut u16, index: &mut u8, flips: &mut u8) -> u8
+    ensures { λ r. ⌜ r ≡ headerWithin n most .number ⌝ }
+    ensures { λ _. ⌜ now (address .exit) ≡ headerWithin n most .address ⌝ }
+    ensures { λ _. ⌜ now (index .exit) ≡ headerWithin n most .index ⌝ }
+    ensures { λ _. ⌜ now (flips .exit) ≡ headerWithin n most .flips ⌝ }
+{
+    let header = bare::read_header_within(n, most);
     *address = header.address;
     *index = header.index;
     *flips = header.flips;

@@ -15,7 +15,7 @@ use lib.Seq.{drop-append-le, drop-drop}
 use Rattle.bits.specs.Bits.{blank}
 use Rattle.runs.specs.Part.{part}
 use Rattle.runs.proofs.Parts.{part-front}
-use Rattle.table.specs.State.{stateSize}
+use Rattle.table.specs.State.{startedState}
 use Rattle.records.specs.declared.Step.{Step}
 use Rattle.records.specs.declared.Step.the-variants.{Record, End, More, Bad}
 use Rattle.records.specs.Format.{bodySize, stepAt}
@@ -198,4 +198,4 @@ cut-anywhere cs t = carried-on cs [] t (subst Waits (sym (step-end [] 0 (omega a
 
 pub chunks-file : (cs : List (List ℕ)) → chunkAnswers cs ≡ fileAnswers (joined cs)
 unfolding chunkAnswers fileAnswers
-chunks-file cs = cut-anywhere cs (blank stateSize)
+chunks-file cs = cut-anywhere cs startedState
