@@ -12,8 +12,8 @@ use mathlib.Core.List.{List, [], _∷_}
 use Prim.Native.Nat.{ℕ, _≤_, _<_}
 use native.Mathlib.Omega.{arith}
 use native.Mathlib.Decide.{ℕ-discrete}
-use borrow.Author.Tests.{eq-eqb, ne-eqb, eqb-true, not-true}
-use lib.Dec.{T, eqb}
+use borrow.Author.Tests.{eq-eqb, ne-eqb, eqb-true, le-leb, leb-true, not-true}
+use lib.Dec.{T, leb, eqb}
 use lib.ListN.{length}
 use Rattle.bits.specs.Bits.{blank}
 use Rattle.bits.proofs.Rows.{refusal-none, done-passed, done-either}
@@ -27,16 +27,16 @@ use Rattle.head.specs.declared.Wish.{Wish}
 use Rattle.head.proofs.Bounds.{wish-bounds, good-new}
 use Rattle.slot.proofs.Goods.{good-load, head-blank}
 use Rattle.slot.proofs.Heads.{withHead-length}
-use Rattle.table.specs.State.{stateSize, slots, slotAt, withSlot, addressAt, find, good}
-use Rattle.table.specs.Calls.{followAnswer, followAfter, leaveAnswer, leaveAfter, endAnswer, endAfter, ages}
-use Rattle.table.proofs.Looking.{Passed, state-rest}
-use Rattle.table.proofs.States.{each-good, good-each, find-has, find-only, find-none, slot-length, with-length, slot-same, address-is, address-same, address-other}
+use Rattle.table.specs.State.{stateSize, setting, withSetting, slots, slotAt, withSlot, addressAt, find, good}
+use Rattle.table.specs.Calls.{followAnswer, followAfter, leaveAnswer, leaveAfter, endAnswer, endAfter, ages, setAnswer, setAfter}
+use Rattle.table.proofs.Looking.{Passed, state-rest, set-passed}
+use Rattle.table.proofs.States.{each-good, good-each, find-has, find-only, find-none, slot-length, with-length, slot-same, address-is, address-same, address-other, set-length, slot-kept, address-kept, good-set}
 use Rattle.table.proofs.Kept.{Followed, follow-passed, leave-passed, follow-good, leave-good, aged-slot, ages-good}
 use Rattle.group.specs.Group.{takenNumber, takenAfter}
 use Rattle.history.specs.Followed as one
-use Rattle.adapter.specs.Calls.{addressOf, followed, unplaced, readingAt, slotAnswer, slotAfter, packetAnswer, packetAfter}
+use Rattle.adapter.specs.Calls.{addressOf, flipsOf, followed, unplaced, readingAt, slotAnswer, slotAfter, packetAnswer, packetAfter}
 use Rattle.adapter.proofs.Laws.{both-followed, followed-both, Placed, placed, placed-zero, packet-refused, packet-placed}
-use Rattle.demands.specs.Machine.{Call, start, follow, leave, packet, subframeEnd, asks, ourAfter}
+use Rattle.demands.specs.Machine.{Call, start, follow, leave, packet, subframeEnd, setFlips, asks, ourAfter}
 use Rattle.demands.specs.Demand3.{Stays}
 use Rattle.demands.specs.Seen.{arrivesAt, eventOf, eventsAt, seenIn}
 use Rattle.demands.proofs.View.{view-aged, view-new}
@@ -45,35 +45,40 @@ use Rattle.demands.proofs.Acting.{Does, taken-does, protectedAt}
 
 -- ---- images that arrive at an address
 
-pub record Arrives (a : ℕ) (image : List ℕ) : Type 0 where
+pub record Arrives (a k : ℕ) (image : List ℕ) : Type 0 where
   pub size : length image ≡ 94
   pub spare : eqb (spareOf image) 1 ≡ false
+  pub within : flipsOf image ≤ k
   pub address : addressOf image ≡ a
 
-pub arrives-is : (a : ℕ) (image : List ℕ) → arrivesAt a image ≡ true → Arrives a image
+pub arrives-is : (a k : ℕ) (image : List ℕ) → arrivesAt a k image ≡ true → Arrives a k image
 unfolding arrivesAt
-arrives-is a image e =
+arrives-is a k image e =
     let rest = and-right (eqb (length image) 94) _ e in
+    let last = and-right (not (eqb (spareOf image) 1)) _ rest in
     record {
       size = eqb-true (length image) 94 (and-left (eqb (length image) 94) _ e);
       spare = not-true (eqb (spareOf image) 1) (and-left (not (eqb (spareOf image) 1)) _ rest);
-      address = eqb-true (addressOf image) a (and-right (not (eqb (spareOf image) 1)) _ rest);
+      within = leb-true (flipsOf image) k (and-left (leb (flipsOf image) k) _ last);
+      address = eqb-true (addressOf image) a (and-right (leb (flipsOf image) k) _ last);
     }
 
-pub is-arrives : (a : ℕ) (image : List ℕ) → Arrives a image → arrivesAt a image ≡ true
+pub is-arrives : (a k : ℕ) (image : List ℕ) → Arrives a k image → arrivesAt a k image ≡ true
 unfolding arrivesAt
-is-arrives a image r =
-    λ i. eq-eqb (length image) 94 (r .size) i && (not (r .spare i) && eq-eqb (addressOf image) a (r .address) i)
+is-arrives a k image r =
+    λ i. eq-eqb (length image) 94 (r .size) i
+    && (not (r .spare i) && (le-leb (flipsOf image) k (r .within) i && eq-eqb (addressOf image) a (r .address) i))
 
 module _ (s : List ℕ) (a : ℕ) (v : Serves s a) where
   pub passed : Passed s
   passed = record { size = v .size; all-good = each-good s (v .all) }
 
-  pub arrives-placed : (image : List ℕ) → Arrives a image → Placed s image
+  pub arrives-placed : (image : List ℕ) → Arrives a (setting s) image → Placed s image
   arrives-placed image r = record {
     size = r .size;
     state = passed;
     spare = r .spare;
+    within = r .within;
     place = ap (followed s) (r .address) ∙ both-followed s a (v .pos) (v .found);
   }
 
@@ -93,14 +98,14 @@ module _ (s : List ℕ) (a : ℕ) (v : Serves s a) where
       let k = change-here s a v _ (d .size) (d .good) (d .address ∙ here-address s a v) in
       record { serves = k .serves; seen = k .seen ∙ d .seen }
 
-  pub answer-here : (image : List ℕ) → Arrives a image → packetAnswer s image ≡ one.answer (eventOf (protectedAt s a) image) (view s a)
+  pub answer-here : (image : List ℕ) → Arrives a (setting s) image → packetAnswer s image ≡ one.answer (eventOf (protectedAt s a) image) (view s a)
   unfolding slotAnswer view
   answer-here image r =
       packet-placed s image (placed-zero s image (arrives-placed image r)) .0
       ∙ ap (λ (n : ℕ). takenNumber (readingAt (slotAt (find s n) s) image) (headOf (slotAt (find s n) s))) (r .address)
       ∙ does image (r .size) .number
 
-  pub packet-here : (image : List ℕ) → Arrives a image → Kept (packetAfter s image) a (one.after (eventOf (protectedAt s a) image) (view s a))
+  pub packet-here : (image : List ℕ) → Arrives a (setting s) image → Kept (packetAfter s image) a (one.after (eventOf (protectedAt s a) image) (view s a))
   unfolding slotAfter
   packet-here image r =
       subst (λ (t : List ℕ). Kept t a (one.after (eventOf (protectedAt s a) image) (view s a)))
@@ -124,10 +129,10 @@ module _ (s : List ℕ) (a : ℕ) (v : Serves s a) where
       (ne-eqb _ a (λ q. ne (sym (d .address ∙ here-address s b w) ∙ q))
       ∙ sym (ne-eqb (addressAt s (find s b)) a (λ q. ne (sym (find-has s b (both .1)) ∙ q))))
 
-  packet-acts : (image : List ℕ) (t : Bool) → arrivesAt a image ≡ t
+  packet-acts : (image : List ℕ) (t : Bool) → arrivesAt a (setting s) image ≡ t
       → Kept (packetAfter s image) a (one.run (cond t (eventOf (protectedAt s a) image ∷ []) []) (view s a))
   unfolding one.run
-  packet-acts image true e = packet-here s a v image (arrives-is a image e)
+  packet-acts image true e = packet-here s a v image (arrives-is a (setting s) image e)
   packet-acts image false e = go (ℕ-discrete (unplaced s image) 0)
     where
       go : Dec (unplaced s image ≡ 0) → Kept (packetAfter s image) a (view s a)
@@ -135,9 +140,9 @@ module _ (s : List ℕ) (a : ℕ) (v : Serves s a) where
       go (yes z) =
           let p = placed s image z in
           subst (λ (t : List ℕ). Kept t a (view s a)) (sym (packet-placed s image z .1))
-          (packet-apart image p (λ q. clash (is-arrives a image (record { size = p .size; spare = p .spare; address = q }))))
+          (packet-apart image p (λ q. clash (is-arrives a (setting s) image (record { size = p .size; spare = p .spare; within = p .within; address = q }))))
         where
-          clash : arrivesAt a image ≡ true → ⊥
+          clash : arrivesAt a (setting s) image ≡ true → ⊥
           clash q = subst T (sym q ∙ e) tt
 
   follow-acts : (w : Wish) → Kept (followAfter s w) a (view s a)
@@ -194,13 +199,22 @@ module _ (s : List ℕ) (a : ℕ) (v : Serves s a) where
       subst (λ (x : List ℕ). Kept x a (one.aged (view s a))) (sym (done-passed (endAnswer s) t s end-zero))
       (record { serves = k .serves; seen = k .seen ∙ aged-here })
 
-  pub acts : (x : Call) → Stays a x → Kept (ourAfter x s) a (one.run (eventsAt a (protectedAt s a) x) (view s a))
+  set-acts : (most : ℕ) → Kept (setAfter s most) a (view s a)
+  unfolding setAfter view
+  set-acts most =
+      done-either (λ (t : List ℕ). Kept t a (view s a)) (setAnswer s most) (withSetting most s) s
+      (λ e. kept-by s a v (withSetting most s) (slotAt (find s a) s) (set-length s (v .size) most)
+      (good-set s (v .size) (v .all) most (set-passed s most e .1)) (λ k h. ap (λ (n : ℕ). eqb n a) (address-kept s (v .size) most k h))
+      (slot-kept s (v .size) most (find s a) (v .found))) (change-none s a v)
+
+  pub acts : (x : Call) → Stays a x → Kept (ourAfter x s) a (one.run (eventsAt a (protectedAt s a) (setting s) x) (view s a))
   unfolding ourAfter eventsAt Stays one.run
   acts start st = absurd st
   acts (follow w) st = follow-acts w
   acts (leave b) st = leave-acts b st
-  acts (packet image) st = packet-acts image (arrivesAt a image) refl
+  acts (packet image) st = packet-acts image (arrivesAt a (setting s) image) refl
   acts subframeEnd st = end-acts
+  acts (setFlips most) st = set-acts most
   acts (asks q) st = change-none s a v
 
 -- ---- follow

@@ -4,6 +4,7 @@
 --   channel-order          they are in order; channel-stays: nothing leaves the address
 --   channel-events         their events are those of the calls
 --   readable-came, came-readable     a packet that arrived readable is one that came
+--   channel-few            the setting stays 0 to 3
 --   sent-apart             a packet sent to another address is read as that one, with at most three flips in its header
 --
 -- Assumes nothing.
@@ -13,8 +14,9 @@ use mathlib.Core.List.{List, [], _∷_, _++_}
 use mathlib.Core.Logic.{_⊎_, inl, inr}
 use Prim.Native.Nat.{ℕ, zero, suc, _+_, _*_, _≤_, _<_}
 use native.Mathlib.Omega.{arith}
-use borrow.Author.Tests.{eq-eqb, ne-eqb}
-use lib.Dec.{T, eqb}
+use native.Mathlib.Nat.{le-trans}
+use borrow.Author.Tests.{eq-eqb, ne-eqb, leb-true}
+use lib.Dec.{T, leb, eqb}
 use lib.ListN.{length, take}
 use Rattle.bits.specs.Bits.{flips}
 use Rattle.image.specs.Image.{headerOf, spareOf}
@@ -22,34 +24,41 @@ use Rattle.packet.specs.Received.{received, readableAs}
 use Rattle.packet.specs.Damage.{dataSize, sentImage, Came, Refused}
 use Rattle.packet.specs.declared.Reading.{Reading}
 use Rattle.packet.proofs.Answers.{filled-begins}
-use Rattle.packet.proofs.Damages.{header-came, received-came}
+use Rattle.packet.proofs.Damages.{header-came, header-flipped-by, received-came}
 use Rattle.faults.specs.Faults.{faultOf}
 use Rattle.history.specs.Followed as one
 use Rattle.history.specs.Sent as sent
-use Rattle.adapter.specs.Calls.{addressOf}
-use Rattle.demands.specs.Machine.{Call, start, follow, leave, packet, subframeEnd, asks, Bytes}
+use Rattle.adapter.specs.Calls.{addressOf, flipsOf}
+use Rattle.demands.specs.Machine.{Call, start, follow, leave, packet, subframeEnd, setFlips, asks, Bytes}
 use Rattle.demands.specs.Demand3.{Stays, AllStay, Carries, Lost, Happening, arrives, call, callOf, calls, Apart, Channel, ReadableIn, arrivalBy, passing, arrivals}
+use Rattle.demands.specs.Setting.{settingNow}
 use Rattle.demands.specs.Seen.{arrivesAt, eventOf, eventsAt, eventsOf}
 use Rattle.demands.proofs.Acting.{event-read, event-refused, refused-not-zero}
 use Rattle.demands.proofs.Calling.{Arrives, is-arrives, arrives-is}
 
 -- ---- one image that came of a sent packet
 
-module _ (p : Bool) (a c : ℕ) (d image : List ℕ) (ha : a ≤ 1023) (hc : c < 4) (l : length d ≡ dataSize p) (b : Bytes d)
-    (came : Came p (sentImage p a c d) image) where
+module _ (p : Bool) (k a c : ℕ) (d image : List ℕ) (hk : k ≤ 3) (ha : a ≤ 1023) (hc : c < 4) (l : length d ≡ dataSize p) (b : Bytes d)
+    (came : Came p k (sentImage p a c d) image) where
   came-address : addressOf image ≡ a
   unfolding addressOf
-  came-address = header-came p a c d ha (omega arith) l b image (came .header) .0
+  came-address = header-came p a c d ha (omega arith) l b image (le-trans (came .header) hk) .0
 
-  pub came-arrives : spareOf image ≡ 0 → Arrives a image
+  -- its header is read with the flips that it has
+  came-flips : flipsOf image ≤ k
+  unfolding flipsOf
+  came-flips = subst (λ (n : ℕ). n ≤ k) (sym (header-flipped-by p a c d ha (omega arith) l b image (le-trans (came .header) hk))) (came .header)
+
+  pub came-arrives : spareOf image ≡ 0 → Arrives a k image
   came-arrives z = record {
     size = came .size;
     spare = ne-eqb (spareOf image) 1 (λ q. omega (arith, z, q));
+    within = came-flips;
     address = came-address;
   }
 
   pub came-event : received p image .number ≡ 0 → eventOf p image ≡ one.packet c d
-  came-event z = event-read p image z ∙ go (received-came p a c d image ha (omega arith) l b came)
+  came-event z = event-read p image z ∙ go (received-came p k a c d image hk ha (omega arith) l b came)
     where
       go : (received p image ≡ readableAs c d) ⊎ Refused (received p image)
           → one.packet (received p image .index) (take (dataSize p) (received p image .bytes)) ≡ one.packet c d
@@ -73,55 +82,74 @@ passing-order (follow w) n h o = o
 passing-order (leave b) n h o = o
 passing-order (packet image) n h o = o
 passing-order subframeEnd n h o = o
+passing-order (setFlips most) n h o = o
 passing-order (asks q) n h o = o
 
-pub channel-order : (p : Bool) (a : ℕ) (s : sent.Sent) (n : ℕ) (h : List Happening) → Channel p a s n h → sent.InOrder 4 3 n (arrivals p h)
+pub channel-order : (p : Bool) (a : ℕ) (s : sent.Sent) (m n : ℕ) (h : List Happening) → Channel p a s m n h → sent.InOrder 4 3 n (arrivals p h)
 unfolding Channel arrivals sent.InOrder
-channel-order p a s n [] ch = tt
-channel-order p a s n (arrives i c image ∷ h) ch =
-    next-by (received p image .number) n i c (arrivals p h) (ch .0 .next) (channel-order p a s (suc (4 * i + c)) h (ch .1))
-channel-order p a s n (call x ∷ h) ch = passing-order x n (arrivals p h) (channel-order p a s n h (ch .1))
+channel-order p a s m n [] ch = tt
+channel-order p a s m n (arrives i c image ∷ h) ch =
+    next-by (received p image .number) n i c (arrivals p h) (ch .0 .next) (channel-order p a s m (suc (4 * i + c)) h (ch .1))
+channel-order p a s m n (call x ∷ h) ch = passing-order x n (arrivals p h) (channel-order p a s (settingNow x m) n h (ch .1))
 
-apart-stays : (a : ℕ) (x : Call) → Apart a x → Stays a x
+apart-stays : (a m : ℕ) (x : Call) → Apart a m x → Stays a x
 unfolding Apart Stays
-apart-stays a start q = q
-apart-stays a (follow w) q = q
-apart-stays a (leave b) q = q
-apart-stays a (packet image) q = tt
-apart-stays a subframeEnd q = q
-apart-stays a (asks r) q = q
+apart-stays a m start q = q
+apart-stays a m (follow w) q = q
+apart-stays a m (leave b) q = q
+apart-stays a m (packet image) q = tt
+apart-stays a m subframeEnd q = q
+apart-stays a m (setFlips most) q = q
+apart-stays a m (asks r) q = q
 
-pub channel-stays : (p : Bool) (a : ℕ) (s : sent.Sent) (n : ℕ) (h : List Happening) → Channel p a s n h → AllStay a (calls h)
+pub channel-stays : (p : Bool) (a : ℕ) (s : sent.Sent) (m n : ℕ) (h : List Happening) → Channel p a s m n h → AllStay a (calls h)
 unfolding Channel calls callOf AllStay Stays
-channel-stays p a s n [] ch = tt
-channel-stays p a s n (arrives i c image ∷ h) ch = (tt, channel-stays p a s (suc (4 * i + c)) h (ch .1))
-channel-stays p a s n (call x ∷ h) ch = (apart-stays a x (ch .0), channel-stays p a s n h (ch .1))
+channel-stays p a s m n [] ch = tt
+channel-stays p a s m n (arrives i c image ∷ h) ch = (tt, channel-stays p a s m (suc (4 * i + c)) h (ch .1))
+channel-stays p a s m n (call x ∷ h) ch = (apart-stays a m x (ch .0), channel-stays p a s (settingNow x m) n h (ch .1))
+
+-- the setting stays 0 to 3
+channel-few : (x : Call) (m : ℕ) → m ≤ 3 → settingNow x m ≤ 3
+unfolding settingNow
+channel-few start m h = omega arith
+channel-few (follow w) m h = h
+channel-few (leave b) m h = h
+channel-few (packet image) m h = h
+channel-few subframeEnd m h = h
+channel-few (setFlips most) m h = go (leb most 3) refl
+  where
+    go : (b : Bool) → leb most 3 ≡ b → cond b most m ≤ 3
+    go true e = leb-true most 3 e
+    go false e = h
+channel-few (asks q) m h = h
 
 -- ---- the events are those of the calls
 
 -- an image that came of no packet sent to the address does not arrive there
-apart-away : (a : ℕ) (image : List ℕ) → Lost image ⊎ (addressOf image ≡ a → ⊥) → arrivesAt a image ≡ false
-apart-away a image q = go (arrivesAt a image) refl
+apart-away : (a m : ℕ) (image : List ℕ) → Lost m image ⊎ (addressOf image ≡ a → ⊥) → arrivesAt a m image ≡ false
+apart-away a m image q = go (arrivesAt a m image) refl
   where
-    clash : Arrives a image → Lost image ⊎ (addressOf image ≡ a → ⊥) → ⊥
+    clash : Arrives a m image → Lost m image ⊎ (addressOf image ≡ a → ⊥) → ⊥
     clash r (inl (inl n)) = n (r .size)
-    clash r (inl (inr e)) = subst T (sym (eq-eqb (spareOf image) 1 e) ∙ r .spare) tt
+    clash r (inl (inr (inl e))) = subst T (sym (eq-eqb (spareOf image) 1 e) ∙ r .spare) tt
+    clash r (inl (inr (inr f))) = omega (arith, f, r .within)
     clash r (inr n) = n (r .address)
 
-    go : (b : Bool) → arrivesAt a image ≡ b → arrivesAt a image ≡ false
-    go true e = absurd (clash (arrives-is a image e) q)
+    go : (b : Bool) → arrivesAt a m image ≡ b → arrivesAt a m image ≡ false
+    go true e = absurd (clash (arrives-is a m image e) q)
     go false e = e
 
-passing-events : (p : Bool) (a : ℕ) (s : sent.Sent) (x : Call) (h : List sent.Arrival) (es : List one.Event) → Apart a x
-    → sent.events s h ≡ es → sent.events s (passing x ++ h) ≡ eventsAt a p x ++ es
+passing-events : (p : Bool) (a m : ℕ) (s : sent.Sent) (x : Call) (h : List sent.Arrival) (es : List one.Event) → Apart a m x
+    → sent.events s h ≡ es → sent.events s (passing x ++ h) ≡ eventsAt a p m x ++ es
 unfolding passing sent.events sent.event eventsAt Apart
-passing-events p a s start h es q e = e
-passing-events p a s (follow w) h es q e = e
-passing-events p a s (leave b) h es q e = e
-passing-events p a s (packet image) h es q e =
-    e ∙ sym (ap (λ (b : Bool). cond b (eventOf p image ∷ []) [] ++ es) (apart-away a image q))
-passing-events p a s subframeEnd h es q e = ap (λ (x : List one.Event). one.ended ∷ x) e
-passing-events p a s (asks r) h es q e = e
+passing-events p a m s start h es q e = e
+passing-events p a m s (follow w) h es q e = e
+passing-events p a m s (leave b) h es q e = e
+passing-events p a m s (packet image) h es q e =
+    e ∙ sym (ap (λ (b : Bool). cond b (eventOf p image ∷ []) [] ++ es) (apart-away a m image q))
+passing-events p a m s subframeEnd h es q e = ap (λ (x : List one.Event). one.ended ∷ x) e
+passing-events p a m s (setFlips most) h es q e = e
+passing-events p a m s (asks r) h es q e = e
 
 arrival-event : (p : Bool) (s : sent.Sent) (i c : ℕ) (image : List ℕ)
     → (received p image .number ≡ 0 → eventOf p image ≡ one.packet c (s i c))
@@ -134,21 +162,22 @@ arrival-event p s i c image read = go (received p image .number) refl
     go (suc n) e =
         sym (event-refused p image (λ z. omega (arith, sym e ∙ z)) ∙ ap (λ (m : ℕ). one.refused (faultOf m)) e)
 
-pub channel-events : (p : Bool) (a : ℕ) (s : sent.Sent) → a ≤ 1023 → Carries p s → (n : ℕ) (h : List Happening) → Channel p a s n h
-    → sent.events s (arrivals p h) ≡ eventsOf a p (calls h)
-unfolding Channel arrivals sent.events eventsOf calls callOf eventsAt
-channel-events p a s ha k n [] ch = refl
-channel-events p a s ha k n (arrives i c image ∷ h) ch =
+pub channel-events : (p : Bool) (a : ℕ) (s : sent.Sent) → a ≤ 1023 → Carries p s → (m n : ℕ) (h : List Happening) → m ≤ 3 → Channel p a s m n h
+    → sent.events s (arrivals p h) ≡ eventsOf a p m (calls h)
+unfolding Channel arrivals sent.events eventsOf calls callOf eventsAt settingNow
+channel-events p a s ha k m n [] hm ch = refl
+channel-events p a s ha k m n (arrives i c image ∷ h) hm ch =
     let x = ch .0 in
     let hc = x .next .index in
     let d = s i c in
-    let here = came-arrives p a c d image ha hc (k .size i c hc) (k .bytes i c hc) (x .came) (x .spare) in
+    let here = came-arrives p m a c d image hm ha hc (k .size i c hc) (k .bytes i c hc) (x .came) (x .spare) in
     ap₂ (λ (e : one.Event) (es : List one.Event). e ∷ es)
-    (arrival-event p s i c image (came-event p a c d image ha hc (k .size i c hc) (k .bytes i c hc) (x .came)))
-    (channel-events p a s ha k (suc (4 * i + c)) h (ch .1))
-    ∙ sym (ap (λ (b : Bool). cond b (eventOf p image ∷ []) [] ++ eventsOf a p (calls h)) (is-arrives a image here))
-channel-events p a s ha k n (call x ∷ h) ch =
-    passing-events p a s x (arrivals p h) (eventsOf a p (calls h)) (ch .0) (channel-events p a s ha k n h (ch .1))
+    (arrival-event p s i c image (came-event p m a c d image hm ha hc (k .size i c hc) (k .bytes i c hc) (x .came)))
+    (channel-events p a s ha k m (suc (4 * i + c)) h hm (ch .1))
+    ∙ sym (ap (λ (b : Bool). cond b (eventOf p image ∷ []) [] ++ eventsOf a p m (calls h)) (is-arrives a m image here))
+channel-events p a s ha k m n (call x ∷ h) hm ch =
+    passing-events p a m s x (arrivals p h) (eventsOf a p (settingNow x m) (calls h)) (ch .0)
+    (channel-events p a s ha k (settingNow x m) n h (channel-few x m hm) (ch .1))
 
 -- ---- readable is readable
 
@@ -175,6 +204,7 @@ passing-in i c (follow w) h q = q
 passing-in i c (leave b) h q = q
 passing-in i c (packet image) h q = q
 passing-in i c subframeEnd h q = inr q
+passing-in i c (setFlips most) h q = q
 passing-in i c (asks r) h q = q
 
 passing-out : (i c : ℕ) (x : Call) (h : List sent.Arrival) → sent.CameIn i c (passing x ++ h) → sent.CameIn i c h
@@ -185,6 +215,7 @@ passing-out i c (leave b) h q = q
 passing-out i c (packet image) h q = q
 passing-out i c subframeEnd h (inl e) = absurd (subst T (sym (ap isCame e)) tt)
 passing-out i c subframeEnd h (inr q) = q
+passing-out i c (setFlips most) h q = q
 passing-out i c (asks r) h q = q
 
 pub readable-came : (p : Bool) (i c : ℕ) (h : List Happening) → ReadableIn p i c h → sent.CameIn i c (arrivals p h)
@@ -204,8 +235,8 @@ came-readable p i c (call x ∷ h) q = came-readable p i c h (passing-out i c x 
 
 -- ---- other addresses
 
--- "no header at any address with more than three flipped bits": then no packet of another one is read as the address
-pub sent-apart : (p : Bool) (a b c : ℕ) (d image : List ℕ) → b ≤ 1023 → c < 4 → length d ≡ dataSize p → Bytes d
-    → flips (headerOf (sentImage p b c d)) (headerOf image) ≤ 3 → (b ≡ a → ⊥) → Apart a (packet image)
+-- "no header at any address with more than [the set number of] flipped bits": then no packet of another one is read as the address
+pub sent-apart : (p : Bool) (a m b c : ℕ) (d image : List ℕ) → b ≤ 1023 → c < 4 → length d ≡ dataSize p → Bytes d
+    → flips (headerOf (sentImage p b c d)) (headerOf image) ≤ 3 → (b ≡ a → ⊥) → Apart a m (packet image)
 unfolding Apart addressOf
-sent-apart p a b c d image hb hc l k f ne = inr (λ e. ne (sym (header-came p b c d hb (omega arith) l k image f .0) ∙ e))
+sent-apart p a m b c d image hb hc l k f ne = inr (λ e. ne (sym (header-came p b c d hb (omega arith) l k image f .0) ∙ e))

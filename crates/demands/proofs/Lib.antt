@@ -18,6 +18,7 @@ pub mod Ours
 pub mod Parts
 pub mod Second
 pub mod Serving
+pub mod Settings
 pub mod Showing
 pub mod Story
 pub mod Tables

@@ -8,7 +8,7 @@
 --   placed-serves            then its address is followed
 --   placed-answer            the answer is the slot's
 --   placed-here              the slot is what it makes of the reading
---   placed-others            every other slot is as it was; placed-size: no byte more or less
+--   placed-others            every other slot is as it was, and so is the setting (placed-setting); placed-size: no byte more or less
 --
 -- Assumes nothing.
 use mathlib.Core.Path.{_≡_, refl, sym, ap, ap₂, _∙_}
@@ -26,8 +26,8 @@ use Rattle.slot.specs.Slot.{slotSize, wholeAt, roomSize, headOf, stored}
 use Rattle.head.specs.Head.{askNumber}
 use Rattle.head.specs.declared.Head.{Head}
 use Rattle.runs.proofs.Parts.{part-part}
-use Rattle.table.specs.State.{stateSize, slotAt, withSlot, find, good}
-use Rattle.table.proofs.States.{good-each, slot-same, slot-other, with-length}
+use Rattle.table.specs.State.{stateSize, setting, slotAt, withSlot, find, good}
+use Rattle.table.proofs.States.{good-each, slot-same, slot-other, with-length, setting-kept}
 use Rattle.table.proofs.Looking.{leave-0}
 use Rattle.asking.specs.Asking.{groupLength, askedAt, asked, askPart}
 use Rattle.asking.specs.declared.Asked.{Asked}
@@ -151,6 +151,9 @@ module _ (s image : List ℕ) (p : Placed s image) where
 
   pub placed-size : length (packetAfter s image) ≡ stateSize
   placed-size = ap length after-is ∙ with-length s (p .state .size) k b (placed-serves .found) slot-long
+
+  pub placed-setting : setting (packetAfter s image) ≡ setting s
+  placed-setting = ap setting after-is ∙ setting-kept s (p .state .size) k b (placed-serves .found) slot-long
 
   pub placed-here : slotAt k (packetAfter s image) ≡ b
   placed-here = ap (slotAt k) after-is ∙ slot-same s (p .state .size) k b (placed-serves .found) slot-long

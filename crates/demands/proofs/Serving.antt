@@ -117,7 +117,7 @@ module _ (s : List ℕ) (a : ℕ) (v : Serves s a) where
 abbrev pub older : List ℕ → List ℕ
 older x = withHead (agedHead (headOf x)) x
 
-older-size : (s : List ℕ) (l : length s ≡ stateSize) (k : ℕ) → k < slots → length (older (slotAt k s)) ≡ slotSize
+pub older-size : (s : List ℕ) (l : length s ≡ stateSize) (k : ℕ) → k < slots → length (older (slotAt k s)) ≡ slotSize
 older-size s l k h = withHead-length (agedHead (headOf (slotAt k s))) (slotAt k s) (slot-length s l k h) ∙ slot-length s l k h
 
 pub ages-long : (n k : ℕ) (s : List ℕ) → n + k ≤ slots → length s ≡ stateSize → length (ages n k s) ≡ stateSize

@@ -16,7 +16,7 @@ use lib.Dec.{eqb}
 use lib.ListN.{length}
 use Rattle.bits.specs.Bits.{blank}
 use Rattle.bits.specs.Rows.{done}
-use Rattle.bits.proofs.Rows.{done-passed, done-refused, refusal-none}
+use Rattle.bits.proofs.Rows.{done-passed, done-refused, done-either, refusal-none}
 use Rattle.bits.proofs.Storing.{blank-length}
 use Rattle.slot.specs.Slot.{slotSize, headOf, withHead}
 use Rattle.head.specs.Head.{newHead}
@@ -25,14 +25,14 @@ use Rattle.head.specs.declared.Wish.{Wish}
 use Rattle.head.proofs.Bounds.{good-new}
 use Rattle.slot.proofs.Goods.{good-load, head-blank}
 use Rattle.slot.proofs.Heads.{withHead-length}
-use Rattle.table.specs.State.{stateSize, slots, slotAt, withSlot, addressAt, find, good}
-use Rattle.table.specs.Calls.{startAfter, followAnswer, followAfter, leaveAnswer, leaveAfter, endAnswer, endAfter, ages}
+use Rattle.table.specs.State.{stateSize, withSetting, startedState, slots, slotAt, withSlot, addressAt, find, good}
+use Rattle.table.specs.Calls.{startAfter, followAnswer, followAfter, leaveAnswer, leaveAfter, endAnswer, endAfter, ages, setAnswer, setAfter}
 use Rattle.table.proofs.Looking.{state-rest}
-use Rattle.table.proofs.States.{each-good, good-each, slot-length, with-length, address-is, address-same, address-other}
-use Rattle.table.proofs.Kept.{Followed, follow-passed, leave-passed, blank-good, follow-good, leave-good, aged-slot, ages-good}
+use Rattle.table.proofs.States.{each-good, good-each, slot-length, with-length, address-is, address-same, address-other, set-length, address-kept}
+use Rattle.table.proofs.Kept.{Followed, follow-passed, leave-passed, started-length, started-good, follow-good, leave-good, set-good, aged-slot, ages-good}
 use Rattle.adapter.specs.Calls.{addressOf, packetAfter}
 use Rattle.adapter.proofs.Laws.{Placed, packet-refused}
-use Rattle.demands.specs.Machine.{Call, start, follow, leave, packet, subframeEnd, asks, ourAfter}
+use Rattle.demands.specs.Machine.{Call, start, follow, leave, packet, subframeEnd, setFlips, asks, ourAfter}
 use Rattle.demands.specs.Rows.{rowsOf}
 use Rattle.demands.specs.Table.{Good, addressAfter}
 use Rattle.demands.proofs.Serving.{older, here-size, here-good, ages-at, ages-long}
@@ -42,8 +42,8 @@ use Rattle.demands.proofs.Parts.{by-place, placed-serves, placed-here, 
 use Rattle.demands.proofs.Examples.{empty-address}
 use Rattle.demands.proofs.First.{begins}
 
-pub blank-state : Good (blank stateSize)
-blank-state = record { size = blank-length stateSize; good = each-good (blank stateSize) blank-good }
+pub started-state : Good startedState
+started-state = record { size = started-length; good = each-good startedState started-good }
 
 pub end-passed : (s : List ℕ) → Good s → endAnswer s ≡ 0
 unfolding endAnswer
@@ -96,7 +96,7 @@ packet-good : (s image : List ℕ) → Good s → Good (packetAfter s image)
 packet-good s image g =
     by-place s image (λ ne. subst Good (sym (packet-refused s image ne .1)) g)
     (λ p. let v = packet-here s (addressOf image) (placed-serves s image p) image
-    (record { size = p .size; spare = p .spare; address = refl }) .serves in
+    (record { size = p .size; spare = p .spare; within = p .within; address = refl }) .serves in
     record { size = v .size; good = each-good _ (v .all) })
 
 end-keeps : (s : List ℕ) → Good s → Good (endAfter s)
@@ -108,13 +108,21 @@ end-keeps s g =
       good = each-good _ (ages-good slots 0 s (omega arith) (g .size) (good-each s (g .good)));
     })
 
+set-size : (s : List ℕ) (most : ℕ) → length s ≡ stateSize → length (setAfter s most) ≡ stateSize
+unfolding setAfter
+set-size s most e =
+    either (setAnswer s most)
+    (λ z. ap length (done-passed (setAnswer s most) _ s z) ∙ set-length s e most)
+    (λ ne. ap length (done-refused (setAnswer s most) _ s ne) ∙ e)
+
 pub keeps-good : (x : Call) (s : List ℕ) → Good s → Good (ourAfter x s)
 unfolding ourAfter
-keeps-good start s g = subst Good (sym (begins s (g .size))) blank-state
+keeps-good start s g = subst Good (sym (begins s (g .size))) started-state
 keeps-good (follow w) s g = record { size = follow-size s w (g .size); good = follow-good s w (g .good) }
 keeps-good (leave a) s g = record { size = leave-size s a (g .size); good = leave-good s a (g .good) }
 keeps-good (packet image) s g = packet-good s image g
 keeps-good subframeEnd s g = end-keeps s g
+keeps-good (setFlips most) s g = record { size = set-size s most (g .size); good = set-good s most (g .good) }
 keeps-good (asks q) s g = g
 
 -- ---- addresses
@@ -165,6 +173,12 @@ module _ (s : List ℕ) (k : ℕ) (h : k < slots) where
       ∙ sym (address-is t k) ∙ ap (λ (x : List ℕ). headOf x .wish .address) (ages-at slots 0 s (omega arith) (g .size) k (omega arith) h)
       ∙ aged-slot (slotAt k s) (slot-length s (g .size) k h) (good-each s (g .good) .slot k h) .1 ∙ address-is s k
 
+  set-address : (most : ℕ) → Good s → addressAt (setAfter s most) k ≡ addressAt s k
+  unfolding setAfter
+  set-address most g =
+      done-either (λ (x : List ℕ). addressAt x k ≡ addressAt s k) (setAnswer s most) (withSetting most s) s
+      (λ z. address-kept s (g .size) most k h) refl
+
 pub keeps-addresses : (x : Call) (s : List ℕ) → Good s → (k : ℕ) → k < slots → addressAt (ourAfter x s) k ≡ addressAfter x s k
 unfolding ourAfter addressAfter rowsOf followAnswer followAfter leaveAnswer leaveAfter
 keeps-addresses start s g k h = ap (λ (x : List ℕ). addressAt x k) (begins s (g .size)) ∙ empty-address k h
@@ -178,4 +192,5 @@ keeps-addresses (leave a) s g k h =
     (ap (λ (y : Head). y .wish .address) (head-blank slotSize)))
 keeps-addresses (packet image) s g k h = packet-address s k h image
 keeps-addresses subframeEnd s g k h = end-address s k h g
+keeps-addresses (setFlips most) s g k h = set-address s k h most g
 keeps-addresses (asks q) s g k h = refl

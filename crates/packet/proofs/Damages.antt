@@ -1,7 +1,7 @@
 -- A packet under damage: what was sent is read, or it is refused with 28 to 31; never other bytes.
 --
 --   sent-header, sent-useful, sent-spare     what a sent image holds
---   header-came                  its address and index are read from what came
+--   header-came                  its address and index are read from what came; header-flipped-by: with the flips that there are
 --   received-came                damage of at most four bits a word: what was sent, or a refusal
 --   received-corrected           damage that the codes correct: what was sent
 --   sent-corrected, corrected-came     no damage is such damage, and such damage is among what may come
@@ -87,6 +87,14 @@ module _ (p : Bool) (a i : ℕ) (d : List ℕ) (ha : a ≤ 1023) (hi : i ≤ 3) 
 
       index : (a + 1024 * i) / 1024 ≡ i
       index = omega arith
+
+  pub header-flipped-by : (t : List ℕ) → flips (headerOf (sentImage p a i d)) (headerOf t) ≤ 3
+      → headerRead (headerOf t) .flips ≡ flips (headerOf (sentImage p a i d)) (headerOf t)
+  header-flipped-by t f =
+      let near : flips (word23 (a + 1024 * i)) (headerOf t) ≤ 3 = subst (λ (x : ℕ). flips x (headerOf t) ≤ 3) sent-header f in
+      ap (λ (h : Header). h .flips)
+      (header-reads (headerOf t) (a + 1024 * i) (header-lt t) (nearest-is word23 word23-apart (headerOf t) (a + 1024 * i) small near))
+      ∙ ap (λ (x : ℕ). flips x (headerOf t)) (sym sent-header)
 
 -- ---- protected data
 
