@@ -32,7 +32,7 @@ fn a_group_from_its_writing_to_its_end() {
     assert_eq!(feed.ask(17), Ok((Worth::Stale, &message[..])));
     assert_eq!(feed.leave(17), Ok(()));
     assert_eq!(feed.board_text(17, NOTICE), (Err(Refusal(27)), NOTICE));
-    assert_eq!(feed.bytes(), &[0; STATE]);
+    assert_eq!(feed.bytes(), Feed::new().bytes());
 }
 
 #[test]
@@ -66,7 +66,7 @@ fn only_good_states_are_taken_up_again() {
 fn a_history() {
     let mut random = Xorshift::new(142);
     let mut feed = Feed::new();
-    let mut state = vec![0; STATE];
+    let mut state = states::started();
     for _ in 0..rounds(5_000) {
         let call = calls::any(&mut random, &state);
         // The type has no other protections.

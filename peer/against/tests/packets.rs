@@ -3,8 +3,9 @@
 use against::both::Both;
 use second::image::{protect, write_image, HEADER_AT, IMAGE, TYPE_AT, USEFUL_AT};
 use second::samples::calls::Call;
+use second::samples::states::started;
 use second::samples::{flip, flip_some, rounds, word_at, WORDS};
-use second::table::{follow, STATE};
+use second::table::follow;
 use second::types::{DATA, TYPES};
 use second::xorshift::Xorshift;
 
@@ -13,7 +14,7 @@ const CHOICES: usize = 7;
 
 /// Sixteen addresses, plain and protected by turns. A header with four flips now and then reads as another of them.
 fn following() -> Vec<u8> {
-    let mut state = vec![0; STATE];
+    let mut state = started();
     for k in 0..16 {
         assert_eq!(follow(&mut state, 1 + 64 * k, k % 2, 3), 0);
     }
@@ -104,7 +105,7 @@ fn every_single_bit() {
 /// All headers. Addresses 0 and 1,023 are among them, and free slots have address 0 in their bytes.
 #[test]
 fn every_address_and_index() {
-    let mut few = vec![0; STATE];
+    let mut few = started();
     assert_eq!(follow(&mut few, 512, 0, 3), 0);
     for state in [few, following()] {
         for address in 0..1024 {

@@ -5,7 +5,7 @@ use second::image::{protect, write_image, IMAGE};
 use second::samples::calls::{self, Call};
 use second::samples::{rounds, states};
 use second::slot::{Slot, SLOT};
-use second::table::{Table, SLOTS, STATE};
+use second::table::{Table, SETTING_AT, SLOTS, STATE};
 use second::types::DATA;
 use second::xorshift::Xorshift;
 
@@ -93,8 +93,8 @@ fn every_place() {
     let mut random = Xorshift::new(113);
     for place in 0..SLOTS {
         for others in [false, true] {
-            let mut state = vec![0; STATE];
-            for (k, bytes) in (0..).zip(state.chunks_mut(SLOT)) {
+            let mut state = states::started();
+            for (k, bytes) in (0..).zip(state.chunks_exact_mut(SLOT)) {
                 if k == place || others {
                     let slot = states::slot(&mut random, 1 + 68 * k as u32);
                     bytes.copy_from_slice(&slot.encode());
@@ -130,8 +130,8 @@ fn bad_states() {
 fn a_stray_byte_everywhere() {
     let mut random = Xorshift::new(115);
     let calls = all_but_start(17);
-    let mut state = vec![0; STATE];
-    for place in 0..STATE {
+    let mut state = states::started();
+    for place in 0..SETTING_AT {
         state[place] = 1 << random.below(8);
         let call = &calls[place % calls.len()];
         assert_eq!(make(&state, call), 34, "{place} {call:02x?}");
@@ -144,7 +144,7 @@ fn a_stray_byte_everywhere() {
 fn every_byte_of_a_head() {
     let mut random = Xorshift::new(116);
     for round in 0..rounds(2) {
-        let mut state = vec![0; STATE];
+        let mut state = states::started();
         let place = [0, SLOTS - 1, 7][round % 3];
         let slot = states::slot(&mut random, 300);
         state[SLOT * place..][..SLOT].copy_from_slice(&slot.encode());
@@ -167,7 +167,7 @@ fn an_address_twice() {
     let mut random = Xorshift::new(117);
     for one in 0..SLOTS {
         for other in 0..SLOTS {
-            let mut state = vec![0; STATE];
+            let mut state = states::started();
             for place in [one, other] {
                 let slot = states::slot(&mut random, 300);
                 state[SLOT * place..][..SLOT].copy_from_slice(&slot.encode());

@@ -63,15 +63,15 @@ pub fn received(protected: bool, image: &[u8], bytes: &mut [u8; USEFUL]) -> (u8,
     } else if let Some(place) = take_protected(image, bytes) {
         return refused(WORD_UNREADABLE, place, bytes);
     }
-    let (_, index) = header(image);
+    let (_, index, _) = header(image);
     (DONE, 0, index as u8)
 }
 
-/// Address and index.
-fn header(image: &[u8; IMAGE]) -> (u32, usize) {
+/// Address, index and flips.
+fn header(image: &[u8; IMAGE]) -> (u32, usize, u32) {
     let header = u32::from_le_bytes([image[0], image[1], image[2] & 0x7F, 0]);
-    let (information, _) = correct23(header);
-    (information & 0x3FF, (information >> 10) as usize)
+    let (information, flips) = correct23(header);
+    (information & 0x3FF, (information >> 10) as usize, flips)
 }
 
 /// The number that the type byte is answered with.

@@ -10,6 +10,7 @@ use line::Line;
 use second::group::{packet, write_group};
 use second::image::write_image;
 use second::samples::rounds;
+use second::samples::states::started;
 use second::table::{ask, follow, leave, start, subframe_end, STATE};
 use second::xorshift::Xorshift;
 
@@ -87,7 +88,7 @@ fn four_lost_in_a_row_are_not_seen() {
     let (mut one, mut other) = ([0; 376], [0; 376]);
     assert_eq!(write_group(17, 0, &[1; 360], &mut one), 0);
     assert_eq!(write_group(17, 0, &[2; 360], &mut other), 0);
-    let mut state = vec![0; STATE];
+    let mut state = started();
     assert_eq!(follow(&mut state, 17, 0, 2), 0);
     // Packet 0 of one group, and 1 to 3 of the next.
     let came = one[..94].chunks(94).chain(other[94..].chunks(94));
@@ -104,7 +105,7 @@ fn three_lost_in_a_row_are_seen() {
     let mut images = [0; 376];
     assert_eq!(write_group(17, 0, &[1; 360], &mut images), 0);
     for first in 1..=4 {
-        let mut state = vec![0; STATE];
+        let mut state = started();
         assert_eq!(follow(&mut state, 17, 0, 2), 0);
         let came = (0..12).filter(|k| !(first..first + 3).contains(k));
         let mut whole = Vec::new();

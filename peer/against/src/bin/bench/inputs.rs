@@ -3,7 +3,7 @@
 use second::golay::{word23, word24};
 use second::group::write_group;
 use second::image::IMAGE;
-use second::samples;
+use second::samples::{self, states};
 use second::slot::group_length;
 use second::table::{follow, STATE};
 use second::types::DATA;
@@ -53,9 +53,9 @@ pub fn protected(flips: usize) -> Vec<Image> {
     (0..IMAGES).map(|_| image()).collect()
 }
 
-/// A state in which so many addresses are followed, from 1 on.
+/// A state in which so many addresses are followed, from 1 on. Its setting is 3.
 pub fn following(count: u32, protected: bool) -> State {
-    let mut state = [0; STATE];
+    let mut state: State = states::started().try_into().expect("a state");
     for address in 1..=count {
         let number = follow(&mut state, address, protected.into(), 1500);
         assert_eq!(number, 0, "a free slot");
