@@ -102,6 +102,7 @@ fn make(feed: &mut Feed, call: &Call) -> u8 {
             feed.subframe_end();
             0
         }
+        &Call::SetHeaderFlips(most) => done(feed.set_header_flips(most)),
         &Call::Ask(address) => worth(feed.ask(address).map(|(worth, _)| worth)),
         Call::BoardText(address, notice) => worth(feed.board_text(*address, notice).0),
     }

@@ -15,6 +15,7 @@ fn calls() -> Vec<Call> {
         Call::Leave(17),
         Call::Packet(image),
         Call::SubframeEnd,
+        Call::SetHeaderFlips(2),
         Call::Ask(17),
         Call::BoardText(17, vec![1, 2]),
     ]
