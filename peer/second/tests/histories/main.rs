@@ -1,35 +1,37 @@
 //! Random histories, and a bookkeeping apart that says what must come of them: a group is handed out exactly if its
 //! four packets came and could be read, as long as no more than three are lost in a row, and ask's number follows from
-//! the answers alone. The bookkeeping knows what was sent and what was done to it; it does not know the state.
+//! the answers alone. A packet that the setting refuses counts as lost. The bookkeeping knows what was set and sent and
+//! what was done to it; it does not know the state.
 
 mod channel;
 mod line;
 
 use channel::Channel;
 use line::Line;
+use second::golay::MOST_FLIPS;
 use second::group::{packet, write_group};
 use second::image::write_image;
 use second::samples::rounds;
 use second::samples::states::started;
-use second::table::{ask, follow, leave, start, subframe_end, STATE};
+use second::table::{ask, follow, leave, set_header_flips, start, subframe_end, STATE};
 use second::xorshift::Xorshift;
 
 const STEPS: usize = 1_500;
 
 /// How often each answer came, and each number of ask.
-type Counts = [usize; 36];
+type Counts = [usize; 50];
 
 #[test]
 fn exactly_the_groups_that_came_and_fresh_by_the_transcript() {
     let mut random = Xorshift::new(81);
-    let mut counts = [0; 36];
+    let mut counts = [0; 50];
     for round in 0..rounds(12) {
         let count = [1, 2, 5, 16][round % 4];
         let channel = Channel::new(&mut random);
         history(&mut random, count, channel, &mut counts);
     }
     // It is only worth something if all of these happen.
-    for number in (1..=7).chain([20, 21, 27]).chain(28..=32) {
+    for number in (1..=7).chain([20, 21, 27, 49]).chain(28..=32) {
         assert!(counts[number] > 30, "{number}: {counts:?}");
     }
 }
@@ -43,6 +45,7 @@ fn history(random: &mut Xorshift, count: usize, channel: Channel, counts: &mut C
     for line in &mut lines {
         line.follow(&mut state);
     }
+    let mut setting = MOST_FLIPS;
     for _ in 0..STEPS {
         let line = random.below(count);
         match random.below(64) {
@@ -50,8 +53,13 @@ fn history(random: &mut Xorshift, count: usize, channel: Channel, counts: &mut C
             1..=3 => lines[line].follow(&mut state),
             4..=7 => end_subframe(&mut state, &mut lines),
             8..=11 => disturb(random, &mut state),
+            12 if setting < MOST_FLIPS => lines[line].pass_by(random, &mut state, setting),
+            13 => {
+                setting = random.below(4) as u32;
+                assert_eq!(set_header_flips(&mut state, setting), 0);
+            }
             _ => {
-                let image = lines[line].send(random, &channel);
+                let image = lines[line].send(random, &channel, setting);
                 let number = image.map(|image| packet(&mut state, &image));
                 lines[line].came(&state, number);
                 counts[usize::from(number.unwrap_or(0))] += 1;
@@ -76,6 +84,7 @@ fn disturb(random: &mut Xorshift, state: &mut [u8]) {
     let stranger = 1001 + random.below(20) as u32;
     let image = write_image(stranger, index, 0, &random.bytes());
     assert_eq!(packet(state, &image), 27);
+    assert_eq!(set_header_flips(state, 4 + random.number() % 256), 48);
     assert_eq!(follow(state, stranger, 2, 5), 23);
     assert_eq!(follow(state, stranger, 1, 0), 24);
     assert_eq!(leave(state, stranger), 27);
