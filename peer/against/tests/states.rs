@@ -14,13 +14,15 @@ fn make(state: &[u8], call: &Call) -> u8 {
 }
 
 /// One call of every sort, for an address that may be followed or not.
-fn each(address: u32, image: &[u8]) -> [Call; 7] {
+fn each(address: u32, image: &[u8]) -> [Call; 9] {
     [
         Call::Start,
         Call::Follow(address, 1, 9),
         Call::Leave(address),
         Call::Packet(image.to_vec()),
         Call::SubframeEnd,
+        Call::SetHeaderFlips(1),
+        Call::SetHeaderFlips(4),
         Call::Ask(address),
         Call::BoardText(address, vec![1, 2, 3]),
     ]
@@ -157,6 +159,41 @@ fn every_byte_of_a_head() {
                 }
             }
             state[at] = kept;
+        }
+    }
+}
+
+/// Every value of the last byte: 0 to 3 are good, whatever else is there.
+#[test]
+fn every_setting() {
+    let mut random = Xorshift::new(119);
+    for byte in 0..=255 {
+        let mut state = if random.chance() {
+            states::started()
+        } else {
+            states::good(&mut random)
+        };
+        state[SETTING_AT] = byte;
+        for address in [17, 1022] {
+            for call in all_but_start(address) {
+                let refused = make(&state, &call) == 34;
+                assert_eq!(refused, byte > 3, "{byte} {call:02x?}");
+            }
+            assert_eq!(make(&state, &Call::Start), 0);
+        }
+    }
+}
+
+/// Each setting by the call, from each, and what is none.
+#[test]
+fn settings_from_settings() {
+    let mut random = Xorshift::new(120);
+    for from in 0..=3 {
+        let mut state = states::good(&mut random);
+        state[SETTING_AT] = from;
+        for most in (0..=300).chain([65_536, 65_539, 1 << 31, u32::MAX]) {
+            let number = make(&state, &Call::SetHeaderFlips(most));
+            assert_eq!(number, if most <= 3 { 0 } else { 48 }, "{from} {most}");
         }
     }
 }
