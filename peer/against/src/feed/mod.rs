@@ -62,15 +62,15 @@ impl Feed {
         accepted(calls::leave(&mut self.state[..], address))
     }
 
-    /// Sets how many flips are put right in a packet's header at most, 0 to 3, from now on. Where packets are seldom sent,
-    /// fewer let less noise through as an address that is followed. Refused: 48, and the setting stays as it was.
+    /// Sets how many flips are put right in a packet's header at most, 0 to 3, from now on. With fewer, less noise of an
+    /// empty channel is read as an address that is followed. Refused: 48, and the setting stays as it was.
     pub fn set_header_flips(&mut self, most: u32) -> Result<(), Refusal> {
         accepted(calls::set_header_flips(&mut self.state[..], most))
     }
 
     /// Takes a packet's image in. Refused, and nothing is changed: 20 for its length, 21 for its spare bit, 49 if its
-    /// header has more flips than the setting allows, 27 if its address is not followed. Refused, and the group under way is given up: 28 to 30 for its type, 31 for a word that
-    /// cannot be read, 32 for its index.
+    /// header has more flips than the setting says, 27 if its address is not followed. Refused, and the group under way is
+    /// given up: 28 to 30 for its type, 31 for a word that cannot be read, 32 for its index.
     pub fn packet(&mut self, image: &[u8]) -> Result<Taken, Refusal> {
         match calls::packet(&mut self.state[..], image) {
             1 => Ok(Taken::Started),
