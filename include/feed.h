@@ -17,6 +17,7 @@
  *   26  no free slot                      33  a bare number too large
  *   44  a pair of a field is wrong        34  state, or map, not good
  *   45  more than 128 components          46  structure unfinished            (the map)
+ *   48  setting above 3                   49  header beyond the setting       (headers)
  *
  * A call is refused with the first number of its order that applies. A refused call changes nothing that was lent to it, but for one
  * case: a packet refused with 28, 29, 30, 31 or 32 drops the unfinished group of its address and marks a gap there. Values that a call
@@ -35,8 +36,11 @@
 #include <stddef.h>
 #include <stdint.h>
 
-/* A state, in bytes: 16 slots. Its byte places are in docs/LAYOUT.md. */
-#define FEED_STATE 11776
+/*
+ * A state, in bytes: 16 slots, and a setting behind them. Its byte places are in docs/LAYOUT.md. A saved state of 11,776 bytes, of an
+ * older library that had no setting, is refused with 20.
+ */
+#define FEED_STATE 11777
 /* A packet image; the four images of a group. */
 #define FEED_IMAGE 94
 #define FEED_IMAGES 376
@@ -68,7 +72,8 @@ extern "C" {
 #endif
 
 /*
- * Starts a state: every byte becomes 0, and nothing is followed. It works on any contents.
+ * Starts a state: nothing is followed. Every byte becomes 0 but for the last, the setting of feed_set_header_flips, which becomes 3. It
+ * works on any contents.
  * Refused: 20.
  */
 uint8_t feed_start(uint8_t *state, size_t state_len);
@@ -87,9 +92,18 @@ uint8_t feed_follow(uint8_t *state, size_t state_len, uint32_t address, uint32_t
 uint8_t feed_leave(uint8_t *state, size_t state_len, uint32_t address);
 
 /*
+ * Sets how many flips are corrected in a packet's header at the most, 0 to 3, from the next packet on. Every other call but feed_start
+ * keeps the setting. It is there for an empty channel: noise is read as some header always at 3, and 277, 24 and 1 times in 2,048 at 2, 1
+ * and 0.
+ * Refused, in this order, and then the setting stays as it was: 20, 34, 48 (most above 3).
+ */
+uint8_t feed_set_header_flips(uint8_t *state, size_t state_len, uint32_t most);
+
+/*
  * Takes in one packet image of 94 bytes: bit k in order of transmission is the bit of weight 2^(k mod 8) in byte k/8, and the bit of
  * weight 128 in byte 93 is 0. Answers 1 where it starts a group, 2 where it is held, 3 where it makes a group whole.
- * Refused, in this order: 20, 34, 21, 27, and these, which drop the address's unfinished group and mark a gap: 28, 29, 30, 31, 32.
+ * Refused, in this order: 20, 34, 21, 49 (more flips in the header than the setting says: the packet is no address's, and changes nothing),
+ * 27, and these, which drop the address's unfinished group and mark a gap: 28, 29, 30, 31, 32.
  */
 uint8_t feed_packet(uint8_t *state, size_t state_len, const uint8_t *image, size_t image_len);
 
@@ -138,6 +152,11 @@ uint8_t feed_received(uint8_t protection, const uint8_t *image, size_t image_len
  * A header of 23 bits is read as the code word within three flips of it, of which there is exactly one. Refused: 33 (2^23 or more).
  */
 uint8_t feed_read_header(uint32_t n, uint16_t *address, uint8_t *index, uint8_t *flips);
+/*
+ * The same with a setting, the greatest number of flips to correct, 0 to 3; the call above is this one at 3.
+ * Refused, in this order: 33 (2^23 or more), 48 (most above 3), 49 (the nearest code word needs more flips than most).
+ */
+uint8_t feed_read_header_within(uint32_t n, uint32_t most, uint16_t *address, uint8_t *index, uint8_t *flips);
 /* Refused: 33 (address above 1,023, index above 3). */
 uint8_t feed_write_header(uint32_t address, uint32_t index, uint32_t *header);
 /* A 24-bit word is read as the code word within three flips, if there is one. Refused, in this order: 33 (2^24 or more), 31. */

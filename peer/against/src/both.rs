@@ -60,6 +60,7 @@ fn make(call: &Call, state: &mut [u8]) -> Answer {
         &Call::Leave(address) => calls::leave(state, address).into(),
         Call::Packet(image) => calls::packet(state, image).into(),
         Call::SubframeEnd => calls::subframe_end(state).into(),
+        &Call::SetHeaderFlips(most) => calls::set_header_flips(state, most).into(),
         &Call::Ask(address) => calls::ask(state, address).into(),
         Call::BoardText(address, notice) => calls::board_text(state, *address, notice).into(),
     }

@@ -16,6 +16,7 @@ extern "C" {
     fn feed_leave(state: *mut u8, state_len: usize, address: u32) -> u8;
     fn feed_packet(state: *mut u8, state_len: usize, image: *const u8, image_len: usize) -> u8;
     fn feed_subframe_end(state: *mut u8, state_len: usize) -> u8;
+    fn feed_set_header_flips(state: *mut u8, state_len: usize, most: u32) -> u8;
     fn feed_ask(
         state: *const u8,
         state_len: usize,
@@ -70,6 +71,11 @@ pub fn packet(state: &mut [u8], image: &[u8]) -> u8 {
 pub fn subframe_end(state: &mut [u8]) -> u8 {
     // SAFETY: the call reads and writes the state within its length, and it is borrowed alone.
     unsafe { feed_subframe_end(state.as_mut_ptr(), state.len()) }
+}
+
+pub fn set_header_flips(state: &mut [u8], most: u32) -> u8 {
+    // SAFETY: the call reads and writes the state within its length, and it is borrowed alone.
+    unsafe { feed_set_header_flips(state.as_mut_ptr(), state.len(), most) }
 }
 
 /// (number, place, length)

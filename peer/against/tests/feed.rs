@@ -2,7 +2,7 @@
 
 use against::feed::{write_group, Feed, Protection, Refusal, Taken, Worth};
 use second::samples::calls::{self, Call};
-use second::samples::{difference, rounds, states};
+use second::samples::{difference, flip, rounds, states};
 use second::table::STATE;
 use second::xorshift::Xorshift;
 
@@ -32,7 +32,29 @@ fn a_group_from_its_writing_to_its_end() {
     assert_eq!(feed.ask(17), Ok((Worth::Stale, &message[..])));
     assert_eq!(feed.leave(17), Ok(()));
     assert_eq!(feed.board_text(17, NOTICE), (Err(Refusal(27)), NOTICE));
-    assert_eq!(feed.bytes(), &[0; STATE]);
+    assert_eq!(feed.bytes(), Feed::new().bytes());
+}
+
+/// "A header refused so belongs to no slot and changes nothing."
+#[test]
+fn headers_are_held_to_the_setting() {
+    let images = write_group(17, Protection::Plain, &[7; 360]).expect("written");
+    let mut hurt = images[94..188].to_vec();
+    for bit in [3, 11, 22] {
+        flip(&mut hurt, bit);
+    }
+    let mut feed = Feed::new();
+    assert_eq!(feed.follow(17, Protection::Plain, 2), Ok(()));
+    assert_eq!(feed.packet(&images[..94]), Ok(Taken::Started));
+    assert_eq!(feed.set_header_flips(2), Ok(()));
+    assert_eq!(feed.packet(&hurt), Err(Refusal(49)));
+    // A setting that is none leaves the one that is; a state that is kept keeps its own.
+    assert_eq!(feed.set_header_flips(4), Err(Refusal(48)));
+    let mut kept = Feed::from_bytes(feed.bytes()).expect("a good state");
+    assert_eq!(kept.packet(&hurt), Err(Refusal(49)));
+    assert_eq!(kept.set_header_flips(3), Ok(()));
+    assert_eq!(kept.packet(&hurt), Ok(Taken::Held));
+    assert_eq!(Feed::new().set_header_flips(u32::MAX), Err(Refusal(48)));
 }
 
 #[test]
@@ -42,6 +64,11 @@ fn refusals_have_reasons() {
     assert_eq!(
         Refusal(22).to_string(),
         "the address is not 1 to 1,022 (22)"
+    );
+    assert_eq!(Refusal(48).to_string(), "the setting is above 3 (48)");
+    assert_eq!(
+        Refusal(49).to_string(),
+        "the header is beyond the setting (49)"
     );
     assert_eq!(
         write_group(1, Protection::Plain, &[0; 180]),
@@ -66,7 +93,7 @@ fn only_good_states_are_taken_up_again() {
 fn a_history() {
     let mut random = Xorshift::new(142);
     let mut feed = Feed::new();
-    let mut state = vec![0; STATE];
+    let mut state = states::started();
     for _ in 0..rounds(5_000) {
         let call = calls::any(&mut random, &state);
         // The type has no other protections.
@@ -102,6 +129,7 @@ fn make(feed: &mut Feed, call: &Call) -> u8 {
             feed.subframe_end();
             0
         }
+        &Call::SetHeaderFlips(most) => done(feed.set_header_flips(most)),
         &Call::Ask(address) => worth(feed.ask(address).map(|(worth, _)| worth)),
         Call::BoardText(address, notice) => worth(feed.board_text(*address, notice).0),
     }

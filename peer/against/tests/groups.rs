@@ -4,7 +4,7 @@ use against::calls::{ask, follow, packet, write_group};
 use against::MARK;
 use second::group;
 use second::samples::rounds;
-use second::table::STATE;
+use second::samples::states::started;
 use second::xorshift::Xorshift;
 
 const MARGIN: usize = 64;
@@ -86,7 +86,7 @@ fn written_groups_come_back() {
         let message = &random.bytes::<360>()[..length];
         let mut images = [MARK; 376];
         assert_eq!(write_group(address, protection, message, &mut images), 0);
-        let mut state = [0; STATE];
+        let mut state = started();
         assert_eq!(follow(&mut state, address, protection, 1), 0);
         let answers: Vec<u8> = images
             .chunks(94)

@@ -1,10 +1,12 @@
 //! The packet call with damage counted out: so many flips in the header, in the type byte and in a word.
 
 use against::both::Both;
+use second::golay::SETTINGS;
 use second::image::{protect, write_image, HEADER_AT, IMAGE, TYPE_AT, USEFUL_AT};
 use second::samples::calls::Call;
+use second::samples::states::started;
 use second::samples::{flip, flip_some, rounds, word_at, WORDS};
-use second::table::{follow, STATE};
+use second::table::{follow, set_header_flips};
 use second::types::{DATA, TYPES};
 use second::xorshift::Xorshift;
 
@@ -13,7 +15,7 @@ const CHOICES: usize = 7;
 
 /// Sixteen addresses, plain and protected by turns. A header with four flips now and then reads as another of them.
 fn following() -> Vec<u8> {
-    let mut state = vec![0; STATE];
+    let mut state = started();
     for k in 0..16 {
         assert_eq!(follow(&mut state, 1 + 64 * k, k % 2, 3), 0);
     }
@@ -47,6 +49,58 @@ fn flips_from_none_to_six() {
         flip_some(&mut random, &mut bytes, TYPE_AT, kind % CHOICES);
         flip_some(&mut random, &mut bytes, place, word % CHOICES);
         both.make(&Call::Packet(bytes.to_vec()));
+    }
+}
+
+/// None to six flips in the header at each setting, among packets that are hurt elsewhere, too.
+#[test]
+fn header_flips_at_every_setting() {
+    let mut random = Xorshift::new(125);
+    for most in SETTINGS {
+        let mut both = Both::new(&following(), Call::make);
+        assert_eq!(both.make(&Call::SetHeaderFlips(most)).number, 0);
+        for n in 0..rounds(60 * CHOICES) {
+            let (k, flips) = (random.below(16), n % CHOICES);
+            let awaited = both.state()[second::slot::SLOT * k + 733].into();
+            let index = [random.below(4) as u32, awaited, awaited][random.below(3)];
+            let mut bytes = image(&mut random, k as u32, index, DATA);
+            flip_some(&mut random, &mut bytes, HEADER_AT, flips);
+            let (kind, word) = (random.below(4), random.below(6));
+            let place = word_at(random.below(WORDS));
+            flip_some(&mut random, &mut bytes, TYPE_AT, kind);
+            flip_some(&mut random, &mut bytes, place, word);
+            let number = both.make(&Call::Packet(bytes.to_vec())).number;
+            let beyond = flips > most as usize;
+            assert!(
+                flips > 3 || (number == 49) == beyond,
+                "{flips} at {most}: {number}"
+            );
+        }
+    }
+}
+
+/// Each pattern of up to three flips at each setting, at an address that is followed and at one that is not.
+#[test]
+fn every_pattern_at_every_setting() {
+    let all = 0u32..1 << 23;
+    let patterns: Vec<u32> = all.filter(|pattern| pattern.count_ones() <= 3).collect();
+    for most in SETTINGS {
+        let mut state = following();
+        assert_eq!(set_header_flips(&mut state, most), 0);
+        for (address, answer) in [(1, 1), (2, 27)] {
+            let clean = write_image(address, 0, DATA, &[7; 90]);
+            for pattern in &patterns {
+                let mut bytes = clean.to_vec();
+                for (byte, flips) in bytes.iter_mut().zip(pattern.to_le_bytes()) {
+                    *byte ^= flips;
+                }
+                let mut both = Both::new(&state, Call::make_fast);
+                let number = both.make(&Call::Packet(bytes)).number;
+                let read = pattern.count_ones() <= most;
+                let expected = if read { answer } else { 49 };
+                assert_eq!(number, expected, "{pattern:06x} {most} {address}");
+            }
+        }
     }
 }
 
@@ -104,7 +158,7 @@ fn every_single_bit() {
 /// All headers. Addresses 0 and 1,023 are among them, and free slots have address 0 in their bytes.
 #[test]
 fn every_address_and_index() {
-    let mut few = vec![0; STATE];
+    let mut few = started();
     assert_eq!(follow(&mut few, 512, 0, 3), 0);
     for state in [few, following()] {
         for address in 0..1024 {

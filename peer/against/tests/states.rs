@@ -5,7 +5,7 @@ use second::image::{protect, write_image, IMAGE};
 use second::samples::calls::{self, Call};
 use second::samples::{rounds, states};
 use second::slot::{Slot, SLOT};
-use second::table::{Table, SLOTS, STATE};
+use second::table::{Table, SETTING_AT, SLOTS, STATE};
 use second::types::DATA;
 use second::xorshift::Xorshift;
 
@@ -14,13 +14,15 @@ fn make(state: &[u8], call: &Call) -> u8 {
 }
 
 /// One call of every sort, for an address that may be followed or not.
-fn each(address: u32, image: &[u8]) -> [Call; 7] {
+fn each(address: u32, image: &[u8]) -> [Call; 9] {
     [
         Call::Start,
         Call::Follow(address, 1, 9),
         Call::Leave(address),
         Call::Packet(image.to_vec()),
         Call::SubframeEnd,
+        Call::SetHeaderFlips(1),
+        Call::SetHeaderFlips(4),
         Call::Ask(address),
         Call::BoardText(address, vec![1, 2, 3]),
     ]
@@ -93,8 +95,8 @@ fn every_place() {
     let mut random = Xorshift::new(113);
     for place in 0..SLOTS {
         for others in [false, true] {
-            let mut state = vec![0; STATE];
-            for (k, bytes) in (0..).zip(state.chunks_mut(SLOT)) {
+            let mut state = states::started();
+            for (k, bytes) in (0..).zip(state.chunks_exact_mut(SLOT)) {
                 if k == place || others {
                     let slot = states::slot(&mut random, 1 + 68 * k as u32);
                     bytes.copy_from_slice(&slot.encode());
@@ -130,8 +132,8 @@ fn bad_states() {
 fn a_stray_byte_everywhere() {
     let mut random = Xorshift::new(115);
     let calls = all_but_start(17);
-    let mut state = vec![0; STATE];
-    for place in 0..STATE {
+    let mut state = states::started();
+    for place in 0..SETTING_AT {
         state[place] = 1 << random.below(8);
         let call = &calls[place % calls.len()];
         assert_eq!(make(&state, call), 34, "{place} {call:02x?}");
@@ -144,7 +146,7 @@ fn a_stray_byte_everywhere() {
 fn every_byte_of_a_head() {
     let mut random = Xorshift::new(116);
     for round in 0..rounds(2) {
-        let mut state = vec![0; STATE];
+        let mut state = states::started();
         let place = [0, SLOTS - 1, 7][round % 3];
         let slot = states::slot(&mut random, 300);
         state[SLOT * place..][..SLOT].copy_from_slice(&slot.encode());
@@ -161,13 +163,48 @@ fn every_byte_of_a_head() {
     }
 }
 
+/// Every value of the last byte: 0 to 3 are good, whatever else is there.
+#[test]
+fn every_setting() {
+    let mut random = Xorshift::new(119);
+    for byte in 0..=255 {
+        let mut state = if random.chance() {
+            states::started()
+        } else {
+            states::good(&mut random)
+        };
+        state[SETTING_AT] = byte;
+        for address in [17, 1022] {
+            for call in all_but_start(address) {
+                let refused = make(&state, &call) == 34;
+                assert_eq!(refused, byte > 3, "{byte} {call:02x?}");
+            }
+            assert_eq!(make(&state, &Call::Start), 0);
+        }
+    }
+}
+
+/// Each setting by the call, from each, and what is none.
+#[test]
+fn settings_from_settings() {
+    let mut random = Xorshift::new(120);
+    for from in 0..=3 {
+        let mut state = states::good(&mut random);
+        state[SETTING_AT] = from;
+        for most in (0..=300).chain([65_536, 65_539, 1 << 31, u32::MAX]) {
+            let number = make(&state, &Call::SetHeaderFlips(most));
+            assert_eq!(number, if most <= 3 { 0 } else { 48 }, "{from} {most}");
+        }
+    }
+}
+
 /// Two slots with one address, each pair of places.
 #[test]
 fn an_address_twice() {
     let mut random = Xorshift::new(117);
     for one in 0..SLOTS {
         for other in 0..SLOTS {
-            let mut state = vec![0; STATE];
+            let mut state = states::started();
             for place in [one, other] {
                 let slot = states::slot(&mut random, 300);
                 state[SLOT * place..][..SLOT].copy_from_slice(&slot.encode());

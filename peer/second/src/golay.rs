@@ -5,7 +5,8 @@
 
 use crate::bits;
 use crate::division::remainder;
-use crate::numbers::{DONE, TOO_LARGE, WORD_UNREADABLE};
+use crate::numbers::{refuse_unless, DONE, HEADER_BEYOND, SETTING, TOO_LARGE, WORD_UNREADABLE};
+use std::ops::RangeInclusive;
 use std::sync::OnceLock;
 
 /// The powers of x in G(x) = x^11 + x^10 + x^6 + x^5 + x^4 + x^2 + 1, as the standard prints it.
@@ -17,7 +18,9 @@ const SUFFIX_BITS: usize = 11;
 const WORD23_BITS: usize = INFORMATION_BITS + SUFFIX_BITS;
 const WORD24_BITS: usize = WORD23_BITS + 1;
 /// Both codes put right up to three flips.
-const MOST_FLIPS: u32 = 3;
+pub const MOST_FLIPS: u32 = 3;
+/// The greatest number of flips that the header reader may be set to put right (document 02, Ask 7).
+pub const SETTINGS: RangeInclusive<u32> = 0..=MOST_FLIPS;
 
 /// The header word of twelve information bits: M(x) = x^11 m(x) + r(x).
 pub fn word23(information: u32) -> u32 {
@@ -48,15 +51,27 @@ fn generator() -> Vec<bool> {
 
 /// Reads a header as the word within three flips; there always is one: (number, address, index, flips).
 pub fn read_header(n: u32) -> (u8, u16, u8, u8) {
-    if !fits(n, WORD23_BITS) {
-        return (TOO_LARGE, 0, 0, 0);
+    read_header_within(n, MOST_FLIPS)
+}
+
+/// Reads a header as the word within as many flips as the setting says, if there is one: (number, address, index,
+/// flips). Noise lies within three flips of some word always, and within fewer seldom.
+pub fn read_header_within(n: u32, most: u32) -> (u8, u16, u8, u8) {
+    match header(n, most) {
+        Ok((address, index, flips)) => (DONE, address, index, flips),
+        Err(number) => (number, 0, 0, 0),
     }
-    let (information, flips) = near(words23(), n).expect("each number is near to a word");
+}
+
+fn header(n: u32, most: u32) -> Result<(u16, u8, u8), u8> {
+    refuse_unless(fits(n, WORD23_BITS), TOO_LARGE)?;
+    refuse_unless(SETTINGS.contains(&most), SETTING)?;
+    let (information, flips) = near(words23(), n, most).ok_or(HEADER_BEYOND)?;
     let row = bits::of_number(information, INFORMATION_BITS);
     let (address, index) = row.split_at(ADDRESS_BITS);
     let address = bits::to_number(address) as u16;
     let index = bits::to_number(index) as u8;
-    (DONE, address, index, flips)
+    Ok((address, index, flips))
 }
 
 /// The header of an address and an index: (number, header).
@@ -74,7 +89,7 @@ pub fn read_word(n: u32) -> (u8, u16, u8) {
     if !fits(n, WORD24_BITS) {
         return (TOO_LARGE, 0, 0);
     }
-    match near(words24(), n) {
+    match near(words24(), n, MOST_FLIPS) {
         Some((information, flips)) => (DONE, information as u16, flips),
         None => (WORD_UNREADABLE, 0, 0),
     }
@@ -92,10 +107,11 @@ fn fits(n: u32, count: usize) -> bool {
     n >> count == 0
 }
 
-/// The information of the word within three flips of `n`, and these flips. There is never more than one such word.
-fn near(words: &[u32], n: u32) -> Option<(u32, u8)> {
+/// The information of the word within `most` flips of `n`, and these flips. Within three flips there is never more than
+/// one word.
+fn near(words: &[u32], n: u32, most: u32) -> Option<(u32, u8)> {
     let flips = |word: u32| (word ^ n).count_ones();
-    let information = words.iter().position(|&word| flips(word) <= MOST_FLIPS)?;
+    let information = words.iter().position(|&word| flips(word) <= most)?;
     Some((information as u32, flips(words[information]) as u8))
 }
 

@@ -36,7 +36,12 @@ fn arrive(table: &mut Table, image: &[u8]) -> u8 {
     if spare {
         return SPARE_BIT;
     }
-    let (_, address, _, _) = golay::read_header(bits::to_number(&row[HEADER_AT]));
+    let header = bits::to_number(&row[HEADER_AT]);
+    let (number, address, _, _) = golay::read_header_within(header, table.setting);
+    // "A header refused so belongs to no slot and changes nothing."
+    if number != DONE {
+        return number;
+    }
     match table.find(address.into()) {
         Some(slot) => slot.arrive(image),
         None => NOT_FOLLOWED,

@@ -52,6 +52,10 @@ pub const BAD_PAIR: u8 = 44;
 pub const TOO_MANY: u8 = 45;
 /// Of the structure asked for, only a part is known.
 pub const UNFINISHED: u8 = 46;
+/// A setting is above 3.
+pub const SETTING: u8 = 48;
+/// A header is beyond the setting: the nearest word needs more flips than that allows.
+pub const HEADER_BEYOND: u8 = 49;
 
 /// Refuses with a number unless something holds. A call is a row of these, in the order of its refusals.
 pub fn refuse_unless(holds: bool, number: u8) -> Result<(), u8> {

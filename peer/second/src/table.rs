@@ -1,15 +1,17 @@
-//! The state of followed addresses (sections 3 and 5 of the paper): each call takes all slots out of the lent bytes,
-//! works on them as values and puts them back.
+//! The state of followed addresses (sections 3 and 5 of the paper) and the setting for packets' headers (document 02,
+//! Ask 7): each call takes all slots out of the lent bytes, works on them as values and puts them back.
 
+use crate::golay::{MOST_FLIPS, SETTINGS};
 use crate::numbers::{
     done, refuse_unless, ADDRESS, DONE, DOUBTFUL, FOLLOWED, FRESH, FULL, LENGTH, LIMIT, NOTHING,
-    NOT_FOLLOWED, NOT_GOOD, PROTECTION, STALE,
+    NOT_FOLLOWED, NOT_GOOD, PROTECTION, SETTING, STALE,
 };
 use crate::slot::{Slot, ADDRESSES, LIMITS, MOST_AGE, ROOM, SLOT};
 
-/// Slots of a state, and its bytes.
+/// Slots of a state, the place of the setting, which is one byte behind them, and a state's bytes.
 pub const SLOTS: usize = 16;
-pub const STATE: usize = SLOTS * SLOT;
+pub const SETTING_AT: usize = SLOTS * SLOT;
+pub const STATE: usize = SETTING_AT + 1;
 
 /// Which of the lent buffers a part is a part of.
 #[derive(Clone, Copy, Debug, PartialEq, Eq)]
@@ -18,13 +20,18 @@ pub enum Lent {
     Notice,
 }
 
-/// Sets every byte to 0, whatever was there.
+/// Nothing is followed, and headers are put right as far as their code goes, whatever was there.
 pub fn start(state: &mut [u8]) -> u8 {
     if state.len() != STATE {
         return LENGTH;
     }
-    state.fill(0);
+    state.copy_from_slice(&Table::new().encode());
     DONE
+}
+
+/// From now on so many flips are put right in a packet's header, at most.
+pub fn set_header_flips(state: &mut [u8], most: u32) -> u8 {
+    change(state, |table| done(table.set(most)))
 }
 
 pub fn follow(state: &mut [u8], address: u32, protection: u32, limit: u32) -> u8 {
@@ -61,8 +68,8 @@ pub fn board_text(state: &[u8], address: u32, notice: &[u8]) -> (u8, Lent, usize
     }
 }
 
-/// Lets a call work on the slots of a state, if its length is right and it is good. Slots that it leaves alone go back
-/// to the bytes that they came from.
+/// Lets a call work on the slots of a state and on its setting, if its length is right and it is good. What it leaves
+/// alone goes back to the bytes that it came from.
 pub(crate) fn change(state: &mut [u8], call: impl FnOnce(&mut Table) -> u8) -> u8 {
     let mut table = match Table::decode(state) {
         Ok(table) => table,
@@ -73,20 +80,32 @@ pub(crate) fn change(state: &mut [u8], call: impl FnOnce(&mut Table) -> u8) -> u
     number
 }
 
-/// The slots of a good state. A free one holds nothing.
+/// The slots of a good state, of which a free one holds nothing, and its setting.
 pub struct Table {
     slots: Vec<Option<Slot>>,
+    /// The greatest number of flips that is put right in a packet's header.
+    pub setting: u32,
 }
 
 impl Table {
-    /// The slots that some bytes stand for; 20 and 34 are refused here, for every call.
+    /// As start makes it.
+    fn new() -> Table {
+        Table {
+            slots: vec![None; SLOTS],
+            setting: MOST_FLIPS,
+        }
+    }
+
+    /// What some bytes stand for; 20 and 34 are refused here, for every call.
     pub fn decode(state: &[u8]) -> Result<Table, u8> {
         refuse_unless(state.len() == STATE, LENGTH)?;
-        let slots: Option<Vec<_>> = state.chunks(SLOT).map(decode).collect();
+        let slots = state[..SETTING_AT].chunks(SLOT).map(decode);
         let table = Table {
-            slots: slots.ok_or(NOT_GOOD)?,
+            slots: slots.collect::<Option<_>>().ok_or(NOT_GOOD)?,
+            setting: state[SETTING_AT].into(),
         };
         refuse_unless(table.no_address_twice(), NOT_GOOD)?;
+        refuse_unless(SETTINGS.contains(&table.setting), NOT_GOOD)?;
         Ok(table)
     }
 
@@ -95,7 +114,9 @@ impl Table {
             Some(slot) => slot.encode(),
             None => vec![0; SLOT],
         };
-        self.slots.iter().map(bytes).collect::<Vec<_>>().concat()
+        let mut parts: Vec<_> = self.slots.iter().map(bytes).collect();
+        parts.push(vec![self.setting as u8]);
+        parts.concat()
     }
 
     /// The used slots, lowest first.
@@ -129,6 +150,12 @@ impl Table {
         refuse_unless(ADDRESSES.contains(&address), ADDRESS)?;
         let place = self.place(address).ok_or(NOT_FOLLOWED)?;
         self.slots[place] = None;
+        Ok(())
+    }
+
+    fn set(&mut self, most: u32) -> Result<(), u8> {
+        refuse_unless(SETTINGS.contains(&most), SETTING)?;
+        self.setting = most;
         Ok(())
     }
 

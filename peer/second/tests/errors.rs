@@ -3,14 +3,15 @@
 use second::golay::read_word;
 use second::group::{packet, write_group};
 use second::image::{HEADER_AT, TYPE_AT};
+use second::samples::states::started;
 use second::samples::{flip, word_at};
-use second::table::{ask, follow, subframe_end, STATE};
+use second::table::{ask, follow, subframe_end};
 
 type Images = Vec<Vec<u8>>;
 
 /// A state in which address 17 is followed as protected, with a limit of 2.
 fn following() -> Vec<u8> {
-    let mut state = vec![0; STATE];
+    let mut state = started();
     assert_eq!(follow(&mut state, 17, 1, 2), 0);
     state
 }

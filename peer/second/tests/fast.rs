@@ -1,7 +1,7 @@
 //! The fast readers against the slow ones.
 
 use second::fast;
-use second::golay::{read_header, read_word, word23, word24};
+use second::golay::{read_header, read_header_within, read_word, word23, word24};
 use second::image::{received, Received};
 use second::samples;
 use second::xorshift::Xorshift;
@@ -39,6 +39,24 @@ fn numbers_of_every_size() {
         let n = random.number() >> random.below(12);
         assert_eq!(fast::read_header(n), read_header(n), "{n:08x}");
         assert_eq!(fast::read_word(n), read_word(n), "{n:08x}");
+    }
+}
+
+/// Noise alone has three flips mostly; and settings beyond 3, which are refused only where the number is not.
+#[test]
+fn headers_at_every_setting() {
+    let mut random = Xorshift::new(5);
+    for round in 0..NUMBERS {
+        let any = random.number() >> random.below(12);
+        for n in [samples::header(&mut random, round % 4), any] {
+            let most = [0, 1, 2, 3, 4, 255, 256, u32::MAX][random.below(8)];
+            let expected = read_header_within(n, most);
+            assert_eq!(
+                fast::read_header_within(n, most),
+                expected,
+                "{n:08x} {most}"
+            );
+        }
     }
 }
 

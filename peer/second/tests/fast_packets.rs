@@ -18,7 +18,7 @@ fn agree(call: &Call, slow: &mut [u8], quick: &mut [u8]) -> u8 {
 #[test]
 fn a_long_history() {
     let mut random = Xorshift::new(51);
-    let (mut slow, mut quick) = (vec![0; STATE], vec![0; STATE]);
+    let (mut slow, mut quick) = (states::started(), states::started());
     let mut numbers = [0; 256];
     for _ in 0..rounds(40_000) {
         let call = calls::any(&mut random, &slow);
@@ -26,7 +26,7 @@ fn a_long_history() {
         numbers[usize::from(number)] += 1;
     }
     // It is only worth something if it reaches every answer but 34.
-    for number in (0..=7).chain(20..=32) {
+    for number in (0..=7).chain(20..=32).chain([48, 49]) {
         assert!(numbers[number] > 20, "{number}: {numbers:?}");
     }
 }

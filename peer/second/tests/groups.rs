@@ -6,7 +6,7 @@ use second::group::{packet, write_group};
 use second::image::{protect, write_image};
 use second::samples::{difference, flip, flip_some, states, word_at};
 use second::slot::SLOT as SIZE;
-use second::table::{ask, follow, STATE};
+use second::table::{ask, follow, set_header_flips};
 use second::types::DATA;
 use second::xorshift::Xorshift;
 
@@ -62,7 +62,7 @@ fn written_groups_come_back() {
         let message = random.bytes::<360>()[..length].to_vec();
         let mut images = [0; 376];
         assert_eq!(write_group(address, protection, &message, &mut images), 0);
-        let mut state = vec![0; STATE];
+        let mut state = states::started();
         assert_eq!(follow(&mut state, address, protection, 1), 0);
         let answers: Vec<u8> = images.chunks(94).map(|i| packet(&mut state, i)).collect();
         assert_eq!(answers, [1, 2, 2, 3]);
@@ -104,8 +104,8 @@ fn row(address: u32, protection: u32, length: usize, room: usize) -> u8 {
 
 /// A good state in which every room is full of dirt; the slot under test has this protection and awaits this index.
 fn dirty(random: &mut Xorshift, protected: bool, awaited: u8) -> Vec<u8> {
-    let mut state = vec![0; STATE];
-    for (place, bytes) in (0..).zip(state.chunks_mut(SIZE)) {
+    let mut state = states::started();
+    for (place, bytes) in (0..).zip(state.chunks_exact_mut(SIZE)) {
         let mut slot = states::slot(random, ADDRESS - 5 + place);
         slot.unfinished = random.bytes();
         slot.group = random.bytes();
@@ -208,7 +208,8 @@ fn what_cannot_be_read_ends_the_group() {
 #[test]
 fn the_order_of_a_packet() {
     let mut random = Xorshift::new(64);
-    let good = dirty(&mut random, true, 0);
+    let mut good = dirty(&mut random, true, 0);
+    assert_eq!(set_header_flips(&mut good, 2), 0);
     let mut bad = good.clone();
     bad[SLOT + GAP] = 2;
     let step = image_of(true, 1, DATA, &[7; 45]);
@@ -219,14 +220,19 @@ fn the_order_of_a_packet() {
         flip(&mut kind, bit);
     }
     let other = write_image(ADDRESS + 100, 1, 0x15, &[7; 90]);
-    let mut spare = other;
+    let mut far = other;
+    for bit in [0, 9, 20] {
+        flip(&mut far, bit);
+    }
+    let mut spare = far;
     spare[93] |= 128;
-    let rows: [(&[u8], &[u8], u8); 9] = [
+    let rows: [(&[u8], &[u8], u8); 10] = [
         (&bad[1..], &spare[1..], 20),
         (&bad, &spare[1..], 20),
         (&bad[1..], &spare, 20),
         (&bad, &spare, 34),
         (&good, &spare, 21),
+        (&good, &far, 49),
         (&good, &other, 27),
         (&good, &kind, 28),
         (&good, &word, 31),

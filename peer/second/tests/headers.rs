@@ -1,6 +1,6 @@
 //! The (23,12) code: worked numbers, and what must hold of every word.
 
-use second::golay::{read_header, word23, write_header};
+use second::golay::{read_header, read_header_within, word23, write_header, SETTINGS};
 
 /// Bits 12 to 22 of the words of 1, 2, 4, ..., 2048.
 const SUFFIXES: [u32; 12] = [
@@ -73,6 +73,31 @@ fn three_flips_are_put_right() {
     }
 }
 
+/// "Let the header reader be given the greatest number of flips to correct, 0 to 3, and refuse beyond it."
+#[test]
+fn as_many_flips_are_put_right_as_the_setting_says() {
+    let header = word23(17 | 2 << 10);
+    for (pattern, weight) in patterns() {
+        for most in SETTINGS {
+            let read = u32::from(weight) <= most;
+            let expected = if read {
+                (0, 17, 2, weight)
+            } else {
+                (49, 0, 0, 0)
+            };
+            assert_eq!(read_header_within(header ^ pattern, most), expected);
+        }
+    }
+}
+
+/// The reader without a setting is the one at 3.
+#[test]
+fn three_is_the_reader_without_a_setting() {
+    for n in (0..1 << 23).step_by(997).chain([1 << 23, u32::MAX]) {
+        assert_eq!(read_header_within(n, 3), read_header(n), "{n:08x}");
+    }
+}
+
 /// Every pattern of at most three of 23 bits, with its weight.
 fn patterns() -> impl Iterator<Item = (u32, u8)> {
     let all = 0u32..1 << 23;
@@ -90,6 +115,20 @@ fn any_two_words_differ_in_seven_bits() {
     // The words add up, so it is enough to look at the weights.
     let least = (1..4096).map(|n| word23(n).count_ones()).min();
     assert_eq!(least, Some(7));
+}
+
+/// 33, 48, 49: each row has the faults of those below it too. No setting is cut to a byte.
+#[test]
+fn the_order_with_a_setting() {
+    let settings = [4, 5, 255, 256, 257, 65_539, u32::MAX];
+    for most in settings {
+        assert_eq!(read_header_within(0x80000F, most), (33, 0, 0, 0));
+        assert_eq!(read_header_within(0xF, most), (48, 0, 0, 0));
+        assert_eq!(read_header_within(0, most), (48, 0, 0, 0));
+    }
+    assert_eq!(read_header_within(0x80000F, 0), (33, 0, 0, 0));
+    assert_eq!(read_header_within(0xF, 2), (49, 0, 0, 0));
+    assert_eq!(read_header_within(0xF, 3), (0, 527, 0, 3));
 }
 
 #[test]

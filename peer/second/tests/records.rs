@@ -73,6 +73,19 @@ fn a_group_comes_and_grows_stale() {
     assert_eq!(numbers(&input), answers);
 }
 
+/// No record sets the greatest number of flips in a header: the program works at 3, whatever it reads.
+#[test]
+fn three_flips_in_a_header_are_put_right() {
+    let mut images = [0; 376];
+    assert_eq!(write_group(17, 0, &[7; 360], &mut images), 0);
+    let mut input = follow(17, 0, 2);
+    for image in images.chunks_mut(94) {
+        image[1] ^= 0b0100_1001;
+        input.extend(record(1, image));
+    }
+    assert_eq!(numbers(&input), [0, 1, 2, 2, 3]);
+}
+
 /// Refused calls print their number, and the program goes on.
 #[test]
 fn refusals_do_not_stop_it() {

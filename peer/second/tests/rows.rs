@@ -3,7 +3,10 @@
 use second::golay::read_header;
 use second::group::{packet, write_group};
 use second::image::write_image;
-use second::table::{ask, board_text, follow, leave, start, subframe_end, Lent, Table, STATE};
+use second::samples::states::started;
+use second::table::{
+    ask, board_text, follow, leave, set_header_flips, start, subframe_end, Lent, Table,
+};
 use second::types::read_type;
 
 const ONES: u32 = 0x7F_FFFF;
@@ -20,7 +23,7 @@ fn header(n: u32) -> (u16, u8) {
 
 /// A state in which address 17 is followed, plain, and a plain packet for it.
 fn following() -> Vec<u8> {
-    let mut state = vec![0; STATE];
+    let mut state = started();
     assert_eq!(follow(&mut state, 17, 0, 2), 0);
     state
 }
@@ -96,7 +99,7 @@ fn limit_2_is_fresh_at_ages_0_and_1_and_stale_at_2() {
 #[test]
 fn addresses_1_and_1022_pass() {
     for address in [1, 1022] {
-        let mut state = vec![0; STATE];
+        let mut state = started();
         assert_eq!(follow(&mut state, address, 0, 1), 0);
         assert_eq!(ask(&state, address), (4, 0, 0));
         assert_eq!(leave(&mut state, address), 0);
@@ -120,7 +123,7 @@ fn addresses_0_and_1023_give_22() {
 /// 22 is not for packets. Free slots have address 0 in their bytes, and yet nobody follows it.
 #[test]
 fn packets_for_addresses_0_and_1023_are_not_followed() {
-    for mut state in [vec![0; STATE], following()] {
+    for mut state in [started(), following()] {
         let before = state.clone();
         for address in [0, 1023] {
             for index in 0..4 {
@@ -134,7 +137,7 @@ fn packets_for_addresses_0_and_1023_are_not_followed() {
 
 #[test]
 fn the_seventeenth_follow_passes_after_a_leave() {
-    let mut state = vec![0; STATE];
+    let mut state = started();
     for address in 101..117 {
         assert_eq!(follow(&mut state, address, 1, 1500), 0);
     }
@@ -177,6 +180,7 @@ fn no_bytes_at_all_give_20() {
     assert_eq!(packet(&mut none, &plain(0)), 20);
     assert_eq!(packet(&mut following(), &[]), 20);
     assert_eq!(subframe_end(&mut none), 20);
+    assert_eq!(set_header_flips(&mut none, 4), 20);
     assert_eq!(ask(&none, 17), (20, 0, 0));
     assert_eq!(board_text(&none, 17, &[]), (20, Lent::Notice, 0, 0));
     assert_eq!(write_group(17, 0, &[], &mut [0; 376]), 20);

@@ -3,7 +3,9 @@
 use second::samples::calls::{self, Call};
 use second::samples::{difference, rounds, states};
 use second::slot::SLOT;
-use second::table::{ask, board_text, follow, leave, start, subframe_end, Lent, STATE};
+use second::table::{
+    ask, board_text, follow, leave, set_header_flips, start, subframe_end, Lent, SETTING_AT, STATE,
+};
 use second::xorshift::Xorshift;
 
 fn calls() -> Vec<Call> {
@@ -13,6 +15,7 @@ fn calls() -> Vec<Call> {
         Call::Leave(17),
         Call::Packet(image),
         Call::SubframeEnd,
+        Call::SetHeaderFlips(2),
         Call::Ask(17),
         Call::BoardText(17, vec![1, 2]),
     ]
@@ -37,7 +40,7 @@ fn is_good(state: &[u8]) -> bool {
 
 /// Address 17 followed in the first slot, and some bytes of it set by hand.
 fn with(at: usize, bytes: &[u8]) -> Vec<u8> {
-    let mut state = vec![0; STATE];
+    let mut state = states::started();
     assert_eq!(follow(&mut state, 17, 1, 300), 0);
     state[at..at + bytes.len()].copy_from_slice(bytes);
     state
@@ -51,7 +54,8 @@ fn a_follow_writes_the_head() {
         state[720..SLOT],
         [17, 0, 0, 0, 44, 1, 0, 0, 0, 0, 0, 0, 1, 0, 0, 0]
     );
-    assert!(state[SLOT..].iter().all(|&byte| byte == 0));
+    assert!(state[SLOT..SETTING_AT].iter().all(|&byte| byte == 0));
+    assert_eq!(state[SETTING_AT..], [3]);
 }
 
 #[test]
@@ -60,7 +64,8 @@ fn start_works_on_anything() {
     let mut state: Vec<u8> = (0..STATE).map(|_| random.below(256) as u8).collect();
     assert!(!is_good(&state));
     assert_eq!(start(&mut state), 0);
-    assert!(state.iter().all(|&byte| byte == 0));
+    assert!(state[..SETTING_AT].iter().all(|&byte| byte == 0));
+    assert_eq!(state[SETTING_AT..], [3]);
     assert!(is_good(&state));
 }
 
@@ -78,7 +83,7 @@ fn bounds_of_the_numbers() {
 
 #[test]
 fn bounds_of_the_bytes() {
-    for (at, most) in [(732, 1), (733, 3), (734, 1), (735, 1)] {
+    for (at, most) in [(732, 1), (733, 3), (734, 1), (735, 1), (11_776, 3)] {
         for byte in 0..=255 {
             assert_eq!(is_good(&with(at, &[byte])), byte <= most);
         }
@@ -174,8 +179,33 @@ fn the_order_of_the_others() {
     assert_eq!(start(&mut bad[1..].to_vec()), 20);
 }
 
+/// It writes the last byte and no other; refused, it writes none. No number is cut to a byte.
+#[test]
+fn the_setting() {
+    let good = with(0, &[]);
+    let bad = with(735, &[2]);
+    for most in [0, 1, 2, 3, 4, 255, 256, 257, 65_539, u32::MAX] {
+        let rows: [(&[u8], u8); 3] = [
+            (&bad[1..], 20),
+            (&bad, 34),
+            (&good, if most <= 3 { 0 } else { 48 }),
+        ];
+        for (state, number) in rows {
+            let mut after = state.to_vec();
+            assert_eq!(set_header_flips(&mut after, most), number);
+            let mut expected = state.to_vec();
+            if number == 0 {
+                expected[11_776] = most as u8;
+            }
+            assert_eq!(difference(&after, &expected), None, "{most}");
+        }
+    }
+}
+
+/// A state of 11,776 bytes, as it was before there was a setting, has the wrong length.
 #[test]
 fn lengths_of_the_state() {
+    assert_eq!(STATE - 1, 11_776);
     for length in [0, 1, 16, 720, SLOT, STATE - 1, STATE + 1, 2 * STATE] {
         for call in calls().into_iter().chain([Call::Start]) {
             let mut state = vec![0xA5; length];
@@ -212,7 +242,7 @@ fn subframe_ends() {
 fn ask_and_board_text() {
     for place in 0..16 {
         for protection in 0..2 {
-            let mut state = vec![0; STATE];
+            let mut state = states::started();
             for address in 1..=16 {
                 assert_eq!(follow(&mut state, address, protection, 3), 0);
             }

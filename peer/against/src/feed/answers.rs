@@ -76,6 +76,8 @@ impl fmt::Display for Refusal {
             44 => "a pair of lines or clock periods is bad",
             45 => "there are too many components",
             46 => "the structure is not known to be whole",
+            48 => "the setting is above 3",
+            49 => "the header is beyond the setting",
             _ => "a number that no call gives",
         };
         write!(text, "{reason} ({})", self.0)

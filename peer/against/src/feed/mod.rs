@@ -22,14 +22,14 @@ pub struct Feed {
 }
 
 impl Feed {
-    /// A state in which nothing is followed.
+    /// A state in which nothing is followed, with the setting 3.
     pub fn new() -> Feed {
         let mut state = Box::new([0; STATE]);
         accepted(calls::start(&mut state[..])).expect("a state of the right length");
         Feed { state }
     }
 
-    /// A state that was kept. Refused: 34, not good.
+    /// A state that was kept, with its setting. Refused: 34, not good.
     pub fn from_bytes(bytes: &[u8; STATE]) -> Result<Feed, Refusal> {
         // No address is 0, so this is refused in any case, and for the address only if all before it is right.
         match calls::ask(bytes, 0) {
@@ -62,9 +62,15 @@ impl Feed {
         accepted(calls::leave(&mut self.state[..], address))
     }
 
-    /// Takes a packet's image in. Refused, and nothing is changed: 20 for its length, 21 for its spare bit, 27 if its
-    /// address is not followed. Refused, and the group under way is given up: 28 to 30 for its type, 31 for a word that
-    /// cannot be read, 32 for its index.
+    /// Sets how many flips are put right in a packet's header at most, 0 to 3, from now on. With fewer, less noise of an
+    /// empty channel is read as an address that is followed. Refused: 48, and the setting stays as it was.
+    pub fn set_header_flips(&mut self, most: u32) -> Result<(), Refusal> {
+        accepted(calls::set_header_flips(&mut self.state[..], most))
+    }
+
+    /// Takes a packet's image in. Refused, and nothing is changed: 20 for its length, 21 for its spare bit, 49 if its
+    /// header has more flips than the setting says, 27 if its address is not followed. Refused, and the group under way is
+    /// given up: 28 to 30 for its type, 31 for a word that cannot be read, 32 for its index.
     pub fn packet(&mut self, image: &[u8]) -> Result<Taken, Refusal> {
         match calls::packet(&mut self.state[..], image) {
             1 => Ok(Taken::Started),

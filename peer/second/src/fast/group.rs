@@ -6,8 +6,8 @@ use super::{header, take_plain, take_words, type_number};
 use crate::group::IMAGES;
 use crate::image::{IMAGE, PROTECTED, USEFUL};
 use crate::numbers::{
-    ADDRESS, DONE, HELD, LENGTH, NOT_FOLLOWED, NOT_GOOD, OUT_OF_STEP, PROTECTION, SPARE_BIT,
-    STARTED, WHOLE, WORD_UNREADABLE,
+    ADDRESS, DONE, HEADER_BEYOND, HELD, LENGTH, NOT_FOLLOWED, NOT_GOOD, OUT_OF_STEP, PROTECTION,
+    SPARE_BIT, STARTED, WHOLE, WORD_UNREADABLE,
 };
 use crate::slot::{ROOM, SLOT};
 use crate::table::STATE;
@@ -26,7 +26,10 @@ pub fn packet(state: &mut [u8], image: &[u8]) -> u8 {
     if image[IMAGE - 1] >> 7 != 0 {
         return SPARE_BIT;
     }
-    let (address, index) = header(image);
+    let (address, index, flips) = header(image);
+    if flips > state::setting(state) {
+        return HEADER_BEYOND;
+    }
     // Free slots have address 0 too.
     let place = addresses.iter().position(|&other| other == address);
     let Some(place) = place.filter(|_| address != 0) else {

@@ -7,17 +7,29 @@ mod tables;
 pub use group::{packet, write_group};
 
 use crate::image::{IMAGE, PROTECTED, USEFUL};
-use crate::numbers::{DONE, LENGTH, TOO_LARGE, WORD_UNREADABLE};
+use crate::numbers::{DONE, HEADER_BEYOND, LENGTH, SETTING, TOO_LARGE, WORD_UNREADABLE};
 use tables::{CHECKS, PARITY_SHIFT, PATTERNS, REMAINDER_MASK, TYPE_NUMBERS, WEIGHT_SHIFT};
 
 const MOST_FLIPS: u32 = 3;
 
 /// (number, address, index, flips), as `golay::read_header` gives them.
 pub fn read_header(n: u32) -> (u8, u16, u8, u8) {
+    read_header_within(n, MOST_FLIPS)
+}
+
+/// (number, address, index, flips), as `golay::read_header_within` gives them.
+#[inline]
+pub fn read_header_within(n: u32, most: u32) -> (u8, u16, u8, u8) {
     if n >> 23 != 0 {
         return (TOO_LARGE, 0, 0, 0);
     }
+    if most > MOST_FLIPS {
+        return (SETTING, 0, 0, 0);
+    }
     let (information, flips) = correct23(n);
+    if flips > most {
+        return (HEADER_BEYOND, 0, 0, 0);
+    }
     let address = information & 0x3FF;
     let index = information >> 10;
     (DONE, address as u16, index as u8, flips as u8)
@@ -51,15 +63,15 @@ pub fn received(protected: bool, image: &[u8], bytes: &mut [u8; USEFUL]) -> (u8,
     } else if let Some(place) = take_protected(image, bytes) {
         return refused(WORD_UNREADABLE, place, bytes);
     }
-    let (_, index) = header(image);
+    let (_, index, _) = header(image);
     (DONE, 0, index as u8)
 }
 
-/// Address and index.
-fn header(image: &[u8; IMAGE]) -> (u32, usize) {
+/// Address, index and flips.
+fn header(image: &[u8; IMAGE]) -> (u32, usize, u32) {
     let header = u32::from_le_bytes([image[0], image[1], image[2] & 0x7F, 0]);
-    let (information, _) = correct23(header);
-    (information & 0x3FF, (information >> 10) as usize)
+    let (information, flips) = correct23(header);
+    (information & 0x3FF, (information >> 10) as usize, flips)
 }
 
 /// The number that the type byte is answered with.

@@ -1,7 +1,8 @@
 //! The state where it lies: places in a slot's bytes, and the test that it is good.
 
+use super::MOST_FLIPS;
 use crate::slot::{ROOM, SLOT};
-use crate::table::{SLOTS, STATE};
+use crate::table::{SETTING_AT, SLOTS, STATE};
 
 const ADDRESS: usize = 2 * ROOM;
 const LIMIT: usize = ADDRESS + 4;
@@ -22,6 +23,9 @@ pub type Slot = [u8; SLOT];
 /// The address of every slot, 0 of a free one; nothing if the state is not good.
 #[inline]
 pub fn addresses(state: &[u8; STATE]) -> Option<[u32; SLOTS]> {
+    if setting(state) > MOST_FLIPS {
+        return None;
+    }
     let (slots, _) = state.as_chunks::<SLOT>();
     let mut addresses = [0; SLOTS];
     let mut seen = [0u64; 16];
@@ -44,6 +48,11 @@ pub fn addresses(state: &[u8; STATE]) -> Option<[u32; SLOTS]> {
         *known = address;
     }
     Some(addresses)
+}
+
+/// The greatest number of flips that is put right in a packet's header.
+pub fn setting(state: &[u8; STATE]) -> u32 {
+    state[SETTING_AT].into()
 }
 
 fn within_bounds(slot: &Slot, address: u32) -> bool {

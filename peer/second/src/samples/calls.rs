@@ -16,6 +16,8 @@ pub enum Call {
     Leave(u32),
     Packet(Vec<u8>),
     SubframeEnd,
+    /// The greatest number of flips to put right in a packet's header.
+    SetHeaderFlips(u32),
     Ask(u32),
     /// Address and notice.
     BoardText(u32, Vec<u8>),
@@ -58,6 +60,7 @@ impl Call {
             &Call::Leave(address) => table::leave(state, address).into(),
             Call::Packet(image) => group::packet(state, image).into(),
             Call::SubframeEnd => table::subframe_end(state).into(),
+            &Call::SetHeaderFlips(most) => table::set_header_flips(state, most).into(),
             &Call::Ask(address) => table::ask(state, address).into(),
             Call::BoardText(address, notice) => table::board_text(state, *address, notice).into(),
         }
@@ -85,6 +88,7 @@ pub fn any(random: &mut Xorshift, state: &[u8]) -> Call {
         96..=170 => Call::SubframeEnd,
         171..=250 => Call::Ask(address),
         251..=300 => Call::BoardText(address, notice(random)),
+        301..=320 => Call::SetHeaderFlips(setting(random)),
         _ => Call::Packet(packet(random, &used)),
     }
 }
@@ -112,6 +116,14 @@ fn limit(random: &mut Xorshift) -> u32 {
     match random.below(8) {
         0 => [0, 1500, 1501, 65_537, u32::MAX][random.below(5)],
         _ => 1 + random.below(12) as u32,
+    }
+}
+
+/// Numbers that would be right once their high bits are cut off, too.
+fn setting(random: &mut Xorshift) -> u32 {
+    match random.below(8) {
+        0 => [4, 5, 255, 256, 65_537, u32::MAX][random.below(6)],
+        _ => random.below(4) as u32,
     }
 }
 

@@ -9,6 +9,7 @@ pub mod states;
 pub mod structures;
 pub mod style;
 
+use crate::golay::word23;
 use crate::image::{self, HEADER_AT, IMAGE, PROTECTED, TYPE_AT, USEFUL, USEFUL_AT, WORD};
 use crate::types::{DATA, TYPES};
 use crate::xorshift::Xorshift;
@@ -45,6 +46,13 @@ pub fn flip_some(random: &mut Xorshift, bytes: &mut [u8], stretch: Range<usize>,
         let place = places.swap_remove(random.below(places.len()));
         flip(bytes, place);
     }
+}
+
+/// A header of any address and index, with exactly so many flips.
+pub fn header(random: &mut Xorshift, flips: usize) -> u32 {
+    let mut bytes = word23(random.below(1 << 12) as u32).to_le_bytes();
+    flip_some(random, &mut bytes, HEADER_AT, flips);
+    u32::from_le_bytes(bytes)
 }
 
 /// The bits of a word in the row of an image.

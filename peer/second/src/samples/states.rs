@@ -1,7 +1,9 @@
-//! States made by hand: good ones, which calls alone need never lead to, and bad ones.
+//! States made by hand: good ones, which calls alone need never lead to, and bad ones; and one as start makes it.
 
+use crate::golay::MOST_FLIPS;
+use crate::numbers::DONE;
 use crate::slot::{Slot, ADDRESSES, MOST_AGE, ROOM, SLOT};
-use crate::table::{SLOTS, STATE};
+use crate::table::{start, SETTING_AT, SLOTS, STATE};
 use crate::xorshift::Xorshift;
 
 /// Where a slot's fields stand, as docs/LAYOUT.md has them.
@@ -13,6 +15,13 @@ const AWAITED: usize = 733;
 const WHOLE: usize = 734;
 const GAP: usize = 735;
 
+/// A state that was started: nothing is followed, and the setting is 3. Bytes of 0 alone have another.
+pub fn started() -> Vec<u8> {
+    let mut state = vec![0; STATE];
+    assert_eq!(start(&mut state), DONE);
+    state
+}
+
 /// A good state. Fields are anywhere within their bounds, and the rooms hold anything.
 pub fn good(random: &mut Xorshift) -> Vec<u8> {
     some_used(random, None)
@@ -23,11 +32,12 @@ fn some_used(random: &mut Xorshift, certain: Option<usize>) -> Vec<u8> {
     let most = random.below(SLOTS + 1);
     let addresses = addresses(random);
     let mut state = vec![0; STATE];
-    for (place, bytes) in state.chunks_mut(SLOT).enumerate() {
+    for (place, bytes) in state.chunks_exact_mut(SLOT).enumerate() {
         if random.below(SLOTS) < most || certain == Some(place) {
             bytes.copy_from_slice(&slot(random, addresses[place]).encode());
         }
     }
+    state[SETTING_AT] = random.below(1 + MOST_FLIPS as usize) as u8;
     state
 }
 
@@ -52,7 +62,7 @@ pub fn bad(random: &mut Xorshift) -> Vec<u8> {
     let other = (place + 1 + random.below(SLOTS - 1)) % SLOTS;
     let mut state = some_used(random, Some(place));
     let slot = &mut state[SLOT * place..][..SLOT];
-    match random.below(11) {
+    match random.below(12) {
         0 => stray_byte(random, slot),
         1 => set(slot, ADDRESS, [0, 1023, 1024][random.below(3)]),
         2 => set(slot, ADDRESS, wide(random, 17)),
@@ -63,6 +73,7 @@ pub fn bad(random: &mut Xorshift) -> Vec<u8> {
         7 => slot[AWAITED] = more_than(random, 3),
         8 => slot[[WHOLE, GAP][random.below(2)]] = more_than(random, 1),
         9 => state.copy_within(SLOT * place..SLOT * (place + 1), SLOT * other),
+        10 => state[SETTING_AT] = [4, 255, more_than(random, 3)][random.below(3)],
         _ => state = (0..STATE).map(|_| random.below(256) as u8).collect(),
     }
     state

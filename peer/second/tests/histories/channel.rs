@@ -1,6 +1,7 @@
 //! What becomes of packets on their way.
 
 use second::fast;
+use second::golay::MOST_FLIPS;
 use second::image::{HEADER_AT, TYPE_AT, USEFUL_AT};
 use second::samples::{flip, flip_some, word_at, WORDS};
 use second::types::read_type;
@@ -9,11 +10,12 @@ use second::xorshift::Xorshift;
 /// What was done to a packet, as far as the bookkeeping has to know it.
 #[derive(Clone, Copy, PartialEq, Eq)]
 pub enum Fate {
-    /// It does not come, or is refused with 20 or 21, or is read as an address that nobody follows.
+    /// It does not come, or is refused with 20 or 21, or with 49 by the setting in force, or is read as an address that
+    /// nobody follows.
     Lost,
     /// It comes, and its type or a word of it cannot be read as data.
     Unreadable,
-    /// It comes, with no more flips than can be put right.
+    /// It comes, with no more flips than can be put right; in its header, than are put right at the setting in force.
     Readable,
 }
 
@@ -44,48 +46,57 @@ impl Channel {
     }
 }
 
-/// What comes of an image that has this fate; nothing if it does not come at all.
+/// What comes of an image that has this fate, at a setting; nothing if it does not come at all.
 pub fn carried(
     random: &mut Xorshift,
     fate: Fate,
+    setting: u32,
     protected: bool,
     image: &[u8],
 ) -> Option<Vec<u8>> {
     let mut image = image.to_vec();
     match fate {
-        Fate::Lost => lose(random, image),
+        Fate::Lost => return lose(random, setting, image),
         Fate::Unreadable => {
-            harm(random, protected, &mut image);
+            harm(random, setting, protected, &mut image);
             spoil(random, protected, &mut image);
-            Some(image)
         }
-        Fate::Readable => {
-            harm(random, protected, &mut image);
-            Some(image)
-        }
+        Fate::Readable => harm(random, setting, protected, &mut image),
     }
+    Some(image)
 }
 
-fn lose(random: &mut Xorshift, mut image: Vec<u8>) -> Option<Vec<u8>> {
-    match random.below(4) {
+fn lose(random: &mut Xorshift, setting: u32, mut image: Vec<u8>) -> Option<Vec<u8>> {
+    match random.below(5) {
         0 => image.truncate(random.below(94)),
         1 => flip(&mut image, USEFUL_AT.end),
-        2 => {
-            let count = 4 + random.below(3);
-            flip_some(random, &mut image, HEADER_AT, count);
-            let n = u32::from_le_bytes([image[0], image[1], image[2] & 0x7F, 0]);
-            let (_, address, _, _) = fast::read_header(n);
-            // All lines have lower addresses.
-            return (address > 1000).then_some(image);
-        }
+        2 => return stray(random, setting, image),
+        3 if setting < MOST_FLIPS => go_beyond(random, setting, &mut image),
         _ => return None,
     }
     Some(image)
 }
 
+/// More flips than the code puts right, so that it reads as another header, unless the setting refuses that: then it may
+/// be near to any address, a line's too. Otherwise it must not be a line's, and all lines have lower addresses than these.
+fn stray(random: &mut Xorshift, setting: u32, mut image: Vec<u8>) -> Option<Vec<u8>> {
+    let count = 4 + random.below(3);
+    flip_some(random, &mut image, HEADER_AT, count);
+    let n = u32::from_le_bytes([image[0], image[1], image[2] & 0x7F, 0]);
+    let (number, address, _, _) = fast::read_header_within(n, setting);
+    (number == 49 || address > 1000).then_some(image)
+}
+
+/// More flips in the header than the setting allows, and no more than the code could put right: of no slot, though the
+/// address is plain to see.
+pub fn go_beyond(random: &mut Xorshift, setting: u32, image: &mut [u8]) {
+    let more = 1 + random.below((MOST_FLIPS - setting) as usize);
+    flip_some(random, image, HEADER_AT, setting as usize + more);
+}
+
 /// Flips that can be put right. In plain data none can.
-fn harm(random: &mut Xorshift, protected: bool, image: &mut [u8]) {
-    let (header, kind) = (random.below(4), random.below(3));
+fn harm(random: &mut Xorshift, setting: u32, protected: bool, image: &mut [u8]) {
+    let (header, kind) = (random.below(1 + setting as usize), random.below(3));
     flip_some(random, image, HEADER_AT, header);
     flip_some(random, image, TYPE_AT, kind);
     for place in 0..WORDS {

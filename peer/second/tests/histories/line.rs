@@ -1,7 +1,9 @@
 //! One address: what was sent to it, what was answered, and what that must have led to.
 
-use crate::channel::{carried, Channel, Fate};
-use second::group::write_group;
+use crate::channel::{carried, go_beyond, Channel, Fate};
+use second::group::{packet, write_group};
+use second::image::write_image;
+use second::samples::difference;
 use second::table::{ask, board_text, follow, leave, Lent};
 use second::xorshift::Xorshift;
 
@@ -70,8 +72,13 @@ impl Line {
         self.followed = false;
     }
 
-    /// The next packet as it comes out of the channel, if it does.
-    pub fn send(&mut self, random: &mut Xorshift, channel: &Channel) -> Option<Vec<u8>> {
+    /// The next packet as it comes out of the channel, if it does. What the setting refuses is lost.
+    pub fn send(
+        &mut self,
+        random: &mut Xorshift,
+        channel: &Channel,
+        setting: u32,
+    ) -> Option<Vec<u8>> {
         if self.next == 0 {
             self.compose(random);
         }
@@ -82,7 +89,7 @@ impl Line {
         };
         self.complete &= self.fate == Fate::Readable;
         let image = &self.images[94 * self.next..][..94];
-        carried(random, self.fate, self.protected, image)
+        carried(random, self.fate, setting, self.protected, image)
     }
 
     fn compose(&mut self, random: &mut Xorshift) {
@@ -103,7 +110,7 @@ impl Line {
             return;
         };
         match self.fate {
-            Fate::Lost => assert!([20, 21, 27].contains(&number), "{number}"),
+            Fate::Lost => assert!([20, 21, 27, 49].contains(&number), "{number}"),
             _ if !self.followed => assert_eq!(number, 27),
             Fate::Unreadable => assert!((28..=31).contains(&number), "{number}"),
             Fate::Readable => assert!([1, 2, 3, 32].contains(&number), "{number}"),
@@ -116,6 +123,17 @@ impl Line {
             assert!(state[at..at + length] == self.message, "the group sent");
             self.shown = Some(self.message.clone());
         }
+    }
+
+    /// What is none of its packets and only looks like one, further off than the setting allows: nothing comes of it,
+    /// whether the line is followed or not, and whatever it awaits.
+    pub fn pass_by(&self, random: &mut Xorshift, state: &mut [u8], setting: u32) {
+        let index = random.below(4) as u32;
+        let mut image = write_image(self.address, index, 0, &random.bytes());
+        go_beyond(random, setting, &mut image);
+        let before = state.to_vec();
+        assert_eq!(packet(state, &image), 49);
+        assert_eq!(difference(state, &before), None);
     }
 
     pub fn subframe_ended(&mut self) {

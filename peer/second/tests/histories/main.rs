@@ -1,34 +1,37 @@
 //! Random histories, and a bookkeeping apart that says what must come of them: a group is handed out exactly if its
 //! four packets came and could be read, as long as no more than three are lost in a row, and ask's number follows from
-//! the answers alone. The bookkeeping knows what was sent and what was done to it; it does not know the state.
+//! the answers alone. A packet that the setting refuses counts as lost. The bookkeeping knows what was set and sent and
+//! what was done to it; it does not know the state.
 
 mod channel;
 mod line;
 
 use channel::Channel;
 use line::Line;
+use second::golay::MOST_FLIPS;
 use second::group::{packet, write_group};
 use second::image::write_image;
 use second::samples::rounds;
-use second::table::{ask, follow, leave, start, subframe_end, STATE};
+use second::samples::states::started;
+use second::table::{ask, follow, leave, set_header_flips, start, subframe_end, STATE};
 use second::xorshift::Xorshift;
 
 const STEPS: usize = 1_500;
 
 /// How often each answer came, and each number of ask.
-type Counts = [usize; 36];
+type Counts = [usize; 50];
 
 #[test]
 fn exactly_the_groups_that_came_and_fresh_by_the_transcript() {
     let mut random = Xorshift::new(81);
-    let mut counts = [0; 36];
+    let mut counts = [0; 50];
     for round in 0..rounds(12) {
         let count = [1, 2, 5, 16][round % 4];
         let channel = Channel::new(&mut random);
         history(&mut random, count, channel, &mut counts);
     }
     // It is only worth something if all of these happen.
-    for number in (1..=7).chain([20, 21, 27]).chain(28..=32) {
+    for number in (1..=7).chain([20, 21, 27, 49]).chain(28..=32) {
         assert!(counts[number] > 30, "{number}: {counts:?}");
     }
 }
@@ -42,6 +45,7 @@ fn history(random: &mut Xorshift, count: usize, channel: Channel, counts: &mut C
     for line in &mut lines {
         line.follow(&mut state);
     }
+    let mut setting = MOST_FLIPS;
     for _ in 0..STEPS {
         let line = random.below(count);
         match random.below(64) {
@@ -49,8 +53,13 @@ fn history(random: &mut Xorshift, count: usize, channel: Channel, counts: &mut C
             1..=3 => lines[line].follow(&mut state),
             4..=7 => end_subframe(&mut state, &mut lines),
             8..=11 => disturb(random, &mut state),
+            12 if setting < MOST_FLIPS => lines[line].pass_by(random, &mut state, setting),
+            13 => {
+                setting = random.below(4) as u32;
+                assert_eq!(set_header_flips(&mut state, setting), 0);
+            }
             _ => {
-                let image = lines[line].send(random, &channel);
+                let image = lines[line].send(random, &channel, setting);
                 let number = image.map(|image| packet(&mut state, &image));
                 lines[line].came(&state, number);
                 counts[usize::from(number.unwrap_or(0))] += 1;
@@ -75,6 +84,7 @@ fn disturb(random: &mut Xorshift, state: &mut [u8]) {
     let stranger = 1001 + random.below(20) as u32;
     let image = write_image(stranger, index, 0, &random.bytes());
     assert_eq!(packet(state, &image), 27);
+    assert_eq!(set_header_flips(state, 4 + random.number() % 256), 48);
     assert_eq!(follow(state, stranger, 2, 5), 23);
     assert_eq!(follow(state, stranger, 1, 0), 24);
     assert_eq!(leave(state, stranger), 27);
@@ -87,7 +97,7 @@ fn four_lost_in_a_row_are_not_seen() {
     let (mut one, mut other) = ([0; 376], [0; 376]);
     assert_eq!(write_group(17, 0, &[1; 360], &mut one), 0);
     assert_eq!(write_group(17, 0, &[2; 360], &mut other), 0);
-    let mut state = vec![0; STATE];
+    let mut state = started();
     assert_eq!(follow(&mut state, 17, 0, 2), 0);
     // Packet 0 of one group, and 1 to 3 of the next.
     let came = one[..94].chunks(94).chain(other[94..].chunks(94));
@@ -104,7 +114,7 @@ fn three_lost_in_a_row_are_seen() {
     let mut images = [0; 376];
     assert_eq!(write_group(17, 0, &[1; 360], &mut images), 0);
     for first in 1..=4 {
-        let mut state = vec![0; STATE];
+        let mut state = started();
         assert_eq!(follow(&mut state, 17, 0, 2), 0);
         let came = (0..12).filter(|k| !(first..first + 3).contains(k));
         let mut whole = Vec::new();

@@ -3,9 +3,9 @@
 use second::golay::{word23, word24};
 use second::group::write_group;
 use second::image::IMAGE;
-use second::samples;
+use second::samples::{self, states};
 use second::slot::group_length;
-use second::table::{follow, STATE};
+use second::table::{follow, set_header_flips, STATE};
 use second::types::DATA;
 use second::xorshift::Xorshift;
 
@@ -53,9 +53,10 @@ pub fn protected(flips: usize) -> Vec<Image> {
     (0..IMAGES).map(|_| image()).collect()
 }
 
-/// A state in which so many addresses are followed, from 1 on.
-pub fn following(count: u32, protected: bool) -> State {
-    let mut state = [0; STATE];
+/// A state in which so many addresses are followed, from 1 on, at a setting.
+pub fn following(count: u32, protected: bool, most: u32) -> State {
+    let mut state: State = states::started().try_into().expect("a state");
+    assert_eq!(set_header_flips(&mut state, most), 0, "a setting");
     for address in 1..=count {
         let number = follow(&mut state, address, protected.into(), 1500);
         assert_eq!(number, 0, "a free slot");

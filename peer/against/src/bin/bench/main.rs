@@ -10,6 +10,7 @@ mod rounds;
 
 use inputs::{Image, State};
 use rounds::Row;
+use second::golay::MOST_FLIPS;
 use second::group::IMAGES;
 use second::image::USEFUL;
 use std::hint::black_box;
@@ -20,16 +21,19 @@ fn main() {
     words("read word, 3 flips", &inputs::words(3));
     headers("read header, clean", &inputs::headers(0));
     headers("read header, 3 flips", &inputs::headers(3));
+    headers_within("read header at setting 3, 3 flips", 3, &inputs::headers(3));
+    headers_within("read header at setting 2, 3 flips: 49", 2, &inputs::headers(3));
     images("received plain, clean", false, &inputs::plain());
     images("received protected, clean", true, &inputs::protected(0));
     let damaged = inputs::protected(3);
     images("received protected, 3 flips a word", true, &damaged);
     for count in [1, 8, 16] {
-        packets("plain, clean", count, false, 0);
-        packets("plain, header 3 flips", count, false, 3);
-        packets("protected, clean", count, true, 0);
-        packets("protected, 3 flips all over", count, true, 3);
+        packets("plain, clean", count, false, 0, MOST_FLIPS);
+        packets("plain, header 3 flips", count, false, 3, MOST_FLIPS);
+        packets("protected, clean", count, true, 0, MOST_FLIPS);
+        packets("protected, 3 flips all over", count, true, 3, MOST_FLIPS);
     }
+    packets("plain, clean, setting 0", 16, false, 0, 0);
     groups("write group, plain", false);
     groups("write group, protected", true);
     maps::measure();
@@ -46,12 +50,20 @@ fn words(name: &str, words: &[u32]) {
 
 fn headers(name: &str, headers: &[u32]) {
     let read = black_box(rival::READ_HEADER);
-    let sum = |(number, address, index, flips): (u8, u16, u8, u8)| {
-        u64::from(number) + u64::from(address) + u64::from(index) + u64::from(flips)
-    };
     let ours = || headers.iter().map(|&header| sum(against::read_header(header))).sum();
     let fast = || headers.iter().map(|&header| sum(read(header))).sum();
     Row::measure(headers.len(), ours, fast).print(name);
+}
+
+fn headers_within(name: &str, most: u32, headers: &[u32]) {
+    let read = black_box(rival::READ_HEADER_WITHIN);
+    let ours = || headers.iter().map(|&header| sum(against::read_header_within(header, most))).sum();
+    let fast = || headers.iter().map(|&header| sum(read(header, most))).sum();
+    Row::measure(headers.len(), ours, fast).print(name);
+}
+
+fn sum((number, address, index, flips): (u8, u16, u8, u8)) -> u64 {
+    u64::from(number) + u64::from(address) + u64::from(index) + u64::from(flips)
 }
 
 fn images(name: &str, protected: bool, images: &[Image]) {
@@ -61,11 +73,11 @@ fn images(name: &str, protected: bool, images: &[Image]) {
     Row::measure(images.len(), ours, fast).print(name);
 }
 
-/// The packet call on a state for each side, with so many slots in use. Every group that begins becomes whole.
-fn packets(name: &str, count: u32, protected: bool, flips: usize) {
+/// The packet call on a state for each side, with so many slots in use, at a setting. Every group that begins becomes whole.
+fn packets(name: &str, count: u32, protected: bool, flips: usize, most: u32) {
     let take = black_box(rival::PACKET);
     let images = inputs::groups(count, protected, flips);
-    let mut states = [inputs::following(count, protected); 2];
+    let mut states = [inputs::following(count, protected, most); 2];
     let [mine, other] = &mut states;
     let ours = || bring_all(against::calls::packet, mine, &images);
     let fast = || bring_all(take, other, &images);

@@ -6,6 +6,7 @@ use second::image::USEFUL;
 
 pub const READ_WORD: fn(u32, &mut u16, &mut u8) -> u8 = read_word;
 pub const READ_HEADER: fn(u32) -> (u8, u16, u8, u8) = fast::read_header;
+pub const READ_HEADER_WITHIN: fn(u32, u32) -> (u8, u16, u8, u8) = fast::read_header_within;
 pub const RECEIVED: fn(bool, &[u8], &mut u8, &mut u8, &mut [u8; USEFUL]) -> u8 = received;
 pub const PACKET: fn(&mut [u8], &[u8]) -> u8 = fast::packet;
 pub const WRITE_GROUP: fn(u32, u32, &[u8], &mut [u8]) -> u8 = fast::write_group;

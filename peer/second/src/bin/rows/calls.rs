@@ -2,11 +2,15 @@
 
 use crate::row::{byte, digest, fill, front, put, turn, wide};
 use crate::Machine;
-use second::golay::{read_header, read_word, write_header, write_word};
+use second::golay::{read_header, read_header_within, read_word, write_header, write_word};
 use second::group::{packet, write_group};
 use second::image::{protect, received, write_image, IMAGE, PROTECTED, USEFUL};
-use second::table::{ask, board_text, follow, leave, start, subframe_end, Lent, STATE};
+use second::table::{ask, board_text, follow, leave, set_header_flips, start, subframe_end, Lent, STATE};
 use second::types::{read_type, write_type};
+
+/// Addresses that a header can have, and headers.
+const ADDRESSES: u32 = 1 << 10;
+const HEADERS: u32 = 1 << 23;
 
 pub struct Calls {
     state: Vec<u8>,
@@ -59,6 +63,7 @@ impl Calls {
             }
             ("leave", &[address]) => self.changed(|state| leave(state, wide(address))),
             ("end", []) => self.changed(subframe_end),
+            ("set-header-flips", &[most]) => self.changed(|state| set_header_flips(state, wide(most))),
             ("packet", &[image, len]) => {
                 let image = front(self.images.get(IMAGE * image as usize..)?, len).to_vec();
                 self.changed(|state| packet(state, &image))
@@ -129,18 +134,17 @@ fn on_codes(name: &str, args: &[u64]) -> Option<Vec<u64>> {
         ("write-word", &[n]) => Some(code(3, wide(n), 0)),
         ("read-type", &[n]) => Some(code(4, wide(n), 0)),
         ("write-type", &[n]) => Some(code(5, wide(n), 0)),
+        ("read-header-within", &[n, most]) => Some(code(6, wide(n), wide(most))),
         ("many", &[call, first, step, times]) => Some(vec![many(call, first, step, times)]),
         _ => None,
     }
 }
 
-fn code(call: u64, n: u32, index: u32) -> Vec<u64> {
+/// A call by its number, with the second argument of those that have one: an index, a setting.
+fn code(call: u64, n: u32, other: u32) -> Vec<u64> {
     match call {
-        0 => {
-            let (number, address, index, flips) = read_header(n);
-            vec![number.into(), address.into(), index.into(), flips.into()]
-        }
-        1 => two(write_header(n, index)),
+        0 => four(read_header(n)),
+        1 => two(write_header(n, other)),
         2 => {
             let (number, information, flips) = read_word(n);
             vec![number.into(), information.into(), flips.into()]
@@ -154,19 +158,28 @@ fn code(call: u64, n: u32, index: u32) -> Vec<u64> {
             let (number, value) = write_type(byte(n.into()));
             two((number, value.into()))
         }
+        6 => four(read_header_within(n, other)),
         _ => panic!("many of no call"),
     }
+}
+
+fn four((number, address, index, flips): (u8, u16, u8, u8)) -> Vec<u64> {
+    vec![number.into(), address.into(), index.into(), flips.into()]
 }
 
 fn two((number, value): (u8, u32)) -> Vec<u64> {
     vec![number.into(), value.into()]
 }
 
-/// Four numbers of each answer, of four bytes.
+/// Four numbers of each answer, of four bytes. One number stands for both arguments of a call that has two.
 fn many(call: u64, first: u64, step: u64, times: u64) -> u64 {
     let answers = (0..times).map(|k| {
         let n = wide(first + k * step);
-        let mut answer = if call == 1 { code(1, n % 1024, n / 1024) } else { code(call, n, 0) };
+        let mut answer = match call {
+            1 => code(1, n % ADDRESSES, n / ADDRESSES),
+            6 => code(6, n % HEADERS, n / HEADERS),
+            _ => code(call, n, 0),
+        };
         answer.resize(4, 0);
         answer
     });
