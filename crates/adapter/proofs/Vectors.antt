@@ -155,7 +155,7 @@ packets = λ i.
 
 -- ---- the plain image with bit 0 of its header turned over, where nothing is followed, at the settings 0 and 1: 49, after 21 and before 27
 
-abbrev turned : List ℕ
+abbrev pub turned : List ℕ
 turned = 0x10 ∷ drop 1 image.plain
 
 abbrev one-flip : Header
@@ -165,15 +165,15 @@ turned-read : headerRead (headerOf turned) ≡ one-flip
 unfolding headerOf number sent bitsOf
 turned-read = sym (within-three 0x75F010) ∙ ap (λ (hs : List Header). getD hs 2 one-flip) (within-each .1)
 
-turned-flips : calls.flipsOf turned ≡ 1
+pub turned-flips : calls.flipsOf turned ≡ 1
 unfolding calls.flipsOf
 turned-flips = ap (λ (h : Header). h .flips) turned-read
 
-turned-address : calls.addressOf turned ≡ 17
+pub turned-address : calls.addressOf turned ≡ 17
 unfolding calls.addressOf
 turned-address = ap (λ (h : Header). h .address) turned-read
 
-turned-spare : spareOf turned ≡ 0
+pub turned-spare : spareOf turned ≡ 0
 unfolding spareOf number sent bitsOf
 turned-spare = refl
 

@@ -21,9 +21,10 @@ use native.Mathlib.Omega.{arith}
 use lib.Dec.{lit<, lit≤}
 use Rattle.history.specs.Sent.{Next}
 use Rattle.head.specs.Head.{wishOf}
-use Rattle.demands.specs.Machine.{follow, leave, packet, subframeEnd, asks, ask}
+use Rattle.demands.specs.Machine.{follow, leave, packet, subframeEnd, setFlips, asks, ask}
+use Rattle.demands.specs.Setting.{settingNow}
 use Rattle.demands.specs.Demand3.{Happening, arrives, call, Apart, Comes, Channel}
-use Rattle.demands.proofs.Damaged.{worked-sent, as-sent, hit, header-three, word-three, word-four, type-eight, Receives, sent-receives, header-receives, word-three-receives, word-four-receives, type-receives, other, other-apart, spare-one, spare-apart, cut, cut-apart}
+use Rattle.demands.proofs.Damaged.{worked-sent, as-sent, hit, header-three, word-three, word-four, type-eight, Receives, sent-receives, header-receives, word-three-receives, word-four-receives, type-receives, other, other-apart, strict, strict-apart, spare-one, spare-apart, cut, cut-apart}
 
 -- ---- the history, from each group on
 
@@ -41,7 +42,9 @@ from-3 =
     arrives 3 0 (as-sent 3 0) ∷ arrives 3 1 (hit 3 1 word-four) ∷ arrives 3 2 (as-sent 3 2) ∷ arrives 3 3 (as-sent 3 3) ∷ from-4
 
 unfoldable pub from-2 : List Happening
-from-2 = arrives 2 0 (as-sent 2 0) ∷ call (packet spare-one) ∷ call (packet cut) ∷ from-3
+from-2 =
+    arrives 2 0 (as-sent 2 0) ∷ call (packet spare-one) ∷ call (packet cut)
+    ∷ call (setFlips 2) ∷ call (packet strict) ∷ call (setFlips 3) ∷ from-3
 
 unfoldable pub from-1 : List Happening
 from-1 =
@@ -55,16 +58,16 @@ worked = arrives 0 2 (as-sent 0 2) ∷ arrives 0 3 (as-sent 0 3) ∷ from-1
 -- ---- it meets the channel's words
 
 -- packet c of group i follows the one before it, and its image is received with the number m
-comes : (i c m : ℕ) {image : List ℕ} → c < 4 → Receives i c image m → Comes true 17 worked-sent (4 * i + c) i c image
+comes : (i c m : ℕ) {image : List ℕ} → c < 4 → Receives i c image m → Comes true 17 worked-sent 3 (4 * i + c) i c image
 comes i c m h r =
     record { next = record { index = h; once = omega arith; lost = λ l. omega arith }; came = r .came; spare = r .spare }
 
 -- the image is as it was sent
-whole : (i c : ℕ) → c < 4 → Comes true 17 worked-sent (4 * i + c) i c (as-sent i c)
+whole : (i c : ℕ) → c < 4 → Comes true 17 worked-sent 3 (4 * i + c) i c (as-sent i c)
 whole i c h = comes i c 0 h (sent-receives i c h)
 
 -- packet 9 is awaited, and packet 12 comes
-late : Comes true 17 worked-sent 9 3 0 (as-sent 3 0)
+late : Comes true 17 worked-sent 3 9 3 0 (as-sent 3 0)
 late = record {
   next = record { index = lit< tt; once = lit≤ tt; lost = λ l. lit≤ tt };
   came = sent-receives 3 0 (lit< tt) .came;
@@ -75,18 +78,18 @@ late = record {
 pub three-lost : Next 4 2 9 3 0 → ⊥
 three-lost q = omega (arith, q .lost (lit< tt))
 
-meets-5 : Channel true 17 worked-sent 20 from-5
+meets-5 : Channel true 17 worked-sent 3 20 from-5
 unfolding from-5 Channel
 meets-5 = (whole 5 0 (lit< tt), (whole 5 1 (lit< tt), (whole 5 2 (lit< tt), (whole 5 3 (lit< tt), tt))))
 
-meets-4 : Channel true 17 worked-sent 16 from-4
-unfolding from-4 Channel Apart
+meets-4 : Channel true 17 worked-sent 3 16 from-4
+unfolding from-4 Channel Apart settingNow
 meets-4 = (
   comes 4 0 29 (lit< tt) (type-receives 4 0 (lit< tt)),
   (whole 4 1 (lit< tt), (whole 4 2 (lit< tt), (whole 4 3 (lit< tt), (tt, (tt, meets-5))))),
 )
 
-meets-3 : Channel true 17 worked-sent 9 from-3
+meets-3 : Channel true 17 worked-sent 3 9 from-3
 unfolding from-3 Channel
 meets-3 = (
   late,
@@ -96,12 +99,12 @@ meets-3 = (
   ),
 )
 
-meets-2 : Channel true 17 worked-sent 8 from-2
-unfolding from-2 Channel
-meets-2 = (whole 2 0 (lit< tt), (spare-apart, (cut-apart, meets-3)))
+meets-2 : Channel true 17 worked-sent 3 8 from-2
+unfolding from-2 Channel Apart settingNow
+meets-2 = (whole 2 0 (lit< tt), (spare-apart, (cut-apart, (tt, (strict-apart, (tt, meets-3))))))
 
-meets-1 : Channel true 17 worked-sent 4 from-1
-unfolding from-1 Channel Apart
+meets-1 : Channel true 17 worked-sent 3 4 from-1
+unfolding from-1 Channel Apart settingNow
 meets-1 = (
   comes 1 0 0 (lit< tt) (header-receives 1 0 (lit< tt)),
   (
@@ -110,6 +113,6 @@ meets-1 = (
   ),
 )
 
-pub worked-channel : Channel true 17 worked-sent 2 worked
+pub worked-channel : Channel true 17 worked-sent 3 2 worked
 unfolding worked Channel
 worked-channel = (whole 0 2 (lit< tt), (whole 0 3 (lit< tt), meets-1))

@@ -34,11 +34,11 @@ use Rattle.slot.proofs.Laws.{unfinished-room, unfinished-put, unfinished-length
 use Rattle.slot.proofs.Heads.{store-unfinished, store-stored, withHead-length}
 use Rattle.slot.proofs.Goods.{good-load, good-cases, free-blank}
 use Rattle.head.proofs.Bounds.{good-aged}
-use Rattle.table.specs.State.{stateSize, slots, slotAt, withSlot, find}
-use Rattle.table.specs.Calls.{startAnswer, startAfter, followAnswer, followAfter, leaveAnswer, leaveAfter, endAnswer, ages, endAfter}
-use Rattle.table.proofs.States.{good-each, slot-length, slot-same, slot-other, address-is, find-has, zero-free}
-use Rattle.table.proofs.Looking.{Passed, state-passed}
-use Rattle.table.proofs.Kept.{Followed, follow-passed, leave-passed}
+use Rattle.table.specs.State.{stateSize, withSetting, startedState, slots, slotAt, withSlot, find}
+use Rattle.table.specs.Calls.{startAnswer, startAfter, followAnswer, followAfter, leaveAnswer, leaveAfter, endAnswer, ages, endAfter, setAnswer, setAfter}
+use Rattle.table.proofs.States.{good-each, slot-length, slot-same, slot-other, slot-kept, address-is, find-has, zero-free}
+use Rattle.table.proofs.Looking.{Passed, state-passed, set-passed}
+use Rattle.table.proofs.Kept.{Followed, follow-passed, leave-passed, slot-started}
 use Rattle.table.proofs.Doing.{start-passed}
 use Rattle.asking.specs.Asking.{groupLength}
 use Rattle.faults.specs.Faults.{numberDrops}
@@ -47,7 +47,7 @@ use Rattle.group.proofs.Laws.{Fits, row-fits, moved-head, started-stored, held-
 use Rattle.group.proofs.Doing.{begun-length, room-length, joined-length, out-drops, block-le}
 use Rattle.adapter.specs.Calls.{addressOf, readingAt, packetAfter}
 use Rattle.adapter.proofs.Laws.{packet-refused}
-use Rattle.demands.specs.Machine.{Call, start, follow, leave, packet, subframeEnd, asks, ours, ourAfter}
+use Rattle.demands.specs.Machine.{Call, start, follow, leave, packet, subframeEnd, setFlips, asks, ours, ourAfter}
 use Rattle.demands.specs.Clean.{heldLength, shownLength, CleanSlot, Clean, StaysClean}
 use Rattle.demands.proofs.View.{group-four, needs-four}
 use Rattle.demands.proofs.Serving.{here-size, here-good, older, ages-at}
@@ -236,19 +236,18 @@ with-clean : (s : List ℕ) (k : ℕ) (b : List ℕ) → length s ≡ stateSize 
 with-clean s k b l h lb cb =
     change-clean s (withSlot k b s) k (subst CleanSlot (sym (slot-same s l k b h lb)) cb) (slot-other s l k b h lb)
 
-state-clean : Clean (blank stateSize)
-unfolding slotAt
-state-clean k h = subst CleanSlot (sym (part-blank (k * slotSize) slotSize stateSize (omega arith))) blank-clean
+state-clean : Clean startedState
+state-clean k h = subst CleanSlot (sym (slot-started k h)) blank-clean
 
 begins : (s : List ℕ) → length s ≡ stateSize → Clean (startAfter s)
 unfolding startAfter
-begins s l = subst Clean (sym (done-passed (startAnswer s) (blank stateSize) s (sym (start-passed s l)))) state-clean
+begins s l = subst Clean (sym (done-passed (startAnswer s) startedState s (sym (start-passed s l)))) state-clean
 
 -- a call that is refused changes nothing, so nothing need be known of the state
 module _ (s : List ℕ) (c : Clean s) where
   start-clean : Clean (startAfter s)
   unfolding startAfter
-  start-clean = done-either Clean (startAnswer s) (blank stateSize) s (λ e. state-clean) c
+  start-clean = done-either Clean (startAnswer s) startedState s (λ e. state-clean) c
 
   follow-clean : (w : Wish) → Clean (followAfter s w)
   unfolding followAfter
@@ -279,6 +278,12 @@ module _ (s : List ℕ) (c : Clean s) where
           subst CleanSlot (sym (ages-at slots 0 s (omega arith) (p .size) j (omega arith) h))
           (aged-clean (slotAt j s) (slot-length s (p .size) j h) (good-each s (p .all-good) .slot j h) (c j h))
 
+  set-clean : (most : ℕ) → Clean (setAfter s most)
+  unfolding setAfter
+  set-clean most =
+      done-either Clean (setAnswer s most) (withSetting most s) s
+      (λ e k h. subst CleanSlot (sym (slot-kept s (set-passed s most e .0 .size) most k h)) (c k h)) c
+
   packet-clean : (image : List ℕ) → Clean (packetAfter s image)
   packet-clean image =
       by-place s image (λ ne. subst Clean (sym (packet-refused s image ne .1)) c)
@@ -296,6 +301,7 @@ stays (follow w) s c = follow-clean s c w
 stays (leave a) s c = leave-clean s c a
 stays (packet image) s c = packet-clean s c image
 stays subframeEnd s c = end-clean s c
+stays (setFlips most) s c = set-clean s c most
 stays (asks q) s c = c
 
 pub stays-clean : StaysClean ours

@@ -33,10 +33,10 @@ use Rattle.packet.specs.Received.{received}
 use Rattle.packet.specs.Damage.{sentImage, Came, Corrected}
 use Rattle.packet.specs.declared.Reading.{Reading}
 use Rattle.packet.proofs.Answers.{answer-length}
-use Rattle.packet.proofs.Damages.{sent-corrected, corrected-came, sent-spare, received-sent, header-came}
+use Rattle.packet.proofs.Damages.{sent-corrected, corrected-came, sent-spare, received-sent, header-came, header-flipped-by}
 use Rattle.packet.proofs.Flipped.{Flipping, flipped, Fits, wordFlips, flipped-spare, flipped-header, flipped-type, flipped-word, flipped-came, flipped-read, flipped-short, flipped-control, spareSet, spareSet-spare, spareSet-header}
 use Rattle.history.specs.Sent.{Sent}
-use Rattle.adapter.specs.Calls.{addressOf}
+use Rattle.adapter.specs.Calls.{addressOf, flipsOf}
 use Rattle.demands.specs.Machine.{packet, Bytes}
 use Rattle.demands.specs.Demand3.{Carries, Apart}
 
@@ -64,7 +64,7 @@ worked-carried = record { size = λ i c h. sent-size i c; bytes = λ i c h. sent
 -- ---- what comes of a packet
 
 pub record Receives (i c : ℕ) (image : List ℕ) (n : ℕ) : Type 0 where
-  pub came : Came true (sentImage true 17 c (worked-sent i c)) image
+  pub came : Came true 3 (sentImage true 17 c (worked-sent i c)) image
   pub spare : spareOf image ≡ 0
   pub number : received true image .number ≡ n
 
@@ -73,7 +73,7 @@ as-sent i c = sentImage true 17 c (worked-sent i c)
 
 pub sent-receives : (i c : ℕ) → c < 4 → Receives i c (as-sent i c) 0
 sent-receives i c h = record {
-  came = corrected-came true (as-sent i c) (as-sent i c) (sent-corrected true 17 c (worked-sent i c));
+  came = corrected-came true 3 (as-sent i c) (as-sent i c) (sent-corrected true 3 17 c (worked-sent i c));
   spare = sent-spare true 17 c (worked-sent i c) (lit≤ tt) (omega arith) (sent-size i c) (sent-bytes i c);
   number = ap (λ (r : Reading). r .number) (received-sent true 17 c (worked-sent i c) (lit≤ tt) (omega arith) (sent-size i c) (sent-bytes i c));
 }
@@ -167,10 +167,10 @@ module _ (i c : ℕ) (h : c < 4) where
   type-counted = flipped-type 17 c (worked-sent i c) type-eight type-fits ∙ type-flips
 
   -- so neither these four nor these eight are within what the codes correct
-  pub word-four-beyond : Corrected true (as-sent i c) (hit i c word-four) → ⊥
+  pub word-four-beyond : Corrected true 3 (as-sent i c) (hit i c word-four) → ⊥
   word-four-beyond q = omega (arith, word-four-counted, q .useful 29 (lit< tt))
 
-  pub type-beyond : Corrected true (as-sent i c) (hit i c type-eight) → ⊥
+  pub type-beyond : Corrected true 3 (as-sent i c) (hit i c type-eight) → ⊥
   type-beyond q = omega (arith, type-counted, q .type)
 
   -- ---- and received so
@@ -179,7 +179,7 @@ module _ (i c : ℕ) (h : c < 4) where
   header-receives =
       let few : ones 0x400801 ≤ 3 = omega (arith, three-ones) in
       record {
-        came = flipped-came 17 c (worked-sent i c) header-three header-fits few (no-ones 4);
+        came = flipped-came 17 c (worked-sent i c) header-three header-fits 3 few (no-ones 4);
         spare = flipped-spare 17 c (worked-sent i c) header-three header-fits;
         number = ap (λ (r : Reading). r .number) (flipped-read 17 c (worked-sent i c) header-three header-fits few no-flips (no-ones 3));
       }
@@ -188,21 +188,21 @@ module _ (i c : ℕ) (h : c < 4) where
   word-three-receives =
       let few : ones 0x801001 ≤ 3 = omega (arith, three-word-ones) in
       record {
-        came = flipped-came 17 c (worked-sent i c) word-three three-fits (no-ones 3) (omega (arith, few));
+        came = flipped-came 17 c (worked-sent i c) word-three three-fits 3 (no-ones 3) (omega (arith, few));
         spare = flipped-spare 17 c (worked-sent i c) word-three three-fits;
         number = ap (λ (r : Reading). r .number) (flipped-read 17 c (worked-sent i c) word-three three-fits (no-ones 3) no-flips few);
       }
 
   pub word-four-receives : Receives i c (hit i c word-four) 31
   word-four-receives = record {
-    came = flipped-came 17 c (worked-sent i c) word-four four-fits (no-ones 3) (omega (arith, four-word-ones));
+    came = flipped-came 17 c (worked-sent i c) word-four four-fits 3 (no-ones 3) (omega (arith, four-word-ones));
     spare = flipped-spare 17 c (worked-sent i c) word-four four-fits;
     number = flipped-short 17 c (worked-sent i c) word-four four-fits plain-near four-word-ones;
   }
 
   pub type-receives : Receives i c (hit i c type-eight) 29
   type-receives = record {
-    came = flipped-came 17 c (worked-sent i c) type-eight type-fits (no-ones 3) (no-ones 4);
+    came = flipped-came 17 c (worked-sent i c) type-eight type-fits 3 (no-ones 3) (no-ones 4);
     spare = flipped-spare 17 c (worked-sent i c) type-eight type-fits;
     number = flipped-control 17 c (worked-sent i c) type-eight type-fits control-near;
   }
@@ -223,7 +223,7 @@ unfolding addressOf
 other-read =
     header-came true 18 0 (worked-sent 0 0) (lit≤ tt) (lit≤ tt) (sent-size 0 0) (sent-bytes 0 0) other (omega (arith, other-counted)) .0
 
-pub other-apart : Apart 17 (packet other)
+pub other-apart : Apart 17 3 (packet other)
 unfolding Apart
 other-apart = inr (λ q. omega (arith, q, other-read))
 
@@ -242,9 +242,9 @@ pub spare-read : addressOf spare-one ≡ 17
 unfolding addressOf
 spare-read = ap (λ (n : ℕ). headerRead n .address) (spareSet-header (as-sent 2 1) (long 2 1 (lit< tt))) ∙ sent-read 2 1 (lit< tt)
 
-pub spare-apart : Apart 17 (packet spare-one)
+pub spare-apart : Apart 17 3 (packet spare-one)
 unfolding Apart
-spare-apart = inl (inr (spareSet-spare (as-sent 2 1) (long 2 1 (lit< tt))))
+spare-apart = inl (inr (inl (spareSet-spare (as-sent 2 1) (long 2 1 (lit< tt)))))
 
 abbrev pub cut : List ℕ
 cut = take 93 (as-sent 2 2)
@@ -264,6 +264,25 @@ cut-read =
 pub cut-number : received true cut .number ≡ 20
 cut-number = ap (λ (r : Reading). r .number) (answer-length true cut cut-short)
 
-pub cut-apart : Apart 17 (packet cut)
+pub cut-apart : Apart 17 3 (packet cut)
 unfolding Apart
 cut-apart = inl (inl cut-short)
+
+-- three flips in the header, where the setting is 2: it is read as the address, and yet lost
+abbrev pub strict : List ℕ
+strict = hit 2 3 header-three
+
+pub strict-flips : flipsOf strict ≡ 3
+unfolding flipsOf
+strict-flips =
+    header-flipped-by true 17 3 (worked-sent 2 3) (lit≤ tt) (lit≤ tt) (sent-size 2 3) (sent-bytes 2 3) strict
+    (header-receives 2 3 (lit< tt) .came .header) ∙ header-counted 2 3 (lit< tt)
+
+pub strict-read : addressOf strict ≡ 17
+unfolding addressOf
+strict-read =
+    header-came true 17 3 (worked-sent 2 3) (lit≤ tt) (lit≤ tt) (sent-size 2 3) (sent-bytes 2 3) strict (header-receives 2 3 (lit< tt) .came .header) .0
+
+pub strict-apart : Apart 17 2 (packet strict)
+unfolding Apart
+strict-apart = inl (inr (inr (omega (arith, strict-flips))))

@@ -20,7 +20,7 @@ use Rattle.bits.specs.Bits.{blank}
 use Rattle.bits.proofs.Storing.{blank-length}
 use Rattle.head.specs.Head.{askNumber, wishOf}
 use Rattle.head.specs.Move.{perOf, needsOf, rowOf, moveOf, moveNumber, movedHead}
-use Rattle.table.specs.State.{find}
+use Rattle.table.specs.State.{setting, find}
 use Rattle.table.specs.Calls.{followAnswer, followAfter, endAfter}
 use Rattle.table.proofs.Looking.{leave-27}
 use Rattle.table.proofs.States.{each-good}
@@ -39,7 +39,7 @@ use Rattle.demands.specs.Empty.{fixed, answerTo, leaving, deaf, untouchi
 use Rattle.demands.specs.Seen.{eventsAt, eventsOf, seenIn}
 use Rattle.demands.proofs.Serving.{view}
 use Rattle.demands.proofs.Calling.{follow-serves}
-use Rattle.demands.proofs.Second.{sent-sound}
+use Rattle.demands.proofs.Second.{sent-sound, sound-more}
 use Rattle.demands.proofs.Parts.{shown-here}
 use Rattle.demands.proofs.Examples.{bytes-zero, empty-state, empty-passed, empty-absent, accepted, zeros, zeros-carried, clean, whole-group, whole-channel, whole-arrived, clean-arrives, clean-index, end-step, yes-2}
 use Rattle.demands.proofs.Turns.{begun-at, first-step, four, four-events, four-then, says}
@@ -86,7 +86,7 @@ module _ (m : Machine) (d : Demand3 m) where
   begun = m .after (follow (wishOf 17 0 2)) empty-state
 
   handed : Exactly 4 zeros (Arrived false whole-group) (handedOut m 17 (calls whole-group) begun)
-  handed = d .exactly empty-state (wishOf 17 0 2) yes-2 zeros zeros-carried 0 whole-group whole-channel
+  handed = d .exactly empty-state (wishOf 17 0 2) yes-2 zeros zeros-carried 0 whole-group (whole-channel _)
 
 -- ---- one fixed answer
 
@@ -116,8 +116,8 @@ fixed-unread n d =
       message = blank-length 360;
       output = blank-length 376;
     } in
-    let sound : (i : ℕ) → i < 4 → Sound false (writeAfter 17 0 (blank 360) (blank 376)) i (imageAt (writeAfter 17 0 (blank 360) (blank 376)) i) =
-    λ i h. sent-sound 17 0 (blank 360) (blank 376) writable (bytes-zero 360) i h in
+    let sound : (i : ℕ) → i < 4 → Sound false (setting t) (writeAfter 17 0 (blank 360) (blank 376)) i (imageAt (writeAfter 17 0 (blank 360) (blank 376)) i) =
+    λ i h. sound-more false (setting t) _ i _ (sent-sound 17 0 (blank 360) (blank 376) writable (bytes-zero 360) i h) in
     let back = d .back t 17 0 (blank 360) (blank 376) _ _ _ _ follows (blank-length 360) (bytes-zero 360) (blank-length 376)
     (sound 0 (lit< tt)) (sound 1 (lit< tt)) (sound 2 (lit< tt)) (sound 3 (lit< tt)) in
     let done : n ≡ 0 = d .writes 17 0 (blank 360) (blank 376) writable in
@@ -158,7 +158,7 @@ deaf-fails n d = go (ℕ-discrete n 3)
         let s = followAfter empty-state (wishOf 17 0 2) in
         let rest = handedOut (deaf n) 17 (packets (clean 1 ∷ clean 2 ∷ clean 3 ∷ [])) s in
         no-empty _ (handed (deaf n) d) rest
-        (ap₂ (λ (b c : Bool). cond (b && c) (askPart s 17 ∷ rest) rest) (eq-eqb (addressOf (clean 0)) 17 (clean-arrives 0 (lit< tt) .address)) (eq-eqb n 3 e)
+        (ap₂ (λ (b c : Bool). cond (b && c) (askPart s 17 ∷ rest) rest) (eq-eqb (addressOf (clean 0)) 17 (clean-arrives 0 0 (lit< tt) .address)) (eq-eqb n 3 e)
         ∙ ap (λ (l : List ℕ). l ∷ rest) (new-shows 2 yes-2))
 
 -- ---- nothing touched
@@ -197,7 +197,7 @@ nodding-fails d =
     let t = begun-at 2 in
     let one-step = first-step 2 yes-2 in
     let s = packetAfter t (clean 0) in
-    let at : (c : ℕ) → c < 4 → addressOf (clean c) ≡ 17 = λ c h. clean-arrives c h .address in
+    let at : (c : ℕ) → c < 4 → addressOf (clean c) ≡ 17 = λ c h. clean-arrives 0 c h .address in
     let h1 = packet (clean 1) ∷ packet (clean 2) ∷ packet (clean 3) ∷ [] in
     let shows : askPart s 17 ≡ [] = shown-here s 17 (one-step .next .serves) ∙ ap (λ (f : one.Followed). f .last) (one-step .next .seen) in
     let begins : handedOut nodding 17 (packet (clean 0) ∷ h1) t ≡ handedOut nodding 17 h1 s =
@@ -214,11 +214,11 @@ nodding-fails d =
 -- ask after the four packets and calls behind them, by the demand
 module _ (m : Machine) (d : Demand3 m) (h : List Call) (st : AllStay 17 (four ++ h)) where
   after-four : m .answer (asks (ask 17)) (run m (four ++ h) (m .after (follow (wishOf 17 0 1)) empty-state))
-      ≡ called 1 (told (four-events ++ eventsOf 17 false h) (one.followed (wishOf 17 0 1)) [])
+      ≡ called 1 (told (four-events ++ eventsOf 17 false (setting empty-state) h) (one.followed (wishOf 17 0 1)) [])
   unfolding one.followed
   after-four =
       d .follows empty-state (wishOf 17 0 1) yes-1 .asks (four ++ h) st
-      ∙ ap (λ (es : List one.Event). called 1 (told es (one.followed (wishOf 17 0 1)) [])) (four-then h)
+      ∙ ap (λ (es : List one.Event). called 1 (told es (one.followed (wishOf 17 0 1)) [])) (four-then (setting empty-state) h)
 
 pub still-fails : Demand3 still → ⊥
 unfolding questionAnswer told entry run leaving AllStay Stays ourAnswer eventsOf eventsAt one.followed one.after one.answer one.moved one.begun one.joined one.lastOf one.aged perOf needsOf rowOf moveOf moveNumber movedHead askNumber called anyWhole isWhole sinceWhole ends marked

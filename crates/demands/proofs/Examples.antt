@@ -16,6 +16,7 @@ use mathlib.Core.List.{List, [], _∷_}
 use mathlib.Core.Logic.{inl, inr}
 use Prim.Native.Nat.{ℕ, zero, suc, _≤_, _<_}
 use native.Mathlib.Omega.{arith}
+use native.Mathlib.Nat.{le-trans}
 use native.Mathlib.Decide.{decLt}
 use lib.Dec.{ltb, eqb, lit≤, lit<}
 use borrow.Author.Tests.{not-false}
@@ -33,11 +34,11 @@ use Rattle.slot.specs.Slot.{slotSize, headOf}
 use Rattle.head.specs.declared.Head.{Head}
 use Rattle.runs.proofs.Parts.{blank-at}
 use Rattle.slot.proofs.Goods.{head-blank}
-use Rattle.table.specs.State.{stateSize, slots, addressAt, find}
+use Rattle.table.specs.State.{setting, startedState, slots, addressAt, find}
 use Rattle.table.specs.Calls.{followAnswer, endAfter}
 use Rattle.table.proofs.Looking.{Passed, follow-0}
 use Rattle.table.proofs.States.{address-is, each-good, find-has, find-none}
-use Rattle.table.proofs.Kept.{slot-blank, blank-good}
+use Rattle.table.proofs.Kept.{started-length, slot-started, started-good}
 use Rattle.history.specs.Followed as one
 use Rattle.history.specs.Sent.{Sent}
 use Rattle.adapter.specs.Calls.{packetAnswer, packetAfter}
@@ -50,15 +51,15 @@ use Rattle.demands.proofs.Telling.{next, answer-by}
 use Rattle.demands.proofs.Channels.{came-arrives, came-event}
 
 abbrev pub empty-state : List ℕ
-empty-state = blank stateSize
+empty-state = startedState
 
 -- no slot of it has an address
 pub empty-address : (k : ℕ) → k < slots → addressAt empty-state k ≡ 0
 empty-address k h =
-    sym (address-is empty-state k) ∙ ap (λ (x : List ℕ). headOf x .wish .address) (slot-blank k h) ∙ ap (λ (h : Head). h .wish .address) (head-blank slotSize)
+    sym (address-is empty-state k) ∙ ap (λ (x : List ℕ). headOf x .wish .address) (slot-started k h) ∙ ap (λ (h : Head). h .wish .address) (head-blank slotSize)
 
 pub empty-passed : Passed empty-state
-empty-passed = record { size = blank-length stateSize; all-good = each-good empty-state blank-good }
+empty-passed = record { size = started-length; all-good = each-good empty-state started-good }
 
 pub empty-absent : (a : ℕ) → 0 < a → slots ≤ find empty-state a
 empty-absent a h = go (decLt (find empty-state a) slots)
@@ -99,21 +100,21 @@ abbrev pub whole-group : List Happening
 whole-group = arrives 0 0 (clean 0) ∷ arrives 0 1 (clean 1) ∷ arrives 0 2 (clean 2) ∷ arrives 0 3 (clean 3) ∷ []
 
 -- so at any address
-pub comes-at : (a : ℕ) → a ≤ 1023 → (c : ℕ) → c < 4 → Comes false a zeros c 0 c (sentImage false a c (blank 90))
-comes-at a ha c h =
+pub comes-at : (a k : ℕ) → a ≤ 1023 → (c : ℕ) → c < 4 → Comes false a zeros k c 0 c (sentImage false a c (blank 90))
+comes-at a k ha c h =
     let image = sentImage false a c (blank 90) in
     record {
       next = record { index = h; once = omega arith; lost = λ l. omega arith };
-      came = corrected-came false image image (sent-corrected false a c (blank 90));
+      came = corrected-came false k image image (sent-corrected false k a c (blank 90));
       spare = sent-spare false a c (blank 90) ha (omega arith) (blank-length 90) (bytes-zero 90);
     }
 
-comes : (c : ℕ) → c < 4 → Comes false 17 zeros c 0 c (clean c)
-comes c h = comes-at 17 (lit≤ tt) c h
+comes : (k c : ℕ) → c < 4 → Comes false 17 zeros k c 0 c (clean c)
+comes k c h = comes-at 17 k (lit≤ tt) c h
 
-pub whole-channel : Channel false 17 zeros 0 whole-group
+pub whole-channel : (k : ℕ) → Channel false 17 zeros k 0 whole-group
 unfolding Channel
-whole-channel = (comes 0 (lit< tt), (comes 1 (lit< tt), (comes 2 (lit< tt), (comes 3 (lit< tt), tt))))
+whole-channel k = (comes k 0 (lit< tt), (comes k 1 (lit< tt), (comes k 2 (lit< tt), (comes k 3 (lit< tt), tt))))
 
 pub clean-read : (c : ℕ) → c < 4 → received false (clean c) ≡ readableAs c (blank 90)
 clean-read c h = received-sent false 17 c (blank 90) (lit≤ tt) (omega arith) (blank-length 90) (bytes-zero 90)
@@ -131,25 +132,27 @@ whole-arrived (suc (suc (suc (suc c)))) h = absurd (omega arith)
 
 -- ---- as events
 
-pub clean-arrives : (c : ℕ) → c < 4 → Arrives 17 (clean c)
-clean-arrives c h =
-    came-arrives false 17 c (blank 90) (clean c) (lit≤ tt) h (blank-length 90) (bytes-zero 90) (comes c h .came) (comes c h .spare)
+-- at every setting
+pub clean-arrives : (k c : ℕ) → c < 4 → Arrives 17 k (clean c)
+clean-arrives k c h =
+    let r = came-arrives false 0 17 c (blank 90) (clean c) (lit≤ tt) (lit≤ tt) h (blank-length 90) (bytes-zero 90) (comes 0 c h .came) (comes 0 c h .spare) in
+    record { size = r .size; spare = r .spare; within = le-trans (r .within) (omega arith); address = r .address }
 
 pub clean-index : (c : ℕ) → c < 4 → headerRead (headerOf (clean c)) .index ≡ c
-clean-index c h = header-came false 17 c (blank 90) (lit≤ tt) (omega arith) (blank-length 90) (bytes-zero 90) (clean c) (comes c h .came .header) .1
+clean-index c h = header-came false 17 c (blank 90) (lit≤ tt) (omega arith) (blank-length 90) (bytes-zero 90) (clean c) (comes 3 c h .came .header) .1
 
 pub clean-read-event : (c : ℕ) → c < 4 → eventOf false (clean c) ≡ one.packet c (blank 90)
 clean-read-event c h =
-    came-event false 17 c (blank 90) (clean c) (lit≤ tt) h (blank-length 90) (bytes-zero 90) (comes c h .came) (clean-number c h)
+    came-event false 0 17 c (blank 90) (clean c) (lit≤ tt) (lit≤ tt) h (blank-length 90) (bytes-zero 90) (comes 0 c h .came) (clean-number c h)
 
 stays-here : (c : ℕ) → Stays 17 (packet (clean c))
 unfolding Stays
 stays-here c = tt
 
-pub clean-event : (c : ℕ) → c < 4 → eventsAt 17 false (packet (clean c)) ≡ one.packet c (blank 90) ∷ []
+pub clean-event : (k c : ℕ) → c < 4 → eventsAt 17 false k (packet (clean c)) ≡ one.packet c (blank 90) ∷ []
 unfolding eventsAt
-clean-event c h =
-    ap (λ (b : Bool). cond b (eventOf false (clean c) ∷ []) []) (is-arrives 17 (clean c) (clean-arrives c h))
+clean-event k c h =
+    ap (λ (b : Bool). cond b (eventOf false (clean c) ∷ []) []) (is-arrives 17 k (clean c) (clean-arrives k c h))
     ∙ ap (λ (e : one.Event). e ∷ []) (clean-read-event c h)
 
 -- ---- a step of a history: one of the packets, or a subframe's end, where the address is known
@@ -164,13 +167,13 @@ clean-step s f k p c h =
     let plain : by (view s 17) ≡ false = ap by (k .seen) ∙ ap (λ (n : ℕ). eqb n 1) p in
     let n = next s 17 (k .serves) (packet (clean c)) (stays-here c) in
     record {
-      answer = answer-by s 17 (k .serves) (clean c) (clean-arrives c h)
+      answer = answer-by s 17 (k .serves) (clean c) (clean-arrives (setting s) c h)
           ∙ ap₂ (λ (b : Bool) (g : one.Followed). one.answer (eventOf b (clean c)) g) plain (k .seen)
           ∙ ap (λ (e : one.Event). one.answer e f) (clean-read-event c h);
       next = record {
         serves = n .serves;
-        seen = n .seen ∙ ap₂ (λ (b : Bool) (g : one.Followed). one.run (eventsAt 17 b (packet (clean c))) g) plain (k .seen)
-            ∙ ap (λ (es : List one.Event). one.run es f) (clean-event c h);
+        seen = n .seen ∙ ap₂ (λ (b : Bool) (g : one.Followed). one.run (eventsAt 17 b (setting s) (packet (clean c))) g) plain (k .seen)
+            ∙ ap (λ (es : List one.Event). one.run es f) (clean-event (setting s) c h);
       };
     }
 

@@ -19,7 +19,7 @@ use lib.Dec.{eqb, leb}
 use lib.ListN.{length}
 use Rattle.bits.specs.Bits.{blank}
 use Rattle.bits.specs.Rows.{done, given}
-use Rattle.bare.specs.Bare.{headerRead, headerWritten, wordRead, wordWritten, typeRead, typeWritten}
+use Rattle.bare.specs.Bare.{headerRead, headerWithin, headerWritten, wordRead, wordWritten, typeRead, typeWritten}
 use Rattle.bits.proofs.Rows.{further-refused, further-passed, done-refused, done-passed}
 use Rattle.packet.specs.Damage.{Refused}
 use Rattle.packet.specs.declared.Reading.{Reading}
@@ -30,9 +30,10 @@ use Rattle.head.specs.Head.{askNumber}
 use Rattle.head.specs.Move.{Move, started, held, whole, outOfStep, moveNumber, rowAt, placeAt}
 use Rattle.head.specs.declared.Head.{Head}
 use Rattle.head.specs.declared.Wish.{Wish}
-use Rattle.table.specs.State.{stateSize, slotAt, find}
-use Rattle.table.specs.Calls.{startAnswer, startAfter, followAnswer, followAfter, leaveAnswer, leaveAfter, endAnswer, endAfter}
+use Rattle.table.specs.State.{stateSize, startedState, slotAt, find}
+use Rattle.table.specs.Calls.{startAnswer, startAfter, followAnswer, followAfter, leaveAnswer, leaveAfter, endAnswer, endAfter, setAnswer, setAfter}
 use Rattle.table.proofs.Doing.{start-passed}
+use Rattle.table.proofs.Vectors.{started-bytes}
 use Rattle.asking.specs.Asking.{askedAt, askedBy, asked, askPart}
 use Rattle.asking.specs.declared.Asked.{Asked}
 use Rattle.asking.proofs.Laws.{asked-group, asked-none, asked-refused, asked-found}
@@ -44,14 +45,14 @@ use Rattle.group.proofs.Doing.{out-drops, taken-dropped}
 use Rattle.history.specs.Sent.{In}
 use Rattle.adapter.specs.Calls.{addressOf, unplaced, readingAt, packetAnswer, packetAfter, writeAnswer, writeAfter}
 use Rattle.adapter.proofs.Laws.{Placed, packet-refused}
-use Rattle.demands.specs.Machine.{Call, start, follow, leave, packet, subframeEnd, asks, ask, Question, ours, questionAnswer, ourAnswer, ourAfter, ourBoard, Bare, readHeader, writeHeader, readWord, writeWord, readType, writeType, bareNumber, bareValues}
+use Rattle.demands.specs.Machine.{Call, start, follow, leave, packet, subframeEnd, setFlips, asks, ask, Question, ours, questionAnswer, ourAnswer, ourAfter, ourBoard, Bare, readHeader, readWithin, writeHeader, readWord, writeWord, readType, writeType, bareNumber, bareValues}
 use Rattle.demands.specs.Table.{member}
 use Rattle.demands.specs.Demand1.{unchanging, dropping, Dropped, DroppedBy, Demand1, AllZero}
 use Rattle.demands.proofs.Numbers.{among-in, in-among, in-every, in-none, rows-in}
 use Rattle.demands.proofs.Numbered.{numbered, write-answers, bare-answers}
 use Rattle.demands.proofs.Serving.{here-size, here-good}
 use Rattle.demands.proofs.Acting.{refused-not-zero}
-use Rattle.demands.proofs.Parts.{part-none, asked-number, by-place, placed-serves, placed-answer, placed-size, placed-here, placed-others}
+use Rattle.demands.proofs.Parts.{part-none, asked-number, by-place, placed-serves, placed-answer, placed-size, placed-here, placed-others, placed-setting}
 
 -- ---- what a call answers
 
@@ -77,6 +78,10 @@ leave-in s a = rows-in _ plain tt
 end-in : (s : List ℕ) → In (endAnswer s) plain
 unfolding endAnswer
 end-in s = rows-in _ plain tt
+
+set-in : (s : List ℕ) (most : ℕ) → In (setAnswer s most) plain
+unfolding setAnswer
+set-in s most = rows-in _ plain tt
 
 unplaced-in : (s image : List ℕ) → In (unplaced s image) plain
 unfolding unplaced
@@ -192,6 +197,7 @@ module _ (s image : List ℕ) (p : Placed s image) where
         room = ap unfinished here ∙ dropped-room x l g;
         group = ap stored here ∙ dropped-stored x l g;
         head = ap headOf here ∙ dropped-head x l g;
+        tail = placed-setting s image p;
       }
 
 -- ---- the demand
@@ -201,13 +207,14 @@ done-unchanged : (n : ℕ) (now s : List ℕ) → In n unchanging → done n now
 done-unchanged n now s h = done-refused n now s (λ z. in-among 0 unchanging (subst (λ (m : ℕ). In m unchanging) z h))
 
 unchanged : (x : Call) (s : List ℕ) → In (ourAnswer x s) unchanging → ourAfter x s ≡ s
-unfolding ourAnswer ourAfter startAfter followAfter leaveAfter endAfter
+unfolding ourAnswer ourAfter startAfter followAfter leaveAfter endAfter setAfter
 unchanged start s h = done-unchanged (startAnswer s) _ s h
 unchanged (follow w) s h = done-unchanged (followAnswer s w) _ s h
 unchanged (leave a) s h = done-unchanged (leaveAnswer s a) _ s h
 unchanged (packet image) s h =
     by-place s image (λ ne. packet-refused s image ne .1) (λ p. absurd (in-none _ placedNumbers unchanging tt (placed-in s image p) h))
 unchanged subframeEnd s h = done-unchanged (endAnswer s) _ s h
+unchanged (setFlips most) s h = done-unchanged (setAnswer s most) _ s h
 unchanged (asks q) s h = refl
 
 drops : (x : Call) (s : List ℕ) → In (ourAnswer x s) dropping → DroppedBy x s (ourAfter x s)
@@ -218,6 +225,7 @@ drops (leave a) s h = in-none _ plain dropping tt (leave-in s a) h
 drops (packet image) s h =
     by-place s image (λ ne. absurd (in-none _ plain dropping tt (refused-in-plain s image ne) h)) (λ p. (p .place, placed-drops s image p h))
 drops subframeEnd s h = in-none _ plain dropping tt (end-in s) h
+drops (setFlips most) s h = in-none _ plain dropping tt (set-in s most) h
 drops (asks q) s h = in-none _ plain dropping tt (question-in q s) h
 
 unwritten : (a p : ℕ) (m o : List ℕ) → (writeAnswer a p (length m) (length o) ≡ 0 → ⊥) → writeAfter a p m o ≡ o
@@ -232,8 +240,9 @@ given-refused zero v ne = absurd (ne refl)
 given-refused (suc n) v ne = refl
 
 valueless : (x : Bare) → (bareNumber x ≡ 0 → ⊥) → AllZero (bareValues x)
-unfolding bareNumber bareValues AllZero headerRead headerWritten wordRead wordWritten typeRead typeWritten
+unfolding bareNumber bareValues AllZero headerRead headerWithin headerWritten wordRead wordWritten typeRead typeWritten
 valueless (readHeader n) ne = (given-refused _ _ ne, (given-refused _ _ ne, (given-refused _ _ ne, tt)))
+valueless (readWithin n most) ne = (given-refused _ _ ne, (given-refused _ _ ne, (given-refused _ _ ne, tt)))
 valueless (writeHeader a i) ne = (given-refused _ _ ne, tt)
 valueless (readWord n) ne = (given-refused _ _ ne, (given-refused _ _ ne, tt))
 valueless (writeWord i) ne = (given-refused _ _ ne, tt)
@@ -270,9 +279,9 @@ empty s a none = go (ℕ-discrete (leaveAnswer s a) 0) (ℕ-discrete (headOf (sl
     go (yes z) (no ne) =
         absurd (none (subst (λ (n : ℕ). In n (5 ∷ 6 ∷ 7 ∷ [])) (sym (ap (λ (x : Asked). x .number) (found z ∙ asked-group h ne (find s a)))) (shown-with h ne)))
 
-pub begins : (s : List ℕ) → length s ≡ stateSize → startAfter s ≡ blank stateSize
+pub begins : (s : List ℕ) → length s ≡ stateSize → startAfter s ≡ startedState
 unfolding startAfter
-begins s l = done-passed (startAnswer s) (blank stateSize) s (sym (start-passed s l))
+begins s l = done-passed (startAnswer s) startedState s (sym (start-passed s l))
 
 pub demand-1 : Demand1 ours
 unfolding questionAnswer ourAnswer ourAfter ourBoard
@@ -284,7 +293,7 @@ demand-1 = record {
   dropped = drops;
   unwritten = unwritten;
   valueless = valueless;
-  started = begins;
+  started = λ s l. begins s l ∙ started-bytes;
   empty = λ a s none. empty s a none;
   reads = λ q s. refl;
   boards = λ a notice s. (refl, refl);

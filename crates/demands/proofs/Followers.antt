@@ -18,31 +18,33 @@ use lib.Dec.{T, leb, ltb, eqb}
 use lib.ListN.{length}
 use Rattle.bits.specs.Bits.{blank}
 use Rattle.bits.specs.Rows.{Row, row, refusal}
-use Rattle.bits.proofs.Rows.{refusal-hit}
+use Rattle.bits.proofs.Rows.{refusal-hit, refusal-miss}
 use Rattle.bits.proofs.Search.{and-left, and-right}
 use Rattle.image.specs.Image.{spareOf}
 use Rattle.head.specs.Head.{within, goodWish}
 use Rattle.head.proofs.Bounds.{wish-bounds}
 use Rattle.head.proofs.Wishes.{wish-rest, wish-passes}
 use Rattle.head.specs.declared.Wish.{Wish}
-use Rattle.table.specs.State.{stateSize, slots, addressAt, find, good}
-use Rattle.table.specs.Calls.{startAnswer, followAnswer, leaveAnswer}
+use Rattle.table.specs.State.{stateSize, setting, startedState, slots, addressAt, find, good}
+use Rattle.table.specs.Calls.{startAnswer, followAnswer, leaveAnswer, setAnswer}
 use Rattle.table.proofs.Looking.{state-rest}
 use Rattle.table.proofs.States.{good-each, find-has, find-only, find-agree, find-none, used-one}
-use Rattle.table.proofs.Kept.{Followed, follow-passed, leave-passed}
+use Rattle.table.proofs.Kept.{Followed, follow-passed, leave-passed, setting-started}
 use Rattle.history.specs.Sent.{In}
-use Rattle.adapter.specs.Calls.{addressOf, followed, unplaced, packetAnswer}
+use Rattle.adapter.specs.Calls.{addressOf, flipsOf, beyond, followed, unplaced, packetAnswer}
 use Rattle.adapter.proofs.Laws.{packet-refused}
-use Rattle.demands.specs.Machine.{Call, start, follow, leave, packet, subframeEnd, asks, ask, Question, ours, questionAnswer, ourAnswer, ourAfter, run}
+use Rattle.demands.specs.Machine.{Call, start, follow, leave, packet, subframeEnd, setFlips, asks, ask, Question, ours, questionAnswer, ourAnswer, ourAfter, run}
 use Rattle.demands.specs.Rows.{wishRows, addressRows, rowsOf}
+use Rattle.demands.specs.Setting.{settingAfter}
 use Rattle.demands.specs.Table.{Good, addressAfter, member, without, accepts, followNow, followedAfter, ByHistory, KeepsTable}
 use Rattle.demands.proofs.Numbers.{among, in-among, rows-in}
 use Rattle.demands.proofs.Numbered.{ask-answers}
 use Rattle.demands.proofs.Counting.{count, count-le, count-agree, count-one, count-none, count-all, count-some, Distinct, without-none, without-other, without-gone, without-length, without-distinct}
 use Rattle.demands.proofs.Serving.{Serves, here-address, here-wish}
 use Rattle.demands.proofs.Parts.{by-place}
+use Rattle.demands.proofs.Settings.{setting-next, set-puts}
 use Rattle.demands.proofs.First.{begins, placed-in}
-use Rattle.demands.proofs.Tables.{blank-state, end-passed, either, keeps-good, keeps-addresses}
+use Rattle.demands.proofs.Tables.{started-state, end-passed, either, keeps-good, keeps-addresses}
 use Rattle.demands.proofs.Examples.{empty-address, empty-absent}
 
 -- ---- how many slots are used
@@ -85,13 +87,13 @@ pub record Lists (l s : List ℕ) : Type 0 where
   pub size : length l ≡ used s
   pub distinct : Distinct l
 
-pub lists-empty : Lists [] (blank stateSize)
+pub lists-empty : Lists [] startedState
 unfolding member used Distinct
 lists-empty = record {
-  state = blank-state;
-  same = λ a h. sym (le-ltb (find (blank stateSize) a) 16 (empty-absent a h));
+  state = started-state;
+  same = λ a h. sym (le-ltb (find startedState a) 16 (empty-absent a h));
   zero = refl;
-  size = sym (count-none (isUsed (blank stateSize)) slots 0 (λ k l h. le-ltb 0 (addressAt (blank stateSize) k) (omega (arith, empty-address k h))));
+  size = sym (count-none (isUsed startedState) slots 0 (λ k l h. le-ltb 0 (addressAt startedState k) (omega (arith, empty-address k h))));
   distinct = tt;
 }
 
@@ -248,11 +250,12 @@ module _ (l s : List ℕ) (k : Lists l s) where
 
   -- the rows of a packet that need no slot
   placed-by : (image : List ℕ)
-      → unplaced s image ≡ refusal (row (not (eqb (length image) 94)) 20 ∷ row (eqb (spareOf image) 1) 21 ∷ row (not (followed s (addressOf image))) 27 ∷ [])
+      → unplaced s image ≡ refusal (row (not (eqb (length image) 94)) 20 ∷ row (eqb (spareOf image) 1) 21 ∷ row (beyond s image) 49
+      ∷ row (not (followed s (addressOf image))) 27 ∷ [])
   unfolding unplaced refusal
   placed-by image =
       ap₂ (λ (x y : Bool). refusal (row (not (eqb (length image) 94)) 20 ∷ row (not x) 20 ∷ row (not y) 34 ∷ row (eqb (spareOf image) 1) 21
-      ∷ row (not (followed s (addressOf image))) 27 ∷ [])) (eq-eqb (length s) stateSize (k .state .size)) (k .state .good)
+      ∷ row (beyond s image) 49 ∷ row (not (followed s (addressOf image))) 27 ∷ [])) (eq-eqb (length s) stateSize (k .state .size)) (k .state .good)
 
   absent-followed : (a : ℕ) → member a l ≡ false → followed s a ≡ false
   unfolding followed
@@ -260,16 +263,50 @@ module _ (l s : List ℕ) (k : Lists l s) where
   absent-followed (suc n) e =
       ap₂ (λ (x y : Bool). x && y) (lt-ltb 0 (suc n) (omega arith)) (sym (k .same (suc n) (omega arith)) ∙ e)
 
-  packet-27 : (image : List ℕ) → length image ≡ 94 → spareOf image ≡ 0 → member (addressOf image) l ≡ false → packetAnswer s image ≡ 27
-  unfolding refusal
-  packet-27 image li z e =
-      let u : unplaced s image ≡ 27 = placed-by image ∙ (λ i. refusal (row (not (eq-eqb (length image) 94 li i)) 20
-      ∷ row (ne-eqb (spareOf image) 1 (λ q. omega (arith, z, q)) i) 21 ∷ row (not (absent-followed (addressOf image) e i)) 27 ∷ [])) in
-      packet-refused s image (λ q. omega (arith, u, q)) .0 ∙ u
+  -- the rows behind 20 and 21
+  module _ (image : List ℕ) (li : length image ≡ 94) (z : spareOf image ≡ 0) where
+    past-21 : unplaced s image ≡ refusal (row (beyond s image) 49 ∷ row (not (followed s (addressOf image))) 27 ∷ [])
+    unfolding refusal
+    past-21 =
+        placed-by image ∙ (λ i. refusal (row (not (eq-eqb (length image) 94 li i)) 20
+        ∷ row (ne-eqb (spareOf image) 1 (λ q. omega (arith, z, q)) i) 21 ∷ row (beyond s image) 49 ∷ row (not (followed s (addressOf image))) 27 ∷ []))
 
-  -- 34 is none of a list that has the answer
+    past-49 : flipsOf image ≤ setting s → unplaced s image ≡ refusal (row (not (followed s (addressOf image))) 27 ∷ [])
+    unfolding beyond
+    past-49 f = past-21 ∙ refusal-miss (beyond s image) 49 _ (le-ltb (setting s) (flipsOf image) f)
+
+    packet-27 : flipsOf image ≤ setting s → member (addressOf image) l ≡ false → packetAnswer s image ≡ 27
+    packet-27 f e =
+        let u : unplaced s image ≡ 27 = past-49 f ∙ refusal-hit (not (followed s (addressOf image))) 27 [] (ap not (absent-followed (addressOf image) e)) in
+        packet-refused s image (λ q. omega (arith, u, q)) .0 ∙ u
+
+    packet-49 : setting s < flipsOf image → packetAnswer s image ≡ 49
+    unfolding beyond
+    packet-49 f =
+        let u : unplaced s image ≡ 49 = past-21 ∙ refusal-hit (beyond s image) 49 _ (lt-ltb (setting s) (flipsOf image) f) in
+        packet-refused s image (λ q. omega (arith, u, q)) .0 ∙ u
+
+  -- a number is none of a list that has the answer
+  not-among : (x n : ℕ) (ns : List ℕ) → In n ns → (T (among x ns) → ⊥) → n ≡ x → ⊥
+  not-among x n ns h none e = none (in-among x ns (subst (λ (m : ℕ). In m ns) e h))
+
   not-34 : (n : ℕ) (ns : List ℕ) → In n ns → (T (among 34 ns) → ⊥) → n ≡ 34 → ⊥
-  not-34 n ns h none e = none (in-among 34 ns (subst (λ (m : ℕ). In m ns) e h))
+  not-34 = not-among 34
+
+  -- 49 exactly where there are more flips than the setting
+  beyond-is : (image : List ℕ) → length image ≡ 94 → spareOf image ≡ 0 → packetAnswer s image ≡ 49 → setting s < flipsOf image
+  beyond-is image li z e = go (decLt (setting s) (flipsOf image))
+    where
+      go : Dec (setting s < flipsOf image) → setting s < flipsOf image
+      go (yes f) = f
+      go (no f) =
+          absurd (by-place s image
+          (λ ne. not-among 49 _ (0 ∷ 27 ∷ []) (rows-in _ _ tt) (λ q. q) (sym (packet-refused s image ne .0 ∙ past-49 image li z (omega (arith, f))) ∙ e))
+          (λ p. not-among 49 _ _ (placed-in s image p) (λ q. q) e))
+
+  set-by : (most : ℕ) → setAnswer s most ≡ refusal (row (ltb 3 most) 48 ∷ [])
+  unfolding setAnswer
+  set-by most = state-rest s _ (k .state .size) (k .state .good)
 
   question-34 : (q : Question) → questionAnswer q s ≡ 34 → ⊥
   unfolding questionAnswer
@@ -286,18 +323,21 @@ module _ (l s : List ℕ) (k : Lists l s) where
   never-34 (leave a) e = not-34 _ (0 ∷ 22 ∷ 27 ∷ []) (rows-in _ _ tt) (λ z. z) (sym (leave-by a) ∙ e)
   never-34 (packet image) e =
       by-place s image
-      (λ ne. not-34 _ (0 ∷ 20 ∷ 21 ∷ 27 ∷ []) (rows-in _ _ tt) (λ z. z) (sym (packet-refused s image ne .0 ∙ placed-by image) ∙ e))
+      (λ ne. not-34 _ (0 ∷ 20 ∷ 21 ∷ 49 ∷ 27 ∷ []) (rows-in _ _ tt) (λ z. z) (sym (packet-refused s image ne .0 ∙ placed-by image) ∙ e))
       (λ p. not-34 _ _ (placed-in s image p) (λ z. z) e)
   never-34 subframeEnd e = omega (arith, end-passed s (k .state), e)
+  never-34 (setFlips most) e = not-34 _ (0 ∷ 48 ∷ []) (rows-in _ _ tt) (λ z. z) (sym (set-by most) ∙ e)
   never-34 (asks q) e = question-34 q e
 
-  pub by-history : ByHistory ours l s
+  pub by-history : ByHistory ours l (setting s) s
   unfolding questionAnswer ourAnswer
   by-history = record {
     follows = follow-by;
     leaves = leave-by;
     asks = λ a. ask-answers (addressRows a (not (member a l))) s a (leave-by a);
+    beyond = λ image li z. (beyond-is image li z, packet-49 image li z);
     packets = packet-27;
+    sets = set-by;
     ends = end-passed s (k .state);
     never = never-34;
   }
@@ -391,6 +431,7 @@ module _ (l s : List ℕ) (k : Lists l s) where
   lists-now (leave a) = leave-now a
   lists-now (packet image) = keeps (packet image) (λ j h. refl)
   lists-now subframeEnd = keeps subframeEnd (λ j h. refl)
+  lists-now (setFlips most) = keeps (setFlips most) (λ j h. refl)
   lists-now (asks q) = k
 
 pub lists-run : (h : List Call) (l s : List ℕ) → Lists l s → Lists (followedAfter h l) (run ours h s)
@@ -398,10 +439,26 @@ unfolding followedAfter run
 lists-run [] l s k = k
 lists-run (x ∷ h) l s k = lists-run h (followNow x l) (ourAfter x s) (lists-now l s k x)
 
+-- the setting over a list of calls
+pub settings-run : (h : List Call) (s : List ℕ) → Good s → setting (run ours h s) ≡ settingAfter h (setting s)
+unfolding run settingAfter
+settings-run [] s g = refl
+settings-run (x ∷ h) s g =
+    settings-run h (ourAfter x s) (keeps-good x s g) ∙ ap (settingAfter h) (setting-next x s (g .size) (good-each s (g .good)))
+
+-- from a start on, by the calls alone
+pub history-run : (h : List Call) → ByHistory ours (followedAfter h []) (settingAfter h 3) (run ours h startedState)
+history-run h =
+    subst (λ (n : ℕ). ByHistory ours (followedAfter h []) n (run ours h startedState))
+    (settings-run h startedState started-state ∙ ap (settingAfter h) setting-started)
+    (by-history _ _ (lists-run h [] startedState lists-empty))
+
 pub keeps-table : KeepsTable ours
 unfolding ourAfter
 keeps-table = record {
   good = keeps-good;
   addresses = keeps-addresses;
-  history = λ s e h. by-history _ _ (lists-run h [] _ (subst (Lists []) (sym (begins s e)) lists-empty));
+  history = λ s e h. subst (λ (x : List ℕ). ByHistory ours (followedAfter h []) (settingAfter h 3) (run ours h x)) (sym (begins s e)) (history-run h);
+  settings = λ x s g. setting-next x s (g .size) (good-each s (g .good));
+  puts = λ most s g. set-puts s (g .size) (good-each s (g .good)) most;
 }

@@ -11,7 +11,7 @@ use mathlib.Core.List.{List, [], _∷_}
 use Prim.Native.Nat.{ℕ, zero, suc, _+_, _≤_, _<_, _-_}
 use native.Mathlib.Omega.{arith}
 use native.Mathlib.Decide.{ℕ-discrete}
-use lib.Dec.{T, ltb, eqb}
+use lib.Dec.{T, ltb, eqb, lit<}
 use lib.ListN.{length, take, drop}
 use Rattle.bits.specs.Bits.{blank}
 use Rattle.bits.specs.Rows.{refusal, done}
@@ -27,29 +27,30 @@ use Rattle.slot.proofs.Goods.{blank-free}
 use Rattle.table.specs.State.{stateSize, slots, slotAt, withSlot, addressAt, find, goodAt, good}
 use Rattle.table.specs.Calls.{startAfter, followAnswer, followAfter, leaveAnswer, leaveAfter, endAfter}
 use Rattle.table.proofs.States.{slot-length, with-length, address-is, address-same, address-other, find-has}
+use Rattle.table.proofs.Kept.{started-length, slot-started}
+use Rattle.table.proofs.Vectors.{started-bytes}
 use Rattle.asking.specs.Asking.{asked}
 use Rattle.history.specs.Followed as one
 use Rattle.demands.specs.Machine.{Call, start, follow, leave, subframeEnd, asks, ours, ourAnswer, ourAfter, run, questionAnswer}
 use Rattle.demands.specs.Rows.{wishRows, addressRows}
 use Rattle.demands.specs.Demand1.{Demand1}
+use Rattle.demands.specs.Setting.{settingAfter}
 use Rattle.demands.specs.Table.{member, without, accepts, followNow, followedAfter, ByHistory, KeepsTable}
 use Rattle.demands.specs.Harmful.{byCall, clinging, roomless, halfStarted, crowd, greedy, leaking, brittle}
 use Rattle.demands.proofs.Calling.{follow-serves}
 use Rattle.demands.proofs.Parts.{ask-here}
 use Rattle.demands.proofs.First.{begins}
-use Rattle.demands.proofs.Tables.{blank-state}
-use Rattle.demands.proofs.Followers.{Lists, lists-empty, by-history, lists-run}
+use Rattle.demands.proofs.Tables.{started-state}
+use Rattle.demands.proofs.Followers.{history-run}
 use Rattle.demands.proofs.Examples.{empty-state, empty-address, accepted}
 
 abbrev begun : List ℕ
 begun = startAfter empty-state
 
-begun-lists : Lists [] begun
-begun-lists = subst (Lists []) (sym (begins empty-state (blank-length stateSize))) lists-empty
-
 -- ours from there on, by the calls alone
-answers-then : (h : List Call) → ByHistory ours (followedAfter h []) (run ours h begun)
-answers-then h = by-history _ _ (lists-run h [] begun begun-lists)
+answers-then : (h : List Call) → ByHistory ours (followedAfter h []) (settingAfter h 3) (run ours h begun)
+answers-then h =
+    subst (λ (x : List ℕ). ByHistory ours (followedAfter h []) (settingAfter h 3) (run ours h x)) (sym (begins empty-state started-length)) (history-run h)
 
 -- ---- leave and start
 
@@ -59,10 +60,10 @@ clinging-fails d =
     let t = followAfter begun (wishOf 17 0 1) in
     let k = follow-serves empty-state (wishOf 17 0 1) (accepted 1 refl) in
     let four : asked t 17 .number ≡ 4 =
-    ap (λ (s : List ℕ). asked (followAfter s (wishOf 17 0 1)) 17 .number) (begins empty-state (blank-length stateSize))
+    ap (λ (s : List ℕ). asked (followAfter s (wishOf 17 0 1)) 17 .number) (begins empty-state started-length)
     ∙ ask-here _ 17 (k .serves) ∙ ap (λ (f : one.Followed). askNumber (f .head)) (k .seen) in
     let gone : asked t 17 .number ≡ 27 =
-    d .history empty-state (blank-length stateSize) (follow (wishOf 17 0 1) ∷ leave 17 ∷ []) .asks 17 .refused (λ z. omega (arith, z)) in
+    d .history empty-state started-length (follow (wishOf 17 0 1) ∷ leave 17 ∷ []) .asks 17 .refused (λ z. omega (arith, z)) in
     omega (arith, four, gone)
 
 -- the heads are kept
@@ -97,7 +98,7 @@ half-started-fails d =
     let j = find t 17 in
     let kept : addressAt (roomless slots 0 t) j ≡ 17 = roomless-address slots 0 t (omega arith) (k .serves .size) j ∙ find-has t 17 (k .serves .found) in
     let none : addressAt (roomless slots 0 t) j ≡ 0 =
-    ap (λ (s : List ℕ). addressAt s j) (d .started t (k .serves .size)) ∙ empty-address j (k .serves .found) in
+    ap (λ (s : List ℕ). addressAt s j) (d .started t (k .serves .size) ∙ sym started-bytes) ∙ empty-address j (k .serves .found) in
     omega (arith, kept, none)
 
 -- ---- follow and leave
@@ -110,7 +111,7 @@ greedy-fails d =
     let after : run greedy (follow (wishOf 17 0 1) ∷ []) begun ≡ t = done-passed (followAnswer begun (wishOf 17 0 1)) t begun zero-first in
     let full : followAnswer t (wishOf 18 0 1) ≡ 26 = answers-then (follow (wishOf 17 0 1) ∷ crowd 0 1) .follows (wishOf 18 0 1) in
     let room : followAnswer (run greedy (follow (wishOf 17 0 1) ∷ []) begun) (wishOf 18 0 1) ≡ 0 =
-    d .history empty-state (blank-length stateSize) (follow (wishOf 17 0 1) ∷ []) .follows (wishOf 18 0 1) in
+    d .history empty-state started-length (follow (wishOf 17 0 1) ∷ []) .follows (wishOf 18 0 1) in
     omega (arith, full, ap (λ (s : List ℕ). followAnswer s (wishOf 18 0 1)) (sym after) ∙ room)
 
 pub leaking-fails : KeepsTable leaking → ⊥
@@ -122,7 +123,7 @@ leaking-fails d =
     let h = follow (wishOf 17 0 1) ∷ leave 17 ∷ [] in
     let after : run leaking h begun ≡ t = done-passed (leaveAnswer s 17) t s zero-leave in
     let held : followAnswer t (wishOf 500 0 1) ≡ 25 = answers-then (follow (wishOf 17 0 1) ∷ leave 17 ∷ follow (wishOf 500 0 1) ∷ []) .follows (wishOf 500 0 1) in
-    let free-again : followAnswer (run leaking h begun) (wishOf 500 0 1) ≡ 0 = d .history empty-state (blank-length stateSize) h .follows (wishOf 500 0 1) in
+    let free-again : followAnswer (run leaking h begun) (wishOf 500 0 1) ≡ 0 = d .history empty-state started-length h .follows (wishOf 500 0 1) in
     omega (arith, held, ap (λ (x : List ℕ). followAnswer x (wishOf 500 0 1)) (sym after) ∙ free-again)
 
 -- ---- a subframe's end
@@ -135,6 +136,8 @@ bad-state = refl
 pub brittle-fails : KeepsTable brittle → ⊥
 unfolding byCall
 brittle-fails d =
-    let g : good (cond (free empty-state) (1 ∷ blank (stateSize - 1)) (endAfter empty-state)) ≡ true = d .good subframeEnd empty-state blank-state .good in
-    let e : good (1 ∷ blank (stateSize - 1)) ≡ true = sym (ap (λ (b : Bool). good (cond b (1 ∷ blank (stateSize - 1)) (endAfter empty-state))) (blank-free stateSize)) ∙ g in
+    let bad : Bool → List ℕ = λ b. cond b (1 ∷ blank (stateSize - 1)) (endAfter empty-state) in
+    let g : good (bad (free (slotAt 0 empty-state))) ≡ true = d .good subframeEnd empty-state started-state .good in
+    let nobody : free (slotAt 0 empty-state) ≡ true = ap free (slot-started 0 (lit< tt)) ∙ blank-free slotSize in
+    let e : good (1 ∷ blank (stateSize - 1)) ≡ true = sym (ap (λ (b : Bool). good (bad b)) nobody) ∙ g in
     subst T (sym e ∙ bad-state) tt

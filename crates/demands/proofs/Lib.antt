@@ -1,4 +1,5 @@
 pub mod Acting
+pub mod AtThree
 pub mod Calling
 pub mod Channel
 pub mod Channels
@@ -9,6 +10,7 @@ pub mod Empties
 pub mod Examples
 pub mod First
 pub mod Followers
+pub mod Heeding
 pub mod Keeping
 pub mod Marks
 pub mod Numbered

@@ -20,7 +20,7 @@ use lib.Dec.{leb, ltb, eqb}
 use lib.ListN.{length}
 use Rattle.bits.specs.Rows.{Row, row, refusal, further, given}
 use Rattle.bits.proofs.Rows.{further-passed, further-refused}
-use Rattle.bare.specs.Bare.{headerRead, headerWritten, wordRead, wordWritten, typeRead, typeWritten}
+use Rattle.bare.specs.Bare.{headerRead, headerWithin, headerWritten, wordRead, wordWritten, typeRead, typeWritten}
 use Rattle.bare.specs.declared.Header.{Header}
 use Rattle.bare.proofs.Bare.{header-large}
 use Rattle.bare.proofs.Theorems.{header-exactly}
@@ -32,14 +32,14 @@ use Rattle.head.specs.Move.{started, held, whole, outOfStep, perOf, needsOf, ro
 use Rattle.head.specs.declared.Head.{Head}
 use Rattle.head.specs.declared.Wish.{Wish}
 use Rattle.table.specs.State.{slotAt, find}
-use Rattle.table.specs.Calls.{startAnswer, followAnswer, leaveAnswer, endAnswer}
+use Rattle.table.specs.Calls.{startAnswer, followAnswer, leaveAnswer, endAnswer, setAnswer}
 use Rattle.asking.specs.Asking.{askedAt, askedBy, asked}
 use Rattle.asking.specs.declared.Asked.{Asked}
 use Rattle.group.specs.Group.{takenNumber}
 use Rattle.history.specs.Sent.{In}
-use Rattle.adapter.specs.Calls.{addressOf, unplaced, readingAt, packetAnswer, groupSize, writeAnswer}
+use Rattle.adapter.specs.Calls.{addressOf, beyond, unplaced, readingAt, packetAnswer, groupSize, writeAnswer}
 use Rattle.adapter.proofs.Laws.{Placed, placed-zero, packet-refused}
-use Rattle.demands.specs.Machine.{Call, start, follow, leave, packet, subframeEnd, asks, ask, Question, questionAnswer, ourAnswer, Bare, readHeader, writeHeader, readWord, writeWord, readType, writeType, bareNumber}
+use Rattle.demands.specs.Machine.{Call, start, follow, leave, packet, subframeEnd, setFlips, asks, ask, Question, questionAnswer, ourAnswer, Bare, readHeader, readWithin, writeHeader, readWord, writeWord, readType, writeType, bareNumber}
 use Rattle.demands.specs.Rows.{indexOf, slotRows, questionRows, rowsOf, questionNumbers, ownNumbers, writeRows, bareRows, Answers}
 use Rattle.demands.proofs.Parts.{asked-number, by-place, placed-answer}
 
@@ -122,26 +122,27 @@ taken-answers h image l =
 -- ---- a packet
 
 -- the rows that need no slot, and then others
-abbrev before : Bool → Bool → Bool → Bool → Bool → List Row → List Row
-before b1 b2 b3 b4 b5 rest = row b1 20 ∷ row b2 20 ∷ row b3 34 ∷ row b4 21 ∷ row b5 27 ∷ rest
+abbrev before : Bool → Bool → Bool → Bool → Bool → Bool → List Row → List Row
+before b1 b2 b3 b4 b5 b6 rest = row b1 20 ∷ row b2 20 ∷ row b3 34 ∷ row b4 21 ∷ row b5 49 ∷ row b6 27 ∷ rest
 
-rows-rest : (b1 b2 b3 b4 b5 : Bool) (rest : List Row)
-    → refusal (before b1 b2 b3 b4 b5 rest) ≡ further (refusal (before b1 b2 b3 b4 b5 [])) (refusal rest)
+rows-rest : (b1 b2 b3 b4 b5 b6 : Bool) (rest : List Row)
+    → refusal (before b1 b2 b3 b4 b5 b6 rest) ≡ further (refusal (before b1 b2 b3 b4 b5 b6 [])) (refusal rest)
 unfolding refusal further
-rows-rest true b2 b3 b4 b5 rest = refl
-rows-rest false true b3 b4 b5 rest = refl
-rows-rest false false true b4 b5 rest = refl
-rows-rest false false false true b5 rest = refl
-rows-rest false false false false true rest = refl
-rows-rest false false false false false rest = refl
+rows-rest true b2 b3 b4 b5 b6 rest = refl
+rows-rest false true b3 b4 b5 b6 rest = refl
+rows-rest false false true b4 b5 b6 rest = refl
+rows-rest false false false true b5 b6 rest = refl
+rows-rest false false false false true b6 rest = refl
+rows-rest false false false false false true rest = refl
+rows-rest false false false false false false rest = refl
 
 module _ (s image : List ℕ) where
   abbrev h : Head
   h = headOf (slotAt (find s (addressOf image)) s)
 
   packet-rows : refusal (rowsOf (packet image) s) ≡ further (unplaced s image) (refusal (slotRows h image))
-  unfolding rowsOf unplaced
-  packet-rows = rows-rest _ _ _ _ _ (slotRows h image)
+  unfolding rowsOf unplaced beyond
+  packet-rows = rows-rest _ _ _ _ _ _ (slotRows h image)
 
   refused-packet : (unplaced s image ≡ 0 → ⊥) → Answers (rowsOf (packet image) s) (1 ∷ 2 ∷ 3 ∷ []) (packetAnswer s image)
   refused-packet ne =
@@ -201,12 +202,13 @@ unfolding followAnswer rowsOf
 follow-rows s w = refl
 
 pub numbered : (x : Call) (s : List ℕ) → Answers (rowsOf x s) (ownNumbers x) (ourAnswer x s)
-unfolding ourAnswer rowsOf ownNumbers startAnswer leaveAnswer endAnswer
+unfolding ourAnswer rowsOf ownNumbers startAnswer leaveAnswer endAnswer setAnswer
 numbered start s = answers-same _ _ refl
 numbered (follow w) s = answers-same _ _ (follow-rows s w)
 numbered (leave a) s = answers-same _ _ refl
 numbered (packet image) s = packet-answers s image
 numbered subframeEnd s = answers-same _ _ refl
+numbered (setFlips most) s = answers-same _ _ refl
 numbered (asks q) s = question-answers q s
 
 -- the message's length, by the protection
@@ -231,8 +233,9 @@ write-answers a p m o =
     answers-same _ _ (ap (λ (n : ℕ). cond (not (within 1 1022 a)) 22 n) (length-row p m (row (not (eqb o 376)) 20 ∷ [])))
 
 pub bare-answers : (x : Bare) → Answers (bareRows x) (0 ∷ []) (bareNumber x)
-unfolding bareNumber bareRows headerRead headerWritten wordRead wordWritten typeRead typeWritten
+unfolding bareNumber bareRows headerRead headerWithin headerWritten wordRead wordWritten typeRead typeWritten
 bare-answers (readHeader n) = answers-same _ _ refl
+bare-answers (readWithin n most) = answers-same _ _ refl
 bare-answers (writeHeader a i) = answers-same _ _ refl
 bare-answers (readWord n) = answers-same _ _ refl
 bare-answers (writeWord i) = answers-same _ _ refl

@@ -22,14 +22,14 @@ use Rattle.image.specs.Image.{spareOf}
 use Rattle.head.specs.Head.{wishOf, wishAnswer}
 use Rattle.head.proofs.Wishes.{wish-22}
 use Rattle.slot.specs.Slot.{headOf}
-use Rattle.table.specs.State.{slotAt, find}
+use Rattle.table.specs.State.{setting, slotAt, find}
 use Rattle.table.specs.Calls.{followAnswer, leaveAnswer, endAnswer}
 use Rattle.table.proofs.Looking.{follow-wish, leave-27}
 use Rattle.asking.specs.Asking.{asked, askedBy, askPart}
 use Rattle.asking.specs.declared.Asked.{Asked}
 use Rattle.asking.proofs.Laws.{asked-refused}
 use Rattle.history.specs.Sent.{In}
-use Rattle.adapter.specs.Calls.{addressOf, followed, packetAnswer, writeAfter}
+use Rattle.adapter.specs.Calls.{addressOf, flipsOf, followed, packetAnswer, writeAfter}
 use Rattle.demands.specs.Machine.{Call, follow, packet, subframeEnd, asks, ourAnswer, writeHeader, bareNumber, questionAnswer, ask}
 use Rattle.demands.specs.Rows.{stateRows, slotRows, rowsOf, ownNumbers, Answers, questionNumbers}
 use Rattle.demands.specs.Demand1.{Demand1}
@@ -39,13 +39,13 @@ use Rattle.demands.specs.Harmful.{byCall, lenient, long, misnumbered, kn
 use Rattle.demands.proofs.Numbers.{in-among}
 use Rattle.demands.proofs.Numbered.{numbered}
 use Rattle.demands.proofs.Second.{written-images, written-length}
-use Rattle.demands.proofs.Tables.{blank-state, end-passed}
+use Rattle.demands.proofs.Tables.{started-state, end-passed}
 use Rattle.demands.proofs.Examples.{empty-state, empty-passed, empty-absent}
 
 -- ---- by demand 1
 
 -- what ours refuses, with a number that is none of the call's own, every machine that meets it refuses so
-refused-too : (x : Call) (s : List ℕ) (n m : ℕ) → ourAnswer x s ≡ n → (In n (ownNumbers x) → ⊥) → Answers (rowsOf x s) (ownNumbers x) m → m ≡ n
+pub refused-too : (x : Call) (s : List ℕ) (n m : ℕ) → ourAnswer x s ≡ n → (In n (ownNumbers x) → ⊥) → Answers (rowsOf x s) (ownNumbers x) m → m ≡ n
 refused-too x s n m e none d =
     let k = numbered x s in
     let ne : refusal (rowsOf x s) ≡ 0 → ⊥ = λ z. none (subst (λ (i : ℕ). In i (ownNumbers x)) e (k .accepted z)) in
@@ -65,14 +65,14 @@ pub long-fails : Demand1 long → ⊥
 unfolding byCall rowsOf refusal
 long-fails d =
     let l : eqb (length (blank 95)) 95 ≡ true = eq-eqb (length (blank 95)) 95 (blank-length 95) in
-    let rows = stateRows [] (row (eqb (spareOf (blank 95)) 1) 21 ∷ row (not (followed [] (addressOf (blank 95)))) 27 ∷ slotRows (headOf (slotAt (find [] (addressOf (blank 95))) [])) (blank 95)) in
+    let rows = stateRows [] (row (eqb (spareOf (blank 95)) 1) 21 ∷ row (ltb (setting []) (flipsOf (blank 95))) 49 ∷ row (not (followed [] (addressOf (blank 95)))) 27 ∷ slotRows (headOf (slotAt (find [] (addressOf (blank 95))) [])) (blank 95)) in
     let r : refusal (rowsOf (packet (blank 95)) []) ≡ 20 = ap (λ (n : ℕ). refusal (row (not (eqb n 94)) 20 ∷ rows)) (blank-length 95) in
     let z : _≡_ {A = ℕ} 0 20 = sym (ap (λ (b : Bool). cond b 0 (packetAnswer [] (blank 95))) l) ∙ d .numbered (packet (blank 95)) [] .refused (λ q. omega (arith, r, q)) ∙ r in
     omega arith
 
 pub misnumbered-fails : Demand1 misnumbered → ⊥
 unfolding byCall rowsOf ownNumbers refusal endAnswer
-misnumbered-fails d = in-among 3 (0 ∷ []) (d .numbered subframeEnd empty-state .accepted (end-passed empty-state blank-state))
+misnumbered-fails d = in-among 3 (0 ∷ []) (d .numbered subframeEnd empty-state .accepted (end-passed empty-state started-state))
 
 -- the address is not followed in the started state
 ask-27 : asked empty-state 17 .number ≡ 27

@@ -14,31 +14,32 @@ use mathlib.Core.List.{List, [], _∷_, _++_}
 use Prim.Native.Nat.{ℕ, zero, suc, _+_, _*_, _≤_, _<_}
 use native.Mathlib.Omega.{arith}
 use native.Mathlib.Decide.{ℕ-discrete}
-use native.Mathlib.Nat.{mul-le-mul-right}
+use native.Mathlib.Nat.{le-trans, mul-le-mul-right}
 use borrow.Author.Tests.{le-ltb, ne-eqb}
 use lib.Dec.{ltb, eqb}
 use lib.ListN.{length, take, drop, length-append}
 use lib.Seq.{take-at, drop-at, take-all, drop-drop}
 use Rattle.bits.proofs.Rows.{done-passed}
 use Rattle.bits.proofs.Runs.{below-take, below-drop}
-use Rattle.image.specs.Image.{spareOf}
+use Rattle.bits.specs.Bits.{flips}
+use Rattle.image.specs.Image.{headerOf, spareOf}
 use Rattle.packet.specs.Received.{received, readableAs}
 use Rattle.packet.specs.Damage.{dataSize, sentImage, Corrected}
 use Rattle.packet.specs.Damage as damage
 use Rattle.packet.specs.declared.Reading.{Reading}
 use Rattle.packet.proofs.Answers.{filled-begins}
-use Rattle.packet.proofs.Damages.{header-came, received-corrected, sent-corrected, sent-spare}
+use Rattle.packet.proofs.Damages.{header-came, header-flipped-by, received-corrected, sent-corrected, sent-spare}
 use Rattle.runs.specs.Part.{part}
 use Rattle.slot.specs.Slot.{headOf}
 use Rattle.head.specs.Head.{askNumber}
 use Rattle.head.specs.Move.{perOf, needsOf, rowOf, moveOf, moveNumber, movedHead}
 use Rattle.runs.proofs.Parts.{part-cat, part-length}
-use Rattle.table.specs.State.{slotAt, addressAt, find}
+use Rattle.table.specs.State.{setting, slotAt, addressAt, find}
 use Rattle.table.proofs.States.{find-has, address-is, used-one}
 use Rattle.asking.proofs.Laws.{shown-5}
 use Rattle.history.specs.Followed.{Followed, Event, moved, begun, joined, lastOf, after, answer}
 use Rattle.history.specs.Followed as one
-use Rattle.adapter.specs.Calls.{addressOf, groupSize, imagesSize, packetOf, groupImages, packetAnswer, packetAfter, writeAnswer, writeAfter}
+use Rattle.adapter.specs.Calls.{addressOf, flipsOf, groupSize, imagesSize, packetOf, groupImages, packetAnswer, packetAfter, writeAnswer, writeAfter}
 use Rattle.adapter.proofs.Writing.{packet-length, write-0}
 use Rattle.demands.specs.Machine.{packet, ours, ourAnswer, ourAfter, Bytes, run, questionAnswer}
 use Rattle.demands.specs.Demand2.{Follows, Writable, imageAt, Sound, answersTo, packets, ReadBack, Demand2}
@@ -46,7 +47,7 @@ use Rattle.demands.specs.Seen.{eventOf, seenIn}
 use Rattle.demands.proofs.Serving.{Serves, view, Kept, here-address, here-wish}
 use Rattle.demands.proofs.Acting.{event-read, protectedAt}
 use Rattle.demands.proofs.Calling.{Arrives, arrives-placed, answer-here, packet-here}
-use Rattle.demands.proofs.Parts.{ask-here, shown-here, followed-serves, placed-others}
+use Rattle.demands.proofs.Parts.{ask-here, shown-here, followed-serves, placed-setting, placed-others}
 use Rattle.head.specs.declared.Wish.{Wish}
 use Rattle.head.proofs.Moves.{moved-wish}
 
@@ -133,35 +134,45 @@ module _ (a p : ℕ) (m o : List ℕ) (w : Writable a p m o) where
 -- ---- no damage is no more than the codes correct
 
 pub sent-sound : (a p : ℕ) (message output : List ℕ) → Writable a p message output → Bytes message → (i : ℕ) → i < 4
-    → Sound (eqb p 1) (writeAfter a p message output) i (imageAt (writeAfter a p message output) i)
+    → Sound (eqb p 1) 0 (writeAfter a p message output) i (imageAt (writeAfter a p message output) i)
 sent-sound a p m o w b i h =
     let q = eqb p 1 in
     let e = written-at a p m o w i h in
     record {
-      corrected = subst (λ (x : List ℕ). Corrected q x x) (sym e) (sent-corrected q a i (fourth q m i));
+      corrected = subst (λ (x : List ℕ). Corrected q 0 x x) (sym e) (sent-corrected q 0 a i (fourth q m i));
       spare = ap spareOf e ∙ sent-spare q a i (fourth q m i) (omega (arith, w .address-to)) (omega arith) (fourth-length q m i h (w .message)) (fourth-bytes q m i b);
+    }
+
+-- and so at every setting
+pub sound-more : (q : Bool) (most : ℕ) (o : List ℕ) (i : ℕ) (t : List ℕ) → Sound q 0 o i t → Sound q most o i t
+sound-more q most o i t x =
+    let c = x .corrected in
+    record {
+      corrected = record { size = c .size; header = le-trans (c .header) (omega arith); type = c .type; useful = c .useful };
+      spare = x .spare;
     }
 
 -- ---- one image arrives
 
 -- a followed address, the slot that it has, and its view
-record Reads (s : List ℕ) (a : ℕ) (q : Bool) (k : ℕ) (f : Followed) : Type 0 where
+record Reads (s : List ℕ) (a : ℕ) (q : Bool) (most k : ℕ) (f : Followed) : Type 0 where
   serves : Serves s a
   protection : protectedAt s a ≡ q
+  set : setting s ≡ most
   place : find s a ≡ k
   seen : view s a ≡ f
 
-record Step (s t : List ℕ) (a : ℕ) (q : Bool) (k : ℕ) (f : Followed) (e : Event) : Type 0 where
+record Step (s t : List ℕ) (a : ℕ) (q : Bool) (most k : ℕ) (f : Followed) (e : Event) : Type 0 where
   number : packetAnswer s t ≡ answer e f
-  next : Reads (packetAfter s t) a q k (after e f)
+  next : Reads (packetAfter s t) a q most k (after e f)
   others : (j : ℕ) → (j ≡ k → ⊥) → slotAt j (packetAfter s t) ≡ slotAt j s
 
 -- an image that came of what was sent of packet i to the address
-record Brings (q : Bool) (a i : ℕ) (d t : List ℕ) : Type 0 where
+record Brings (q : Bool) (most a i : ℕ) (d t : List ℕ) : Type 0 where
   index : i ≤ 3
   size : length d ≡ dataSize q
   bytes : Bytes d
-  corrected : Corrected q (sentImage q a i d) t
+  corrected : Corrected q most (sentImage q a i d) t
   spare : spareOf t ≡ 0
 
 after-protection : (i : ℕ) (d : List ℕ) (f : Followed) → after (one.packet i d) f .head .wish .protection ≡ f .head .wish .protection
@@ -178,22 +189,29 @@ event-sent q i d t e l =
     ∙ ap (λ (r : Reading). one.packet (r .index) (take (dataSize q) (r .bytes))) e
     ∙ ap (one.packet i) (filled-begins (dataSize q) d l)
 
-module _ (s : List ℕ) (a : ℕ) (q : Bool) (k : ℕ) (f : Followed) (r : Reads s a q k f) (i : ℕ) (d t : List ℕ) (b : Brings q a i d t) where
+module _ (s : List ℕ) (a : ℕ) (q : Bool) (most k : ℕ) (f : Followed) (r : Reads s a q most k f) (i : ℕ) (d t : List ℕ) (b : Brings q most a i d t) where
   known : a ≤ 1023
   known = omega (arith, here-wish s a (r .serves) .address-to, here-address s a (r .serves))
 
-  arrives : Arrives a t
-  unfolding addressOf
+  few : most ≤ 3
+  few = omega (arith, r .set, r .serves .all .setting)
+
+  header-few : flips (headerOf (sentImage q a i d)) (headerOf t) ≤ 3
+  header-few = le-trans (b .corrected .header) few
+
+  arrives : Arrives a (setting s) t
+  unfolding addressOf flipsOf
   arrives = record {
     size = b .corrected .size;
     spare = ne-eqb (spareOf t) 1 (λ e. omega (arith, e, b .spare));
-    address = header-came q a i d known (b .index) (b .size) (b .bytes) t (b .corrected .header) .0;
+    within = omega (arith, header-flipped-by q a i d known (b .index) (b .size) (b .bytes) t header-few, b .corrected .header, r .set);
+    address = header-came q a i d known (b .index) (b .size) (b .bytes) t header-few .0;
   }
 
   event-here : eventOf (protectedAt s a) t ≡ one.packet i d
   event-here =
       ap (λ (x : Bool). eventOf x t) (r .protection)
-      ∙ event-sent q i d t (received-corrected q a i d t known (b .index) (b .size) (b .bytes) (b .corrected)) (b .size)
+      ∙ event-sent q i d t (received-corrected q most a i d t few known (b .index) (b .size) (b .bytes) (b .corrected)) (b .size)
 
   others-here : (j : ℕ) → (j ≡ find s a → ⊥) → slotAt j (packetAfter s t) ≡ slotAt j s
   others-here j ne = placed-others s t (arrives-placed s a (r .serves) t arrives) j (λ e. ne (e ∙ ap (find s) (arrives .address)))
@@ -221,13 +239,14 @@ module _ (s : List ℕ) (a : ℕ) (q : Bool) (k : ℕ) (f : Followed) (r : Reads
           let now = find-has s a (v .found) in
           used-one s (v .all) (find u a) (find s a) h (v .found) (was ∙ sym now) (subst (λ (n : ℕ). 0 < n) (sym now) (v .pos))
 
-  step : Step s t a q k f (one.packet i d)
+  step : Step s t a q most k f (one.packet i d)
   step = record {
     number = answer-here s a (r .serves) t arrives ∙ ap₂ answer event-here (r .seen);
     next = record {
       serves = kept-here .serves;
       protection = seen-protection (packetAfter s t) a _ (kept-here .seen) ∙ ap (λ (n : ℕ). eqb n 1) (after-protection i d f)
           ∙ sym (seen-protection s a f (r .seen)) ∙ r .protection;
+      set = placed-setting s t (arrives-placed s a (r .serves) t arrives) ∙ r .set;
       place = place-here ∙ r .place;
       seen = kept-here .seen;
     };
@@ -288,7 +307,10 @@ module _ (s : List ℕ) (a p : ℕ) (m o t0 t1 t2 t3 : List ℕ) (w : Follows s 
   unfolding view seenIn
   limit-from = here-wish s a serves .limit-from
 
-  brings : (i : ℕ) (t : List ℕ) → i < 4 → Sound q (writeAfter a p m o) i t → Brings q a i (d i) t
+  abbrev most : ℕ
+  most = setting s
+
+  brings : (i : ℕ) (t : List ℕ) → i < 4 → Sound q most (writeAfter a p m o) i t → Brings q most a i (d i) t
   brings i t h sound =
       let b = here-wish s a serves in
       let e = here-address s a serves in
@@ -303,34 +325,34 @@ module _ (s : List ℕ) (a p : ℕ) (m o t0 t1 t2 t3 : List ℕ) (w : Follows s 
         index = omega arith;
         size = fourth-length q m i h lm;
         bytes = fourth-bytes q m i bm;
-        corrected = subst (λ (x : List ℕ). Corrected q x t) (written-at a p m o writable i h) (sound .corrected);
+        corrected = subst (λ (x : List ℕ). Corrected q most x t) (written-at a p m o writable i h) (sound .corrected);
         spare = sound .spare;
       }
 
-  module _ (h0 : Sound q (writeAfter a p m o) 0 t0) (h1 : Sound q (writeAfter a p m o) 1 t1) (h2 : Sound q (writeAfter a p m o) 2 t2)
-      (h3 : Sound q (writeAfter a p m o) 3 t3) where
-    step-0 : Step s t0 a q k f (one.packet 0 (d 0))
+  module _ (h0 : Sound q most (writeAfter a p m o) 0 t0) (h1 : Sound q most (writeAfter a p m o) 1 t1)
+      (h2 : Sound q most (writeAfter a p m o) 2 t2) (h3 : Sound q most (writeAfter a p m o) 3 t3) where
+    step-0 : Step s t0 a q most k f (one.packet 0 (d 0))
     step-0 =
-        step s a q k f (record { serves = serves; protection = ap (λ (n : ℕ). eqb n 1) (w .protection); place = refl; seen = refl })
+        step s a q most k f (record { serves = serves; protection = ap (λ (n : ℕ). eqb n 1) (w .protection); set = refl; place = refl; seen = refl })
         0 (d 0) t0 (brings 0 t0 (omega arith) h0)
 
     abbrev s1 : List ℕ
     s1 = packetAfter s t0
 
-    step-1 : Step s1 t1 a q k (f1 f d) (one.packet 1 (d 1))
-    step-1 = step s1 a q k (f1 f d) (step-0 .next) 1 (d 1) t1 (brings 1 t1 (omega arith) h1)
+    step-1 : Step s1 t1 a q most k (f1 f d) (one.packet 1 (d 1))
+    step-1 = step s1 a q most k (f1 f d) (step-0 .next) 1 (d 1) t1 (brings 1 t1 (omega arith) h1)
 
     abbrev s2 : List ℕ
     s2 = packetAfter s1 t1
 
-    step-2 : Step s2 t2 a q k (f2 f d) (one.packet 2 (d 2))
-    step-2 = step s2 a q k (f2 f d) (step-1 .next) 2 (d 2) t2 (brings 2 t2 (omega arith) h2)
+    step-2 : Step s2 t2 a q most k (f2 f d) (one.packet 2 (d 2))
+    step-2 = step s2 a q most k (f2 f d) (step-1 .next) 2 (d 2) t2 (brings 2 t2 (omega arith) h2)
 
     abbrev s3 : List ℕ
     s3 = packetAfter s2 t2
 
-    step-3 : Step s3 t3 a q k (f3 f d) (one.packet 3 (d 3))
-    step-3 = step s3 a q k (f3 f d) (step-2 .next) 3 (d 3) t3 (brings 3 t3 (omega arith) h3)
+    step-3 : Step s3 t3 a q most k (f3 f d) (one.packet 3 (d 3))
+    step-3 = step s3 a q most k (f3 f d) (step-2 .next) 3 (d 3) t3 (brings 3 t3 (omega arith) h3)
 
     abbrev s4 : List ℕ
     s4 = packetAfter s3 t3

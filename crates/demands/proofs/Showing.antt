@@ -27,18 +27,20 @@ use Rattle.head.specs.Move.{perOf, needsOf, rowOf, moveOf, moveNumber, movedHea
 use Rattle.head.specs.declared.Head.{Head}
 use Rattle.slot.proofs.Goods.{good-load, good-store}
 use Rattle.slot.proofs.Heads.{withHead-length}
-use Rattle.table.specs.State.{stateSize, slots, slotAt, withSlot, addressAt, find, good}
+use Rattle.table.specs.State.{stateSize, setting, slots, slotAt, withSlot, addressAt, find, good}
 use Rattle.table.specs.Calls.{followAfter}
 use Rattle.table.proofs.States.{each-good, slot-same, with-length, address-same, address-other, find-only, good-followed}
-use Rattle.table.proofs.Kept.{blank-good}
+use Rattle.table.proofs.Kept.{started-length, started-good, setting-started}
 use Rattle.asking.specs.Asking.{asked, askPart}
 use Rattle.history.specs.Followed as one
 use Rattle.faults.specs.Faults.{numberDrops}
 use Rattle.history.specs.Transcript.{told, isWhole, anyWhole, sinceWhole, ends, before, marks, marked, called}
 use Rattle.adapter.specs.Calls.{addressOf, followed, packetAnswer}
 use Rattle.adapter.proofs.Laws.{both-followed}
-use Rattle.demands.specs.Machine.{Call, packet, asks, ours, ourAnswer, ourAfter, Bytes, run, questionAnswer}
+use Rattle.demands.specs.Machine.{Call, follow, packet, asks, ours, ourAnswer, ourAfter, Bytes, run, questionAnswer}
 use Rattle.demands.specs.Rows.{indexOf}
+use Rattle.demands.specs.Setting.{settingNow}
+use Rattle.demands.proofs.Settings.{setting-next}
 use Rattle.demands.specs.Seen.{eventOf, eventsAt, eventsOf, by, seenIn, marksBy, marksOf, latest}
 use Rattle.demands.specs.Demand2.{Follows}
 use Rattle.demands.specs.Demand3.{AllStay, Stays, Demand3}
@@ -69,19 +71,19 @@ ones-bytes k = go 90 k
 abbrev one-image : ℕ → List ℕ
 one-image c = sentImage false 17 c ones
 
-one-arrives : (c : ℕ) → c < 4 → Arrives 17 (one-image c)
+one-arrives : (c : ℕ) → c < 4 → Arrives 17 3 (one-image c)
 one-arrives c h =
-    came-arrives false 17 c ones (one-image c) (lit≤ tt) h ones-length ones-bytes (corrected-came false _ _ (sent-corrected false 17 c ones))
+    came-arrives false 3 17 c ones (one-image c) (lit≤ tt) (lit≤ tt) h ones-length ones-bytes (corrected-came false 3 _ _ (sent-corrected false 3 17 c ones))
     (sent-spare false 17 c ones (lit≤ tt) (omega arith) ones-length ones-bytes)
 
-one-event : (c : ℕ) (h : List Call) (es : List one.Event) → c < 4 → eventsOf 17 false h ≡ es
-    → eventsOf 17 false (packet (one-image c) ∷ h) ≡ one.packet c ones ∷ es
-unfolding eventsOf eventsAt
+one-event : (c : ℕ) (h : List Call) (es : List one.Event) → c < 4 → eventsOf 17 false 3 h ≡ es
+    → eventsOf 17 false 3 (packet (one-image c) ∷ h) ≡ one.packet c ones ∷ es
+unfolding eventsOf eventsAt settingNow
 one-event c h es l e =
     ap₂ (λ (xs ys : List one.Event). xs ++ ys)
-    (ap (λ (b : Bool). cond b (eventOf false (one-image c) ∷ []) []) (is-arrives 17 (one-image c) (one-arrives c l))
-    ∙ ap (λ (x : one.Event). x ∷ []) (came-event false 17 c ones (one-image c) (lit≤ tt) l ones-length ones-bytes
-    (corrected-came false _ _ (sent-corrected false 17 c ones))
+    (ap (λ (b : Bool). cond b (eventOf false (one-image c) ∷ []) []) (is-arrives 17 3 (one-image c) (one-arrives c l))
+    ∙ ap (λ (x : one.Event). x ∷ []) (came-event false 3 17 c ones (one-image c) (lit≤ tt) (lit≤ tt) l ones-length ones-bytes
+    (corrected-came false 3 _ _ (sent-corrected false 3 17 c ones))
     (ap (λ (r : Reading). r .number) (received-sent false 17 c ones (lit≤ tt) (omega arith) ones-length ones-bytes)))) e
 
 -- the four packets of a group, and one more
@@ -92,13 +94,14 @@ then c =
 abbrev then-events : ℕ → List one.Event
 then-events c = one.packet 0 ones ∷ one.packet 1 ones ∷ one.packet 2 ones ∷ one.packet 3 ones ∷ one.packet c ones ∷ []
 
-no-event : eventsOf 17 false [] ≡ []
+no-event : eventsOf 17 false 3 [] ≡ []
 unfolding eventsOf
 no-event = refl
 
-then-is : (c : ℕ) → c < 4 → eventsOf 17 false (then c) ≡ then-events c
+then-is : (c : ℕ) → c < 4 → eventsOf 17 false (setting empty-state) (then c) ≡ then-events c
 then-is c h =
-    one-event 0 _ _ (lit< tt) (one-event 1 _ _ (lit< tt) (one-event 2 _ _ (lit< tt) (one-event 3 _ _ (lit< tt) (one-event c [] [] h no-event))))
+    ap (λ (n : ℕ). eventsOf 17 false n (then c)) setting-started
+    ∙ one-event 0 _ _ (lit< tt) (one-event 1 _ _ (lit< tt) (one-event 2 _ _ (lit< tt) (one-event 3 _ _ (lit< tt) (one-event c [] [] h no-event))))
 
 then-stays : (c : ℕ) → AllStay 17 (then c)
 unfolding AllStay Stays
@@ -107,6 +110,10 @@ then-stays c = (tt, (tt, (tt, (tt, (tt, tt)))))
 abbrev begun : List ℕ
 begun = followAfter empty-state (wishOf 17 0 2)
 
+begun-setting : setting begun ≡ setting empty-state
+unfolding ourAfter settingNow
+begun-setting = setting-next (follow (wishOf 17 0 2)) empty-state started-length started-good
+
 then-kept : (c : ℕ) → c < 4 → Kept (run ours (then c) begun) 17 (one.run (then-events c) (one.followed (wishOf 17 0 2)))
 unfolding one.followed
 then-kept c h =
@@ -114,7 +121,7 @@ then-kept c h =
     let r = run-acts (then c) begun 17 (k .serves) (then-stays c) in
     record {
       serves = r .serves;
-      seen = r .seen ∙ ap (λ (f : one.Followed). one.run (eventsOf 17 (by f) (then c)) f) (k .seen)
+      seen = r .seen ∙ (λ i. one.run (eventsOf 17 (by (k .seen i)) (begun-setting i) (then c)) (k .seen i))
           ∙ ap (λ (es : List one.Event). one.run es (one.followed (wishOf 17 0 2))) (then-is c h);
     }
 
@@ -143,10 +150,10 @@ torn-fails d =
 pub silent-fails : Demand3 silent → ⊥
 unfolding byCall run AllStay eventsOf one.run one.followed one.answer perOf needsOf rowOf moveOf moveNumber numberDrops
 silent-fails d =
-    let arrives = is-arrives 17 (clean 1) (clean-arrives 1 (lit< tt)) in
+    let arrives = is-arrives 17 _ (clean 1) (clean-arrives _ 1 (lit< tt)) in
     let k = follow-serves empty-state (wishOf 17 0 2) yes-2 in
     let due : packetAnswer begun (clean 1) ≡ 32 =
-    answer-by begun 17 (k .serves) (clean 1) (clean-arrives 1 (lit< tt)) ∙ ap (λ (f : one.Followed). one.answer (eventOf (by f) (clean 1)) f) (k .seen)
+    answer-by begun 17 (k .serves) (clean 1) (clean-arrives _ 1 (lit< tt)) ∙ ap (λ (f : one.Followed). one.answer (eventOf (by f) (clean 1)) f) (k .seen)
     ∙ ap (λ (e : one.Event). one.answer e (one.followed (wishOf 17 0 2))) (clean-read-event 1 (lit< tt)) in
     let said = d .follows empty-state (wishOf 17 0 2) yes-2 .answers [] tt (clean 1) arrives
     ∙ ap (λ (e : one.Event). one.answer e (one.followed (wishOf 17 0 2))) (clean-read-event 1 (lit< tt)) in
@@ -198,7 +205,7 @@ slot-address : headOf slot .wish .address ≡ 17
 slot-address = ap (λ (h : Head). h .wish .address) slot-head
 
 state-size : length empty-state ≡ stateSize
-state-size = blank-length stateSize
+state-size = started-length
 
 made-address : addressAt made 0 ≡ 17
 made-address = address-same empty-state state-size 0 slot (lit< tt) slot-size ∙ slot-address
@@ -217,7 +224,7 @@ made-slot = ap (λ (k : ℕ). slotAt k made) made-find ∙ slot-same empty-state
 made-follows : Follows made 17 0
 made-follows = record {
   size = with-length empty-state state-size 0 slot (lit< tt) slot-size;
-  good = each-good made (good-followed empty-state state-size blank-good 0 slot (lit< tt) slot-size (good-store hand hand-good bytes bytes-length)
+  good = each-good made (good-followed empty-state state-size started-good 0 slot (lit< tt) slot-size (good-store hand hand-good bytes bytes-length)
       (empty-address 0 (lit< tt)) (subst (λ (n : ℕ). 0 < n) (sym slot-address) (lit< tt))
       (subst (λ (n : ℕ). slots ≤ find empty-state n) (sym slot-address) (empty-absent 17 (lit< tt))));
   found = both-followed made 17 (lit< tt) (subst (λ (n : ℕ). n < slots) (sym made-find) (lit< tt));
@@ -244,8 +251,8 @@ trusting-fails d =
 pub hasty-fails : Demand3 hasty → ⊥
 unfolding byCall run AllStay eventsOf one.run one.answer perOf needsOf rowOf moveOf moveNumber seenIn
 hasty-fails d =
-    let arrives = is-arrives 17 (clean 1) (clean-arrives 1 (lit< tt)) in
-    let at : addressOf (clean 1) ≡ 17 = clean-arrives 1 (lit< tt) .address in
+    let arrives = is-arrives 17 _ (clean 1) (clean-arrives _ 1 (lit< tt)) in
+    let at : addressOf (clean 1) ≡ 17 = clean-arrives 0 1 (lit< tt) .address in
     let x = slotAt (find made 17) made in
     let head : headOf x ≡ hand = ap headOf made-slot ∙ slot-head in
     let said : hasty .answer (packet (clean 1)) made ≡ 32 = d .holds made 17 0 made-follows .answers [] tt (clean 1) arrives

@@ -35,6 +35,7 @@ use Rattle.history.specs.Followed as one
 use Rattle.history.specs.Sent.{group, Exactly}
 use Rattle.packet.specs.Damage.{sentImage}
 use Rattle.demands.specs.Machine.{Call, follow, packet, subframeEnd, ours, ourAfter, run}
+use Rattle.demands.specs.Setting.{settingNow}
 use Rattle.demands.specs.Demand3.{Happening, arrives, call, callOf, calls, Apart, Comes, Channel, ReadableIn, Arrived, handsOut, handedOut}
 use Rattle.demands.proofs.Serving.{Kept}
 use Rattle.demands.proofs.Calling.{passed, follow-serves}
@@ -123,13 +124,13 @@ at-18 =
     call (packet (sent-to 17 0)) ∷ arrives 0 0 (sent-to 18 0) ∷ call (packet (sent-to 17 1)) ∷ arrives 0 1 (sent-to 18 1)
     ∷ call (packet (sent-to 17 2)) ∷ arrives 0 2 (sent-to 18 2) ∷ call (packet (sent-to 17 3)) ∷ arrives 0 3 (sent-to 18 3) ∷ []
 
-away : (a b c : ℕ) → b ≤ 1023 → c < 4 → (b ≡ a → ⊥) → Apart a (packet (sent-to b c))
-away a b c hb h ne =
-    sent-apart false a b c (blank 90) (sent-to b c) hb h (blank-length 90) (bytes-zero 90) (comes-at b hb c h .came .header) ne
+away : (a k b c : ℕ) → b ≤ 1023 → c < 4 → (b ≡ a → ⊥) → Apart a k (packet (sent-to b c))
+away a k b c hb h ne =
+    sent-apart false a k b c (blank 90) (sent-to b c) hb h (blank-length 90) (bytes-zero 90) (comes-at b 3 hb c h .came .header) ne
 
-pub channel-17 : Channel false 17 zeros 0 at-17
-unfolding Channel
-channel-17 = (
+pub channel-17 : (k : ℕ) → Channel false 17 zeros k 0 at-17
+unfolding Channel settingNow
+channel-17 k = (
   here 0 (lit< tt),
   (
     there 0 (lit< tt),
@@ -152,15 +153,15 @@ channel-17 = (
   ),
 )
   where
-    here : (c : ℕ) → c < 4 → Comes false 17 zeros c 0 c (sent-to 17 c)
-    here c h = comes-at 17 (lit≤ tt) c h
+    here : (c : ℕ) → c < 4 → Comes false 17 zeros k c 0 c (sent-to 17 c)
+    here c h = comes-at 17 k (lit≤ tt) c h
 
-    there : (c : ℕ) → c < 4 → Apart 17 (packet (sent-to 18 c))
-    there c h = away 17 18 c (lit≤ tt) h (λ q. omega (arith, q))
+    there : (c : ℕ) → c < 4 → Apart 17 k (packet (sent-to 18 c))
+    there c h = away 17 k 18 c (lit≤ tt) h (λ q. omega (arith, q))
 
-pub channel-18 : Channel false 18 zeros 0 at-18
-unfolding Channel
-channel-18 = (
+pub channel-18 : (k : ℕ) → Channel false 18 zeros k 0 at-18
+unfolding Channel settingNow
+channel-18 k = (
   there 0 (lit< tt),
   (
     here 0 (lit< tt),
@@ -183,11 +184,11 @@ channel-18 = (
   ),
 )
   where
-    here : (c : ℕ) → c < 4 → Comes false 18 zeros c 0 c (sent-to 18 c)
-    here c h = comes-at 18 (lit≤ tt) c h
+    here : (c : ℕ) → c < 4 → Comes false 18 zeros k c 0 c (sent-to 18 c)
+    here c h = comes-at 18 k (lit≤ tt) c h
 
-    there : (c : ℕ) → c < 4 → Apart 18 (packet (sent-to 17 c))
-    there c h = away 18 17 c (lit≤ tt) h (λ q. omega (arith, q))
+    there : (c : ℕ) → c < 4 → Apart 18 k (packet (sent-to 17 c))
+    there c h = away 18 k 17 c (lit≤ tt) h (λ q. omega (arith, q))
 
 abbrev pub both-followed : List ℕ
 both-followed = followAfter (followAfter empty-state (wishOf 17 0 2)) (wishOf 18 0 2)
@@ -238,9 +239,9 @@ second-follow =
 pub interleaved : (calls at-17 ≡ calls at-18)
     × Exactly 4 zeros (Arrived false at-17) (handedOut ours 17 (calls at-17) both-followed)
     × Exactly 4 zeros (Arrived false at-18) (handedOut ours 18 (calls at-18) both-followed)
-unfolding calls callOf ourAfter Channel Apart Arrived ReadableIn handedOut handsOut
+unfolding calls callOf ourAfter Channel Apart settingNow Arrived ReadableIn handedOut handsOut
 interleaved = (
   refl,
-  demand-3 .exactly empty-state (wishOf 17 0 2) yes-2 zeros zeros-carried 0 (call (follow (wishOf 18 0 2)) ∷ at-17) (tt, channel-17),
-  demand-3 .exactly (followAfter empty-state (wishOf 17 0 2)) (wishOf 18 0 2) second-follow zeros zeros-carried 0 at-18 channel-18,
+  demand-3 .exactly empty-state (wishOf 17 0 2) yes-2 zeros zeros-carried 0 (call (follow (wishOf 18 0 2)) ∷ at-17) (tt, channel-17 _),
+  demand-3 .exactly (followAfter empty-state (wishOf 17 0 2)) (wishOf 18 0 2) second-follow zeros zeros-carried 0 at-18 (channel-18 _),
 )

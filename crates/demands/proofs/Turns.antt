@@ -20,6 +20,7 @@ use Rattle.asking.specs.Asking.{asked}
 use Rattle.history.specs.Followed as one
 use Rattle.adapter.specs.Calls.{packetAfter}
 use Rattle.demands.specs.Machine.{Call, packet}
+use Rattle.demands.specs.Setting.{settingNow}
 use Rattle.demands.specs.Seen.{eventsOf}
 use Rattle.demands.proofs.Serving.{Kept}
 use Rattle.demands.proofs.Calling.{follow-serves}
@@ -42,14 +43,14 @@ four = packet (clean 0) ∷ packet (clean 1) ∷ packet (clean 2) ∷ packet (cl
 abbrev pub four-events : List one.Event
 four-events = one.packet 0 (blank 90) ∷ one.packet 1 (blank 90) ∷ one.packet 2 (blank 90) ∷ one.packet 3 (blank 90) ∷ []
 
-clean-then : (c : ℕ) (h : List Call) (es : List one.Event) → c < 4 → eventsOf 17 false h ≡ es
-    → eventsOf 17 false (packet (clean c) ∷ h) ≡ one.packet c (blank 90) ∷ es
-unfolding eventsOf
-clean-then c h es l e = ap₂ (λ (xs ys : List one.Event). xs ++ ys) (clean-event c l) e
+clean-then : (k c : ℕ) (h : List Call) (es : List one.Event) → c < 4 → eventsOf 17 false k h ≡ es
+    → eventsOf 17 false k (packet (clean c) ∷ h) ≡ one.packet c (blank 90) ∷ es
+unfolding eventsOf settingNow
+clean-then k c h es l e = ap₂ (λ (xs ys : List one.Event). xs ++ ys) (clean-event k c l) e
 
-pub four-then : (h : List Call) → eventsOf 17 false (four ++ h) ≡ four-events ++ eventsOf 17 false h
-four-then h =
-    clean-then 0 _ _ (lit< tt) (clean-then 1 _ _ (lit< tt) (clean-then 2 _ _ (lit< tt) (clean-then 3 h _ (lit< tt) refl)))
+pub four-then : (k : ℕ) (h : List Call) → eventsOf 17 false k (four ++ h) ≡ four-events ++ eventsOf 17 false k h
+four-then k h =
+    clean-then k 0 _ _ (lit< tt) (clean-then k 1 _ _ (lit< tt) (clean-then k 2 _ _ (lit< tt) (clean-then k 3 h _ (lit< tt) refl)))
 
 -- the states on the way, where g is what a packet leaves beside its own change
 module _ (l : ℕ) (e : followAnswer empty-state (wishOf 17 0 l) ≡ 0) (g : List ℕ → List ℕ) (view-g : one.Followed → one.Followed) (acts : (s : List ℕ) (f : one.Followed) → Kept s 17 f → Kept (g s) 17 (view-g f))

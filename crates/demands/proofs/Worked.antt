@@ -18,24 +18,26 @@ use borrow.Author.Tests.{eq-eqb, eqb-true}
 use Rattle.head.specs.Move.{perOf, needsOf, rowOf, moveOf, moveNumber, movedHead}
 use Rattle.head.specs.Head.{wishOf, goodWish}
 use Rattle.head.proofs.Wishes.{wish-passes}
-use Rattle.table.specs.State.{find}
+use Rattle.table.specs.State.{setting, find}
 use Rattle.table.specs.Calls.{followAnswer, followAfter}
 use Rattle.table.proofs.Looking.{follow-0}
-use Rattle.table.proofs.Kept.{follow-passed}
+use Rattle.table.proofs.Kept.{follow-passed, started-length, started-good, setting-started}
 use Rattle.faults.specs.Faults.{typeControl, wordUnreadable, faultOf}
 use Rattle.history.specs.Followed as one
 use Rattle.history.specs.Sent.{Arrival, came, damaged, subframeEnd, event, events, group, CameIn, Readable, In, Exactly}
 use Rattle.history.specs.Missing.{Reached, endings, Last, Judged}
 use Rattle.demands.specs.Machine.{Call, follow, leave, packet, asks, ask, ours, ourAnswer, ourAfter, run}
 use Rattle.demands.specs.Machine as machine
+use Rattle.demands.specs.Setting.{settingNow}
 use Rattle.demands.specs.Seen.{by, eventsOf}
-use Rattle.demands.specs.Demand3.{Happening, arrives, call, calls, Arrived, arrivalBy, passing, arrivals, handedOut}
+use Rattle.demands.specs.Demand3.{Happening, arrives, call, calls, Channel, Arrived, arrivalBy, passing, arrivals, handedOut}
+use Rattle.demands.proofs.Settings.{setting-next}
 use Rattle.demands.proofs.Calling.{follow-serves}
 use Rattle.demands.proofs.Telling.{handed-same}
 use Rattle.demands.proofs.Channels.{channel-stays, channel-events, readable-came, came-readable}
 use Rattle.demands.proofs.Third.{demand-3}
 use Rattle.demands.proofs.Examples.{empty-state, empty-passed, empty-absent, accepted}
-use Rattle.demands.proofs.Damaged.{worked-sent, worked-carried, as-sent, Receives, sent-receives, header-receives, word-three-receives, word-four-receives, type-receives, other, spare-one, cut}
+use Rattle.demands.proofs.Damaged.{worked-sent, worked-carried, as-sent, Receives, sent-receives, header-receives, word-three-receives, word-four-receives, type-receives, other, spare-one, strict, cut}
 use Rattle.demands.proofs.Channel.{from-1, from-2, from-3, from-4, from-5, worked, worked-channel}
 
 -- ---- the arrivals, from each group on
@@ -97,7 +99,9 @@ becomes-3 =
 
 becomes-2 : Becomes from-2 came-2
 unfolding from-2 came-2 passing
-becomes-2 = clean 2 0 (lit< tt) (pass (packet spare-one) (pass (packet cut) becomes-3))
+becomes-2 =
+    clean 2 0 (lit< tt) (pass (packet spare-one) (pass (packet cut)
+    (pass (machine.setFlips 2) (pass (packet strict) (pass (machine.setFlips 3) becomes-3)))))
 
 becomes-1 : Becomes from-1 came-1
 unfolding from-1 came-1 arrivalBy passing
@@ -203,22 +207,30 @@ worked-accepted =
     follow-0 empty-state (wishOf 17 1 2) empty-passed (wish-passes (wishOf 17 1 2) refl) (find empty-state 17) refl (empty-absent 17 (lit< tt)) (find empty-state 0) refl
     (follow-passed empty-state (wishOf 17 0 2) (accepted 2 refl) .room)
 
+-- the channel's words at the setting that start puts, which a follow keeps
+started-channel : Channel true 17 worked-sent (setting empty-state) 2 worked
+started-channel = subst (λ (n : ℕ). Channel true 17 worked-sent n 2 worked) (sym setting-started) worked-channel
+
+followed-three : setting (followAfter empty-state (wishOf 17 1 2)) ≡ 3
+unfolding ourAfter settingNow
+followed-three = setting-next (follow (wishOf 17 1 2)) empty-state started-length started-good ∙ setting-started
+
 -- the same of our calls, on bytes
 pub worked-handed : handedOut ours 17 (calls worked) (followAfter empty-state (wishOf 17 1 2)) ≡ group 4 worked-sent 1 ∷ group 4 worked-sent 5 ∷ []
 unfolding one.followed
 worked-handed =
     let k = follow-serves empty-state (wishOf 17 1 2) worked-accepted in
     let f = one.followed (wishOf 17 1 2) in
-    handed-same (calls worked) (followAfter empty-state (wishOf 17 1 2)) 17 (k .serves) (channel-stays true 17 worked-sent 2 worked worked-channel)
-    ∙ ap (λ (g : one.Followed). one.handedOut (eventsOf 17 (by g) (calls worked)) g) (k .seen)
+    handed-same (calls worked) (followAfter empty-state (wishOf 17 1 2)) 17 (k .serves) (channel-stays true 17 worked-sent 3 2 worked worked-channel)
+    ∙ (λ i. one.handedOut (eventsOf 17 (by (k .seen i)) (followed-three i) (calls worked)) (k .seen i))
     ∙ ap (λ (es : List one.Event). one.handedOut es f)
-    (sym (channel-events true 17 worked-sent (lit≤ tt) worked-carried 2 worked worked-channel) ∙ ap (events worked-sent) worked-arrivals)
+    (sym (channel-events true 17 worked-sent (lit≤ tt) worked-carried 3 2 worked (lit≤ tt) worked-channel) ∙ ap (events worked-sent) worked-arrivals)
     ∙ worked-out
 
 -- ---- by demand 3
 
 pub worked-exactly : Exactly 4 worked-sent (Arrived true worked) (handedOut ours 17 (calls worked) (ourAfter (follow (wishOf 17 1 2)) empty-state))
-worked-exactly = demand-3 .exactly empty-state (wishOf 17 1 2) worked-accepted worked-sent worked-carried 2 worked worked-channel
+worked-exactly = demand-3 .exactly empty-state (wishOf 17 1 2) worked-accepted worked-sent worked-carried 2 worked started-channel
 
 came-readable-all : (i : ℕ) → Readable 4 worked-came i → Arrived true worked i
 unfolding Readable Arrived
@@ -247,5 +259,5 @@ pub worked-fresh : ourAnswer (asks (ask 17)) (run ours (calls worked) (ourAfter 
 unfolding endings Reached
 worked-fresh =
     let j = subst (λ (h : List Arrival). Judged 4 2 h (ourAnswer (asks (ask 17)) (run ours (calls worked) (ourAfter (follow (wishOf 17 1 2)) empty-state)))) worked-arrivals
-    (demand-3 .missing empty-state (wishOf 17 1 2) worked-accepted worked-sent worked-carried 2 worked worked-channel) in
+    (demand-3 .missing empty-state (wishOf 17 1 2) worked-accepted worked-sent worked-carried 2 worked started-channel) in
     j .fresh 5 [] worked-last (lit< tt) (λ m. m .reached)

@@ -9,7 +9,7 @@
 --   bold           board text shows a doubtful group
 --   greedy         an accepted follow fills every other free slot with addresses that nobody asked for
 --   leaking        the slot that is left goes to another address
---   brittle        a subframe's end while nothing is followed leaves a bad state
+--   brittle        a subframe's end while the first slot is free leaves a bad state
 --   trusting, hasty     right from a follow on: on a slot with dirt in its room, as only a hand makes it, ask answers 5 with the gap marked, and
 --                  index 1 is answered 3
 --   babbling       ask refused shows a byte; boasting: board text's number is always 5
@@ -21,17 +21,18 @@ use mathlib.Core.Bool.{Bool, cond, not, _&&_, _||_}
 use mathlib.Core.List.{List, [], _∷_}
 use Prim.Native.Nat.{ℕ, zero, suc, _+_, _-_}
 use lib.Dec.{ltb, eqb}
-use lib.ListN.{length, getD, set, take}
+use lib.ListN.{length, getD, set}
 use Rattle.bits.specs.Bits.{blank}
 use Rattle.bits.specs.Rows.{done}
 use Rattle.slot.specs.Slot.{roomSize, headOf, withHead, withUnfinished, withStored, free}
-use Rattle.head.specs.Head.{wishOf, droppedHead}
+use Rattle.head.specs.Head.{wishOf}
 use Rattle.head.specs.declared.Head.{Head}
 use Rattle.head.specs.declared.Wish.{Wish}
-use Rattle.table.specs.State.{tailAt, stateSize, setting, withSetting, slots, slotAt, withSlot, find}
+use Rattle.table.specs.State.{stateSize, setting, withSetting, slots, slotAt, withSlot, find}
 use Rattle.table.specs.Calls.{startAnswer, startAfter, followAnswer, followAfter, leaveAnswer, leaveAfter, endAnswer, endAfter, setAnswer, setAfter}
 use Rattle.asking.specs.Asking.{asked, askPart}
 use Rattle.faults.specs.Faults.{numberDrops}
+use Rattle.group.specs.Group.{slotDropped}
 use Rattle.adapter.specs.Calls.{addressOf, packetAnswer, packetAfter, writeAfter}
 use Rattle.demands.specs.Machine.{Question, ask, Call, start, follow, leave, packet, subframeEnd, setFlips, asks, Board, Machine, ours, questionAnswer, ourAnswer, ourAfter, ourBoard, Bare, run}
 use Rattle.demands.specs.Rows.{indexOf}
@@ -177,7 +178,7 @@ abbrev pub leaking : Machine
 leaking = but ourAnswer (leaving startAfter followed (λ a s. done (leaveAnswer s a) (followAfter (leaveAfter s a) (wishOf 500 0 1)) s) arrived endAfter)
 
 abbrev pub brittle : Machine
-brittle = but ourAnswer (leaving startAfter followed left arrived (λ s. cond (free (take tailAt s)) (1 ∷ blank (stateSize - 1)) (endAfter s)))
+brittle = but ourAnswer (leaving startAfter followed left arrived (λ s. cond (free (slotAt 0 s)) (1 ∷ blank (stateSize - 1)) (endAfter s)))
 
 -- ---- right only from a follow on
 
@@ -206,8 +207,7 @@ severe =
     but ourAnswer
     (leaving startAfter followed left
     (λ image s. let k = find s (addressOf image) in
-    let x = slotAt k s in
-    cond (eqb (packetAnswer s image) 49) (withSlot k (withHead (droppedHead (headOf x)) (withUnfinished (blank roomSize) x)) s) (packetAfter s image))
+    cond (eqb (packetAnswer s image) 49) (withSlot k (slotDropped (slotAt k s)) s) (packetAfter s image))
     endAfter)
 
 abbrev pub forgetful : Machine
