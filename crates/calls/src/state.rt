@@ -30,7 +30,11 @@ pub fn called(row: Row, state: &mut [u8], images: &mut [u8], message: &mut [u8])
         5 => ask(v, state),
         6 => board(v, state, message),
         7 => write(v, images, message),
-        8 => behind(1, table::set_header_flips(state, (v[0] % Row::WIDE) as u32), state),
+        8 => behind(
+            1,
+            table::set_header_flips(state, (v[0] % Row::WIDE) as u32),
+            state,
+        ),
         _ => images::called(row, images, message),
     }
 }

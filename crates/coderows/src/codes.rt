@@ -19,7 +19,8 @@ use rows::bytes::with;
 use rows::tell;
 
 pub fn called(row: Row) -> Answer {
-    let names = b"read-header write-header read-word write-word read-type write-type read-header-within many ";
+    let names =
+        b"read-header write-header read-word write-word read-type write-type read-header-within many ";
     let v = row.values;
     let call = tell::place(names, row.name);
     if call == 7 {

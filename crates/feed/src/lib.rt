@@ -26,7 +26,13 @@ pub extern "C" fn feed_read_header(n: u32, address: &mut u16, index: &mut u8, fl
 
 // 33: a header of 2^23 or more; 48: a setting above 3; 49: more flips than the setting.
 #[no_mangle]
-pub extern "C" fn feed_read_header_within(n: u32, most: u32, address: &mut u16, index: &mut u8, flips: &mut u8) -> u8
+pub extern "C" fn feed_read_header_within(
+    n: u32,
+    most: u32,
+    address: &mut u16,
+    index: &mut u8,
+    flips: &mut u8,
+) -> u8
     ensures { λ r. ⌜ r ≡ headerWithin n most .number ⌝ }
     ensures { λ _. ⌜ now (address .exit) ≡ headerWithin n most .address ⌝ }
     ensures { λ _. ⌜ now (index .exit) ≡ headerWithin n most .index ⌝ }
