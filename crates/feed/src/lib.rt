@@ -5,6 +5,7 @@
 ghost use mathlib.Core.Path.{_≡_};
 ghost use Rattle.bare.specs.Bare.{headerRead, headerWithin, headerWritten, wordRead, wordWritten, typeRead, typeWritten};
 ghost use Rattle.feed.specs.Fed.{values, fed};
+use bare::Header;
 use image::Packet;
 
 pub mod calls;
@@ -17,11 +18,7 @@ pub extern "C" fn feed_read_header(n: u32, address: &mut u16, index: &mut u8, fl
     ensures { λ _. ⌜ now (index .exit) ≡ headerRead n .index ⌝ }
     ensures { λ _. ⌜ now (flips .exit) ≡ headerRead n .flips ⌝ }
 {
-    let header = bare::read_header(n);
-    *address = header.address;
-    *index = header.index;
-    *flips = header.flips;
-    header.number
+    feed_read_header_within(n, Header::CORRECTED, address, index, flips)
 }
 
 // 33: a header of 2^23 or more; 48: a setting above 3; 49: more flips than the setting.
