@@ -29,7 +29,7 @@ use Rattle.words.specs.Protected.{dataRead}
 use Rattle.packet.specs.Received.{usefulOf, receivedNumber, received}
 use Rattle.head.specs.Move.{moveNumber, rowAt}
 use Rattle.head.specs.declared.Head.{Head}
-use Rattle.table.specs.State.{slots, setting, find, good}
+use Rattle.table.specs.State.{slots, setting, find}
 use Rattle.table.proofs.Looking.{Passed, past-state, state-rest}
 use Rattle.group.specs.Group.{taken, takenNumber}
 use Rattle.group.specs.declared.Answer.{Answer}

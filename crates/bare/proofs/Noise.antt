@@ -15,8 +15,8 @@ use mathlib.Core.List.{[], _∷_, map}
 use Prim.Native.Nat.{ℕ, _+_, _*_, _/_, _%_, _^_, _≤_, _<_}
 use native.Mathlib.Omega.{arith}
 use native.Mathlib.Decide.{decLe}
-use borrow.Author.Tests.{leb-true, eqb-true, lt-ltb, le-ltb, le-leb, lt-leb, eq-eqb}
-use lib.Dec.{leb, ltb, eqb}
+use borrow.Author.Tests.{leb-true, eqb-true, le-leb, lt-leb, eq-eqb}
+use lib.Dec.{leb, eqb}
 use Rattle.bits.specs.Bits.{flips}
 use Rattle.bits.proofs.Flips.{flips-of}
 use Rattle.bits.proofs.Search.{and-left, and-right, same-truth}

@@ -90,7 +90,7 @@ unfolding Channel arrivals sent.InOrder
 channel-order p a s m n [] ch = tt
 channel-order p a s m n (arrives i c image ∷ h) ch =
     next-by (received p image .number) n i c (arrivals p h) (ch .0 .next) (channel-order p a s m (suc (4 * i + c)) h (ch .1))
-channel-order p a s m n (call x ∷ h) ch = passing-order x n (arrivals p h) (channel-order p a s (settingNow x m) n h (ch .1))
+channel-order p a s m n (call x ∷ h) ch = passing-order x n (arrivals p h) (channel-order p a s _ n h (ch .1))
 
 apart-stays : (a m : ℕ) (x : Call) → Apart a m x → Stays a x
 unfolding Apart Stays
@@ -106,7 +106,7 @@ pub channel-stays : (p : Bool) (a : ℕ) (s : sent.Sent) (m n : ℕ) (h : List H
 unfolding Channel calls callOf AllStay Stays
 channel-stays p a s m n [] ch = tt
 channel-stays p a s m n (arrives i c image ∷ h) ch = (tt, channel-stays p a s m (suc (4 * i + c)) h (ch .1))
-channel-stays p a s m n (call x ∷ h) ch = (apart-stays a m x (ch .0), channel-stays p a s (settingNow x m) n h (ch .1))
+channel-stays p a s m n (call x ∷ h) ch = (apart-stays a m x (ch .0), channel-stays p a s _ n h (ch .1))
 
 -- the setting stays 0 to 3
 channel-few : (x : Call) (m : ℕ) → m ≤ 3 → settingNow x m ≤ 3

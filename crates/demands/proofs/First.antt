@@ -17,7 +17,6 @@ use native.Mathlib.Decide.{ℕ-discrete}
 use borrow.Author.Tests.{ne-eqb}
 use lib.Dec.{eqb, leb}
 use lib.ListN.{length}
-use Rattle.bits.specs.Bits.{blank}
 use Rattle.bits.specs.Rows.{done, given}
 use Rattle.bare.specs.Bare.{headerRead, headerWithin, headerWritten, wordRead, wordWritten, typeRead, typeWritten}
 use Rattle.bits.proofs.Rows.{further-refused, further-passed, done-refused, done-passed}

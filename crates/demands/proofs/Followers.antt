@@ -16,7 +16,6 @@ use native.Mathlib.Decide.{ℕ-discrete, decLt}
 use borrow.Author.Tests.{eq-eqb, ne-eqb, eqb-false, lt-ltb, le-ltb, ltb-true, le-leb, leb-true, not-true}
 use lib.Dec.{T, leb, ltb, eqb}
 use lib.ListN.{length}
-use Rattle.bits.specs.Bits.{blank}
 use Rattle.bits.specs.Rows.{Row, row, refusal}
 use Rattle.bits.proofs.Rows.{refusal-hit, refusal-miss}
 use Rattle.bits.proofs.Search.{and-left, and-right}

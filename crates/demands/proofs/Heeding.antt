@@ -5,12 +5,11 @@
 --
 -- Assumes nothing.
 use mathlib.Core.Path.{_≡_, refl, sym, ap, _∙_, subst}
-use mathlib.Core.Bool.{Bool, true, cond}
+use mathlib.Core.Bool.{cond}
 use mathlib.Core.List.{List, [], _∷_}
 use Prim.Native.Nat.{ℕ}
 use native.Mathlib.Omega.{arith}
-use borrow.Author.Tests.{eq-eqb}
-use lib.Dec.{eqb, lit≤, lit<}
+use lib.Dec.{eqb, lit≤}
 use Rattle.bits.specs.Rows.{refusal}
 use Rattle.bits.proofs.Rows.{done-passed}
 use Rattle.slot.specs.Slot.{headOf}
@@ -19,7 +18,7 @@ use Rattle.head.specs.declared.Head.{Head}
 use Rattle.table.specs.State.{setting, withSetting, startedState, slotAt, withSlot, find}
 use Rattle.table.specs.Calls.{startAnswer, startAfter, followAnswer, followAfter, leaveAnswer, leaveAfter, setAfter}
 use Rattle.table.proofs.Doing.{start-passed}
-use Rattle.table.proofs.States.{good-each, slot-same, set-length, setting-put}
+use Rattle.table.proofs.States.{good-each, slot-same, setting-put}
 use Rattle.table.proofs.Kept.{started-length, started-good, setting-started}
 use Rattle.table.proofs.Vectors.{set, started-bytes}
 use Rattle.group.specs.Group.{slotDropped}
@@ -38,7 +37,7 @@ use Rattle.demands.specs.Demand1.{unchanging, Demand1}
 use Rattle.demands.specs.Harmful.{byCall, unheeding, severe, forgetful, harsh, stubborn}
 use Rattle.demands.proofs.Numbers.{in-among, among-in}
 use Rattle.demands.proofs.Numbering.{refused-too}
-use Rattle.demands.proofs.Serving.{Serves, view, here-size, here-good}
+use Rattle.demands.proofs.Serving.{view, here-size, here-good}
 use Rattle.demands.proofs.Calling.{follow-serves, passed}
 use Rattle.demands.proofs.First.{begins}
 use Rattle.demands.proofs.Tables.{started-state, keeps-good}

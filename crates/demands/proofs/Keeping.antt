@@ -5,16 +5,16 @@
 --   brittle-fails                          a subframe's end that leaves a bad state
 --
 -- Assumes nothing.
-use mathlib.Core.Path.{_≡_, refl, sym, ap, ap₂, _∙_, subst}
+use mathlib.Core.Path.{_≡_, refl, sym, ap, _∙_, subst}
 use mathlib.Core.Bool.{Bool, true, false, cond}
 use mathlib.Core.List.{List, [], _∷_}
 use Prim.Native.Nat.{ℕ, zero, suc, _+_, _≤_, _<_, _-_}
 use native.Mathlib.Omega.{arith}
 use native.Mathlib.Decide.{ℕ-discrete}
-use lib.Dec.{T, ltb, eqb, lit<}
-use lib.ListN.{length, take, drop}
+use lib.Dec.{T, lit<}
+use lib.ListN.{length}
 use Rattle.bits.specs.Bits.{blank}
-use Rattle.bits.specs.Rows.{refusal, done}
+use Rattle.bits.specs.Rows.{refusal}
 use Rattle.bits.specs.Search.{all}
 use Rattle.bits.proofs.Rows.{done-passed}
 use Rattle.bits.proofs.Storing.{blank-length}
@@ -31,8 +31,7 @@ use Rattle.table.proofs.Kept.{started-length, slot-started}
 use Rattle.table.proofs.Vectors.{started-bytes}
 use Rattle.asking.specs.Asking.{asked}
 use Rattle.history.specs.Followed as one
-use Rattle.demands.specs.Machine.{Call, start, follow, leave, subframeEnd, asks, ours, ourAnswer, ourAfter, run, questionAnswer}
-use Rattle.demands.specs.Rows.{wishRows, addressRows}
+use Rattle.demands.specs.Machine.{Call, follow, leave, subframeEnd, asks, ours, ourAnswer, ourAfter, run, questionAnswer}
 use Rattle.demands.specs.Demand1.{Demand1}
 use Rattle.demands.specs.Setting.{settingAfter}
 use Rattle.demands.specs.Table.{member, without, accepts, followNow, followedAfter, ByHistory, KeepsTable}

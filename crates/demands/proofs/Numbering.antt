@@ -5,13 +5,13 @@
 --   mute-fails, sparing-fails                                       the bare calls and the writer, by demand 2
 --
 -- Assumes nothing.
-use mathlib.Core.Path.{_≡_, refl, sym, ap, ap₂, _∙_, subst}
+use mathlib.Core.Path.{_≡_, refl, sym, ap, _∙_, subst}
 use mathlib.Core.Bool.{Bool, true, cond, not}
 use mathlib.Core.List.{List, [], _∷_}
 use Prim.Native.Nat.{ℕ, _+_, _<_}
 use native.Mathlib.Omega.{arith}
 use borrow.Author.Tests.{eq-eqb}
-use lib.Dec.{T, ltb, eqb, lit≤, lit<}
+use lib.Dec.{ltb, eqb, lit≤, lit<}
 use lib.ListN.{length, getD}
 use lib.Seq.{getD-set-same}
 use Rattle.bits.specs.Bits.{blank}
@@ -23,9 +23,9 @@ use Rattle.head.specs.Head.{wishOf, wishAnswer}
 use Rattle.head.proofs.Wishes.{wish-22}
 use Rattle.slot.specs.Slot.{headOf}
 use Rattle.table.specs.State.{setting, slotAt, find}
-use Rattle.table.specs.Calls.{followAnswer, leaveAnswer, endAnswer}
+use Rattle.table.specs.Calls.{endAnswer}
 use Rattle.table.proofs.Looking.{follow-wish, leave-27}
-use Rattle.asking.specs.Asking.{asked, askedBy, askPart}
+use Rattle.asking.specs.Asking.{asked, askPart}
 use Rattle.asking.specs.declared.Asked.{Asked}
 use Rattle.asking.proofs.Laws.{asked-refused}
 use Rattle.history.specs.Sent.{In}

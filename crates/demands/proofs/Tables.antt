@@ -5,8 +5,8 @@
 --   keeps-addresses      and its slots' addresses, but for those that it adds or takes away
 --
 -- Assumes nothing.
-use mathlib.Core.Path.{_≡_, refl, sym, ap, ap₂, _∙_, subst}
-use mathlib.Core.Bool.{Bool, true, false, cond, _&&_}
+use mathlib.Core.Path.{_≡_, refl, sym, ap, _∙_, subst}
+use mathlib.Core.Bool.{Bool, cond, _&&_}
 use mathlib.Core.List.{List, []}
 use Prim.Native.Nat.{ℕ, _<_}
 use native.Mathlib.Omega.{arith}
@@ -26,7 +26,7 @@ use Rattle.head.proofs.Bounds.{good-new}
 use Rattle.slot.proofs.Goods.{good-load, head-blank}
 use Rattle.slot.proofs.Heads.{withHead-length}
 use Rattle.table.specs.State.{stateSize, withSetting, startedState, slots, slotAt, withSlot, addressAt, find, good}
-use Rattle.table.specs.Calls.{startAfter, followAnswer, followAfter, leaveAnswer, leaveAfter, endAnswer, endAfter, ages, setAnswer, setAfter}
+use Rattle.table.specs.Calls.{followAnswer, followAfter, leaveAnswer, leaveAfter, endAnswer, endAfter, ages, setAnswer, setAfter}
 use Rattle.table.proofs.Looking.{state-rest}
 use Rattle.table.proofs.States.{each-good, good-each, slot-length, with-length, address-is, address-same, address-other, set-length, address-kept}
 use Rattle.table.proofs.Kept.{Followed, follow-passed, leave-passed, started-length, started-good, follow-good, leave-good, set-good, aged-slot, ages-good}
@@ -35,7 +35,7 @@ use Rattle.adapter.proofs.Laws.{Placed, packet-refused}
 use Rattle.demands.specs.Machine.{Call, start, follow, leave, packet, subframeEnd, setFlips, asks, ourAfter}
 use Rattle.demands.specs.Rows.{rowsOf}
 use Rattle.demands.specs.Table.{Good, addressAfter}
-use Rattle.demands.proofs.Serving.{older, here-size, here-good, ages-at, ages-long}
+use Rattle.demands.proofs.Serving.{here-size, here-good, ages-at, ages-long}
 use Rattle.demands.proofs.Acting.{taken-does}
 use Rattle.demands.proofs.Calling.{packet-here}
 use Rattle.demands.proofs.Parts.{by-place, placed-serves, placed-here, placed-others}

@@ -34,7 +34,7 @@ use Rattle.asking.specs.Asking.{asked, askPart}
 use Rattle.faults.specs.Faults.{numberDrops}
 use Rattle.group.specs.Group.{slotDropped}
 use Rattle.adapter.specs.Calls.{addressOf, packetAnswer, packetAfter, writeAfter}
-use Rattle.demands.specs.Machine.{Question, ask, Call, start, follow, leave, packet, subframeEnd, setFlips, asks, Board, Machine, ours, questionAnswer, ourAnswer, ourAfter, ourBoard, Bare, run}
+use Rattle.demands.specs.Machine.{Question, ask, Call, start, follow, leave, packet, subframeEnd, setFlips, asks, Board, Machine, ours, questionAnswer, ourAnswer, ourAfter, ourBoard, run}
 use Rattle.demands.specs.Rows.{indexOf}
 use Rattle.demands.specs.Empty.{but}
 

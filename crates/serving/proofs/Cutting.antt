@@ -12,7 +12,6 @@ use native.Mathlib.Omega.{arith}
 use native.Mathlib.Nat.{add-zero, add-assoc}
 use lib.ListN.{length, take, drop, length-append, length-drop}
 use lib.Seq.{drop-append-le, drop-drop}
-use Rattle.bits.specs.Bits.{blank}
 use Rattle.runs.specs.Part.{part}
 use Rattle.runs.proofs.Parts.{part-front}
 use Rattle.table.specs.State.{startedState}

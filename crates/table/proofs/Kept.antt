@@ -75,16 +75,16 @@ blank-good = record {
 }
 
 pub started-length : length startedState ≡ stateSize
-started-length = set-length (blank stateSize) (blank-length stateSize) mostFlips
+started-length = set-length (blank stateSize) (blank-length stateSize) _
 
 pub slot-started : (k : ℕ) → k < slots → slotAt k startedState ≡ blank slotSize
-slot-started k h = slot-kept (blank stateSize) (blank-length stateSize) mostFlips k h ∙ slot-blank k h
+slot-started k h = slot-kept (blank stateSize) (blank-length stateSize) _ k h ∙ slot-blank k h
 
 pub started-good : Good startedState
-started-good = good-set (blank stateSize) (blank-length stateSize) blank-good mostFlips (omega arith)
+started-good = good-set (blank stateSize) (blank-length stateSize) blank-good _ (omega arith)
 
 pub setting-started : setting startedState ≡ mostFlips
-setting-started = setting-put (blank stateSize) (blank-length stateSize) mostFlips
+setting-started = setting-put (blank stateSize) (blank-length stateSize) _
 
 pub start-good : (s : List ℕ) → length s ≡ stateSize → good (startAfter s) ≡ true
 unfolding startAfter startAnswer done

@@ -14,7 +14,7 @@ use mathlib.Core.List.{List, []}
 use Prim.Native.Nat.{ℕ, zero, suc, _+_, _≤_, _<_}
 use native.Mathlib.Omega.{arith}
 use native.Mathlib.Decide.{ℕ-discrete}
-use borrow.Author.Tests.{eq-eqb, ne-eqb, le-leb}
+use borrow.Author.Tests.{eq-eqb, ne-eqb}
 use lib.Dec.{eqb}
 use lib.ListN.{length}
 use Rattle.bits.specs.Bits.{blank}
@@ -29,7 +29,7 @@ use Rattle.head.specs.declared.Head.{Head}
 use Rattle.head.proofs.Bounds.{good-new}
 use Rattle.slot.proofs.Goods.{good-load, head-blank}
 use Rattle.slot.proofs.Heads.{withHead-length}
-use Rattle.table.specs.State.{slots, stateSize, startedState, slotAt, withSlot, addressAt, find, good}
+use Rattle.table.specs.State.{slots, startedState, slotAt, withSlot, addressAt, find, good}
 use Rattle.table.specs.Calls.{followAnswer, followAfter, leaveAnswer, leaveAfter, endAnswer, endAfter, ages}
 use Rattle.table.proofs.Looking.{Passed, state-rest}
 use Rattle.table.proofs.States.{has, slot-length, with-length, slot-same, address-is, address-same, address-other, good-each, each-good, good-change}

@@ -28,7 +28,6 @@ use Rattle.bits.proofs.Search.{first-le, first-holds, first-only, first-agree, 
 use Rattle.runs.specs.Part.{part, put}
 use Rattle.slot.specs.Slot.{headAt, slotSize, headOf, free, goodSlot}
 use Rattle.runs.specs.Numbers.{fourAt}
-use Rattle.head.specs.Head.{within, goodHead}
 use Rattle.runs.proofs.Parts.{put-length, part-put, part-put-before, part-put-after, getD-put-in, getD-put-after}
 use Rattle.head.proofs.Bounds.{wish-bounds, good-bounds}
 use Rattle.table.specs.State.{slots, tailAt, tailSize, stateSize, setting, withSetting, slotAt, withSlot, addressAt, find, goodAt, good}

@@ -1,7 +1,6 @@
 -- `bare::read_header_within` meets its contract: 33, 48, then 49 by the flips of the nearest header. Assumes nothing.
 use mathlib.Core.Path.{sym, ap, _∙_, subst}
 use Prim.Native.Nat.{ℕ, _≤_, _<_}
-use native.Mathlib.Omega.{arith}
 use Rattle.bare.specs.declared.Header.{Header}
 use Rattle.bare.proofs.Bare.{within-33, within-48, within-49, within-0}
 use borrow.Author.Needs.{needs}

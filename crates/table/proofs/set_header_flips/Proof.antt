@@ -1,5 +1,5 @@
 -- `table::set_header_flips` meets its contract: the rows of the state, 48, then the byte stored. Assumes nothing.
-use mathlib.Core.Path.{_≡_, refl, sym, _∙_}
+use mathlib.Core.Path.{refl, sym, _∙_}
 use native.Mathlib.Omega.{arith}
 use borrow.Author.Needs.{needs}
 use Rattle.bits.proofs.Rows.{refused, accepted}

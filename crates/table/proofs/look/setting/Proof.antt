@@ -1,5 +1,4 @@
 -- `table::look::setting` meets its contract: the byte behind the slots. Assumes nothing.
-use mathlib.Core.Path.{refl}
 use borrow.Author.Needs.{needs}
 use Rattle.table.specs.State.{setting}
 use Rattle.table.proofs.look.setting.Statement.{statement}
