@@ -118,11 +118,16 @@ fn by_table(n: u32) -> Header
     header_of(n, code::corrected(&patterns, n))
 }
 
-// The same for 23 bits that are in hand, as an image has them, by the rows: nothing is set up.
+// The same for 23 bits that are in hand, as an image has them, by the rows: nothing is set up. A clean one is read as it stands,
+// so that its flips need no second look.
 pub fn near_header(n: u32) -> Header
     requires { ⌜ n < 2 ^ 23 ⌝ }
     ensures { λ r. ⌜ r ≡ headerRead n ⌝ }
 {
+    let left = code::remainder(n);
+    if left == 0 {
+        return header_of(n, n);
+    }
     header_of(n, code::header_word(code::near(n)))
 }
 
