@@ -4,7 +4,8 @@
 --   group 0     the follow is in mid-stream: packets 2 and 3 alone
 --   group 1     three flips in a header, three in a word; address 18 is followed, sent to with three flips in a header, and
 --               left; a subframe ends
---   group 2     packet 0; then three are lost in a row, of which one comes with its spare bit set, and one without its last byte
+--   group 2     packet 0; then three are lost in a row: one comes with its spare bit set, one without its last byte, and one with three
+--               flips in its header while the setting is 2; then it is 3 again
 --   group 3     begun while group 2 is unfinished; four flips in a word
 --   group 4     eight flips in a type byte; a subframe ends, and ask is called
 --   group 5     as it was sent

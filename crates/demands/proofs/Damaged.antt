@@ -12,6 +12,8 @@
 --   other, other-counted, other-read, other-apart     a packet to address 18, with three flips in its header too
 --   spare-one, spare-read, spare-apart    packet 1 of group 2 with its spare bit set: read as 17, and counted as lost
 --   cut, cut-read, cut-number, cut-apart  packet 2 of group 2 without its last byte: read as 17, 20, and counted as lost
+--   strict, strict-flips, strict-read, strict-apart     packet 3 of group 2 with three flips in its header: read as 17, and at the setting 2
+--                                   counted as lost
 --
 -- Assumes nothing.
 use mathlib.Core.Path.{_≡_, refl, sym, ap, _∙_}

@@ -1,9 +1,10 @@
--- From a start on the table of followed addresses is the history's: what each call answers follows from the calls alone.
+-- From a start on the table of followed addresses and the setting are the history's: what each call answers follows from the calls alone.
 --
 --   used s             how many slots have an address
 --   Lists l s          the addresses of l, none of them twice, are those that a good state follows
 --   lists-now          each call keeps that; lists-run: and so do any calls
 --   by-history         what the calls answer then
+--   settings-run       the setting after any calls; history-run: what they answer from a start on
 --   keeps-table        ours
 --
 -- Assumes nothing.

@@ -2,7 +2,7 @@
 --
 --   slot-length, slot-same, slot-other    a slot of the state, after a change of it or of another
 --   setting-kept                          a slot's change keeps the setting
---   put-length, slot-kept, setting-put    the state with another setting: its length, its slots, its setting
+--   set-length, slot-kept, setting-put    the state with another setting: its length, its slots, its setting; find-kept: what is found
 --   find-*                                the lowest slot of an address
 --   Good, good-each, each-good            good as facts, and back
 --   used-one                              no two used slots share an address
