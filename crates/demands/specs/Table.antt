@@ -79,7 +79,7 @@ pub record ByHistory (m : Machine) (l : List ℕ) (k : ℕ) (t : List ℕ) : Typ
   -- from 1 to 1,022: 27 exactly if it is not followed
   pub leaves : (a : ℕ) → m .answer (leave a) t ≡ refusal (addressRows a (not (member a l)))
   pub asks : (a : ℕ) → Answers (addressRows a (not (member a l))) (4 ∷ 5 ∷ 6 ∷ 7 ∷ []) (m .answer (asks (ask a)) t)
-  -- 49 exactly if its header has more flips than the setting; otherwise 27 exactly if its address is not followed
+  -- 49 exactly if its header has more flips than the setting; otherwise 27 if its address is not followed
   pub beyond : (image : List ℕ) → length image ≡ 94 → spareOf image ≡ 0 → (m .answer (packet image) t ≡ 49) ↔ (k < flipsOf image)
   pub packets : (image : List ℕ) → length image ≡ 94 → spareOf image ≡ 0 → flipsOf image ≤ k → member (addressOf image) l ≡ false
       → m .answer (packet image) t ≡ 27

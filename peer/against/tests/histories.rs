@@ -42,10 +42,10 @@ fn as_fast_makes_it() {
     all_reached(&history(102, rounds(60_000), Call::make_fast));
 }
 
-/// Short ones, whose states are young, from many seeds.
+/// Short ones, whose states are young, from many seeds. A seed's lowest bit makes no other one.
 #[test]
 fn many_short_ones() {
     for seed in 0..rounds(100) as u64 {
-        history(1_000 + seed, 100, Call::make);
+        history(1_000 + 2 * seed, 100, Call::make);
     }
 }
