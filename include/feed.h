@@ -157,6 +157,11 @@ uint8_t feed_read_header(uint32_t n, uint16_t *address, uint8_t *index, uint8_t 
  * Refused, in this order: 33 (2^23 or more), 48 (most above 3), 49 (the nearest code word needs more flips than most).
  */
 uint8_t feed_read_header_within(uint32_t n, uint32_t most, uint16_t *address, uint8_t *index, uint8_t *flips);
+/*
+ * The same answers, proved so for every n and most, without a table: the error patterns themselves are tried, fewest flips first. For
+ * those who have to judge how a header is read (docs/APPROVAL.md); it tries up to 2,048 patterns, so it is no reader for a running feed.
+ */
+uint8_t feed_read_header_plain(uint32_t n, uint32_t most, uint16_t *address, uint8_t *index, uint8_t *flips);
 /* Refused: 33 (address above 1,023, index above 3). */
 uint8_t feed_write_header(uint32_t address, uint32_t index, uint32_t *header);
 /* A 24-bit word is read as the code word within three flips, if there is one. Refused, in this order: 33 (2^24 or more), 31. */

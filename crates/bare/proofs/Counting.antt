@@ -65,7 +65,7 @@ bit-set k n = omega arith
 
 -- the highest bit of a xor, where one number has it, and where both do
 module _ (k v n : ℕ) (hv : v < 2 ^ k) (hn : n < 2 ^ k) where
-  xor-one : bitXor v (2 ^ k + n) ≡ 2 ^ k + bitXor v n
+  pub xor-one : bitXor v (2 ^ k + n) ≡ 2 ^ k + bitXor v n
   xor-one = ap₂ bitXor (bit-clear k v) (bit-set k n) ∙ xor-block k 0 1 v n hv hn ∙ sym (bit-set k (bitXor v n))
 
   xor-both : bitXor (2 ^ k + v) (2 ^ k + n) ≡ bitXor v n
@@ -119,7 +119,7 @@ volume (suc k) zero = volume k zero
 volume (suc k) (suc j) = volume k (suc j) + volume k j
 
 -- a set bit above k bits is one more
-ones-set : (k n : ℕ) → n < 2 ^ k → ones (2 ^ k + n) ≡ suc (ones n)
+pub ones-set : (k n : ℕ) → n < 2 ^ k → ones (2 ^ k + n) ≡ suc (ones n)
 ones-set k n h = ap ones (bit-set k n) ∙ ones-cat k 1 n h ∙ ap (λ (x : ℕ). x + ones n) ones-one ∙ one-add (ones n)
 
 counted-first : (f : ℕ → Bool) → counted f 1 ≡ held (f 0)

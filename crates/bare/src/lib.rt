@@ -38,7 +38,9 @@ pub struct Written {
 }
 
 impl Header {
-    // How many headers, addresses and indices there are (4.3.6.1).
+    // How many bits a header has, and how many headers, addresses and indices there are (4.3.6.1).
+    pub const BITS: u32 = 23;
+
     pub const NUMBERS: u32 = 8388608;
 
     pub const ADDRESSES: u32 = 1024;

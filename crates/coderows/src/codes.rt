@@ -1,15 +1,15 @@
 // The bare calls, one by one, and the digest of many.
 //
 //     read-header N = NUMBER ADDRESS INDEX FLIPS     write-header ADDRESS INDEX = NUMBER HEADER
-//     read-header-within N MOST = NUMBER ADDRESS INDEX FLIPS
+//     read-header-within N MOST = NUMBER ADDRESS INDEX FLIPS, and the same of read-header-plain
 //     read-word N = NUMBER INFORMATION FLIPS         write-word N = NUMBER WORD
 //     read-type N = NUMBER VALUE FLIPS               write-type N = NUMBER VALUE
 //     many CALL FIRST STEP TIMES = DIGEST            of what a call answers of FIRST, FIRST + STEP, ..
 //
-// The calls are read-header 0, write-header 1, read-word 2, write-word 3, read-type 4, write-type 5, read-header-within 6. Of many, a header
-// to be written is one number: its address, and 1,024 for each index; and one to be read within a setting: the header, and 2^23 for each
-// flip of the setting. Their digest goes over the numbers of each
-// answer, four of them and four bytes a number, lowest first.
+// The calls are read-header 0, write-header 1, read-word 2, write-word 3, read-type 4, write-type 5, read-header-within 6,
+// read-header-plain 7. Of many, a header to be written is one number: its address, and 1,024 for each index; and one to be read at a setting,
+// by either reader: the header, and 2^23 for each flip of the setting. Their digest goes over the numbers of each answer, four of them and
+// four bytes a number, lowest first.
 use bare::Header;
 use bare::Written;
 use rows::Answer;
@@ -20,10 +20,10 @@ use rows::tell;
 
 pub fn called(row: Row) -> Answer {
     let names =
-        b"read-header write-header read-word write-word read-type write-type read-header-within many ";
+        b"read-header write-header read-word write-word read-type write-type read-header-within read-header-plain many ";
     let v = row.values;
     let call = tell::place(names, row.name);
-    if call == 7 {
+    if call == 8 {
         return Answer::one(4, many(v));
     }
     one(call, (v[0] % Row::WIDE) as u32, (v[1] % Row::WIDE) as u32)
@@ -38,6 +38,7 @@ fn one(call: u8, n: u32, second: u32) -> Answer {
         4 => kind((n % 256) as u8),
         5 => written(1, bare::write_type((n % 256) as u8)),
         6 => header(2, bare::read_header_within(n, second)),
+        7 => header(2, plain::read_header(n, second)),
         _ => Answer::unknown(),
     }
 }
@@ -99,7 +100,7 @@ fn many(v: [u64; 24]) -> u64 {
 fn one_of(call: u8, n: u32) -> Answer {
     match call {
         1 => one(call, n % Header::ADDRESSES, n / Header::ADDRESSES),
-        6 => one(call, n % Header::NUMBERS, n / Header::NUMBERS),
+        6 | 7 => one(call, n % Header::NUMBERS, n / Header::NUMBERS),
         _ => one(call, n, 0),
     }
 }

@@ -19,6 +19,7 @@ use lib.Dec.{eqb, leb}
 use lib.ListN.{length}
 use Rattle.bits.specs.Rows.{done, given}
 use Rattle.bare.specs.Bare.{headerRead, headerWithin, headerWritten, wordRead, wordWritten, typeRead, typeWritten}
+use Rattle.plain.specs.Plain.{headerPlain}
 use Rattle.bits.proofs.Rows.{further-refused, further-passed, done-refused, done-passed}
 use Rattle.packet.specs.Damage.{Refused}
 use Rattle.packet.specs.declared.Reading.{Reading}
@@ -44,7 +45,7 @@ use Rattle.group.proofs.Doing.{out-drops, taken-dropped}
 use Rattle.history.specs.Sent.{In}
 use Rattle.adapter.specs.Calls.{addressOf, unplaced, readingAt, packetAnswer, packetAfter, writeAnswer, writeAfter}
 use Rattle.adapter.proofs.Laws.{Placed, packet-refused}
-use Rattle.demands.specs.Machine.{Call, start, follow, leave, packet, subframeEnd, setFlips, asks, ask, Question, ours, questionAnswer, ourAnswer, ourAfter, ourBoard, Bare, readHeader, readWithin, writeHeader, readWord, writeWord, readType, writeType, bareNumber, bareValues}
+use Rattle.demands.specs.Machine.{Call, start, follow, leave, packet, subframeEnd, setFlips, asks, ask, Question, ours, questionAnswer, ourAnswer, ourAfter, ourBoard, Bare, readHeader, readWithin, readPlain, writeHeader, readWord, writeWord, readType, writeType, bareNumber, bareValues}
 use Rattle.demands.specs.Table.{member}
 use Rattle.demands.specs.Demand1.{unchanging, dropping, Dropped, DroppedBy, Demand1, AllZero}
 use Rattle.demands.proofs.Numbers.{among-in, in-among, in-every, in-none, rows-in}
@@ -239,9 +240,10 @@ given-refused zero v ne = absurd (ne refl)
 given-refused (suc n) v ne = refl
 
 valueless : (x : Bare) → (bareNumber x ≡ 0 → ⊥) → AllZero (bareValues x)
-unfolding bareNumber bareValues AllZero headerRead headerWithin headerWritten wordRead wordWritten typeRead typeWritten
+unfolding bareNumber bareValues AllZero headerRead headerWithin headerPlain headerWritten wordRead wordWritten typeRead typeWritten
 valueless (readHeader n) ne = (given-refused _ _ ne, (given-refused _ _ ne, (given-refused _ _ ne, tt)))
 valueless (readWithin n most) ne = (given-refused _ _ ne, (given-refused _ _ ne, (given-refused _ _ ne, tt)))
+valueless (readPlain n most) ne = (given-refused _ _ ne, (given-refused _ _ ne, (given-refused _ _ ne, tt)))
 valueless (writeHeader a i) ne = (given-refused _ _ ne, tt)
 valueless (readWord n) ne = (given-refused _ _ ne, (given-refused _ _ ne, tt))
 valueless (writeWord i) ne = (given-refused _ _ ne, tt)

@@ -24,6 +24,7 @@ use Rattle.bare.specs.Bare.{headerRead, headerWithin, headerWritten, wordRead, 
 use Rattle.bare.specs.declared.Header.{Header}
 use Rattle.bare.proofs.Bare.{header-large}
 use Rattle.bare.proofs.Theorems.{header-exactly}
+use Rattle.plain.proofs.Theorems.{plain-is-table}
 use Rattle.image.specs.Image.{headerOf}
 use Rattle.packet.specs.Received.{typeOf, usefulOf, unreadable, receivedNumber, received}
 use Rattle.slot.specs.Slot.{headOf}
@@ -39,7 +40,7 @@ use Rattle.group.specs.Group.{takenNumber}
 use Rattle.history.specs.Sent.{In}
 use Rattle.adapter.specs.Calls.{addressOf, beyond, unplaced, readingAt, packetAnswer, groupSize, writeAnswer}
 use Rattle.adapter.proofs.Laws.{Placed, placed-zero, packet-refused}
-use Rattle.demands.specs.Machine.{Call, start, follow, leave, packet, subframeEnd, setFlips, asks, ask, Question, questionAnswer, ourAnswer, Bare, readHeader, readWithin, writeHeader, readWord, writeWord, readType, writeType, bareNumber}
+use Rattle.demands.specs.Machine.{Call, start, follow, leave, packet, subframeEnd, setFlips, asks, ask, Question, questionAnswer, ourAnswer, Bare, readHeader, readWithin, readPlain, writeHeader, readWord, writeWord, readType, writeType, bareNumber}
 use Rattle.demands.specs.Rows.{indexOf, slotRows, questionRows, rowsOf, questionNumbers, ownNumbers, writeRows, bareRows, Answers}
 use Rattle.demands.proofs.Parts.{asked-number, by-place, placed-answer}
 
@@ -236,6 +237,8 @@ pub bare-answers : (x : Bare) → Answers (bareRows x) (0 ∷ []) (bareNumber x)
 unfolding bareNumber bareRows headerRead headerWithin headerWritten wordRead wordWritten typeRead typeWritten
 bare-answers (readHeader n) = answers-same _ _ refl
 bare-answers (readWithin n most) = answers-same _ _ refl
+bare-answers (readPlain n most) =
+    answers-same (bareRows (readPlain n most)) (bareNumber (readPlain n most)) (ap (λ (h : Header). h .number) (plain-is-table n most))
 bare-answers (writeHeader a i) = answers-same _ _ refl
 bare-answers (readWord n) = answers-same _ _ refl
 bare-answers (writeWord i) = answers-same _ _ refl

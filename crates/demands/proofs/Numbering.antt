@@ -2,7 +2,7 @@
 --
 --   lenient-fails, long-fails, misnumbered-fails, knowing-fails     a number that no row gives, by demand 1
 --   babbling-fails, boasting-fails                                  a part that is not empty, a number that is not ask's
---   mute-fails, sparing-fails                                       the bare calls and the writer, by demand 2
+--   mute-fails, timid-fails, sparing-fails                          the bare calls and the writer, by demand 2
 --
 -- Assumes nothing.
 use mathlib.Core.Path.{_≡_, refl, sym, ap, _∙_, subst}
@@ -14,10 +14,10 @@ use borrow.Author.Tests.{eq-eqb}
 use lib.Dec.{ltb, eqb, lit≤, lit<}
 use lib.ListN.{length, getD}
 use lib.Seq.{getD-set-same}
-use Rattle.bits.specs.Bits.{blank}
+use Rattle.bits.specs.Bits.{blank, flips}
 use Rattle.bits.specs.Rows.{Row, row, refusal}
 use Rattle.bits.proofs.Storing.{blank-length}
-use Rattle.bare.specs.Bare.{headerWritten}
+use Rattle.bare.specs.Bare.{headerWithin, headerWritten}
 use Rattle.image.specs.Image.{spareOf}
 use Rattle.head.specs.Head.{wishOf, wishAnswer}
 use Rattle.head.proofs.Wishes.{wish-22}
@@ -31,11 +31,15 @@ use Rattle.asking.proofs.Laws.{asked-refused}
 use Rattle.history.specs.Sent.{In}
 use Rattle.adapter.specs.Calls.{addressOf, flipsOf, followed, packetAnswer, writeAfter}
 use Rattle.demands.specs.Machine.{Call, follow, packet, subframeEnd, asks, ourAnswer, writeHeader, bareNumber, questionAnswer, ask}
+use Rattle.plain.specs.Plain.{patterns, trials, leaving, headerPlain}
+use Rattle.golay.specs.Code.{less, line, divide, remainder, word23, nearest}
+use Rattle.bits.specs.Search.{first}
+use lib.Count.{ones, onesIn}
 use Rattle.demands.specs.Rows.{stateRows, slotRows, rowsOf, ownNumbers, Answers, questionNumbers}
 use Rattle.demands.specs.Demand1.{Demand1}
 use Rattle.demands.specs.Demand2.{Writable, Demand2}
 use Rattle.demands.specs.Demand3.{Demand3}
-use Rattle.demands.specs.Harmful.{byCall, lenient, long, misnumbered, knowing, babbling, boasting, mute, sparing, asking}
+use Rattle.demands.specs.Harmful.{byCall, lenient, long, misnumbered, knowing, babbling, boasting, mute, atMostTwo, timid, sparing, asking}
 use Rattle.demands.proofs.Numbers.{in-among}
 use Rattle.demands.proofs.Numbered.{numbered}
 use Rattle.demands.proofs.Second.{written-images, written-length}
@@ -110,6 +114,13 @@ pub mute-fails : Demand2 mute → ⊥
 unfolding bareNumber headerWritten refusal
 mute-fails d =
     let z : _≡_ {A = ℕ} 33 0 = d .numbers (writeHeader 17 0) in
+    omega arith
+
+-- the word of 0 with bits 0 to 2 flipped, at 3: refused by a reader that tries no more than two flips, and read by the other
+pub timid-fails : Demand2 timid → ⊥
+unfolding atMostTwo bareNumber headerPlain headerWithin refusal trials patterns leaving remainder divide line less nearest first word23 flips ones onesIn
+timid-fails d =
+    let z : _≡_ {A = ℕ} 49 0 = d .readers 7 3 .0 in
     omega arith
 
 zeros-writable : Writable 17 0 (blank 360) (blank 376)

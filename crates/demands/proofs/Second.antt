@@ -5,6 +5,7 @@
 --   sent-sound      the images as they were written have no such damage: the demand's hypothesis can be met
 --   step            one of the images arrives: its answer, the view after it, and the other slots as they were
 --   four-answers, four-group, four-fresh     what four in turn make of any view
+--   same-readers    the plain header reader gives what the table reader gives
 --   demand-2
 --
 -- Assumes nothing.
@@ -22,6 +23,8 @@ use lib.Seq.{take-at, drop-at, take-all, drop-drop}
 use Rattle.bits.proofs.Rows.{done-passed}
 use Rattle.bits.proofs.Runs.{below-take, below-drop}
 use Rattle.bits.specs.Bits.{flips}
+use Rattle.bare.specs.declared.Header.{Header}
+use Rattle.plain.proofs.Theorems.{plain-is-table}
 use Rattle.image.specs.Image.{headerOf, spareOf}
 use Rattle.packet.specs.Received.{received, readableAs}
 use Rattle.packet.specs.Damage.{dataSize, sentImage, Corrected}
@@ -41,7 +44,7 @@ use Rattle.history.specs.Followed.{Followed, Event, moved, begun, joined, lastO
 use Rattle.history.specs.Followed as one
 use Rattle.adapter.specs.Calls.{addressOf, flipsOf, groupSize, imagesSize, packetOf, groupImages, packetAnswer, packetAfter, writeAnswer, writeAfter}
 use Rattle.adapter.proofs.Writing.{packet-length, write-0}
-use Rattle.demands.specs.Machine.{packet, ours, ourAnswer, ourAfter, Bytes, run, questionAnswer}
+use Rattle.demands.specs.Machine.{packet, ours, ourAnswer, ourAfter, Bytes, run, questionAnswer, readWithin, readPlain, bareNumber, bareValues}
 use Rattle.demands.specs.Demand2.{Follows, Writable, imageAt, Sound, answersTo, packets, ReadBack, Demand2}
 use Rattle.demands.specs.Seen.{eventOf, seenIn}
 use Rattle.demands.proofs.Serving.{Serves, view, Kept, here-address, here-wish}
@@ -369,10 +372,18 @@ module _ (s : List ℕ) (a p : ℕ) (m o t0 t1 t2 t3 : List ℕ) (w : Follows s 
           others = λ j h ne. step-3 .others j ne ∙ step-2 .others j ne ∙ step-1 .others j ne ∙ step-0 .others j ne;
         }
 
+-- ---- the two header readers
+
+same-readers : (n most : ℕ) → (bareNumber (readPlain n most) ≡ bareNumber (readWithin n most)) × (bareValues (readPlain n most) ≡ bareValues (readWithin n most))
+unfolding bareNumber bareValues
+same-readers n most =
+    (ap (λ (h : Header). h .number) (plain-is-table n most), ap (λ (h : Header). h .address ∷ h .index ∷ h .flips ∷ []) (plain-is-table n most))
+
 pub demand-2 : Demand2 ours
 demand-2 = record {
   numbers = λ x. refl;
   values = λ x. refl;
+  readers = same-readers;
   writes = write-zero;
   images = written-images;
   size = written-length;

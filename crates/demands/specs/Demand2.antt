@@ -1,6 +1,8 @@
 -- Demand 2: "Headers, type bytes, Golay words and linked groups are those of ETS 300 352, reading and writing. A group that we write and
 -- then read in order, at its address followed with the same protection, is the group that went in." With damage too: no more than
 -- is corrected, in each header the setting of the state that it is read on, two in each type byte, three in each protected word.
+-- The plain header reader (document 02, Ask 10) is "equal to the table reader for every 23-bit number and every setting .., the corrected
+-- count included", and by "Refusals: as the table reader" for every other number and setting too.
 --
 --   Follows s a p              the state is good, and an address is followed with this protection
 --   Writable a p m o           address, protection and both lengths are such that a group is written
@@ -19,7 +21,7 @@ use Rattle.runs.specs.Part.{part}
 use Rattle.slot.specs.Slot.{headOf}
 use Rattle.table.specs.State.{stateSize, setting, slots, slotAt, find, good}
 use Rattle.adapter.specs.Calls.{groupSize, imagesSize, groupImages, followed}
-use Rattle.demands.specs.Machine.{ask, Call, packet, asks, Machine, Bytes, run, Bare, bareNumber, bareValues}
+use Rattle.demands.specs.Machine.{ask, Call, packet, asks, Machine, Bytes, run, Bare, readWithin, readPlain, bareNumber, bareValues}
 
 pub record Follows (s : List ℕ) (a p : ℕ) : Type 0 where
   pub size : length s ≡ stateSize
@@ -60,6 +62,7 @@ pub record ReadBack (m : Machine) (s : List ℕ) (a : ℕ) (message : List ℕ) 
 pub record Demand2 (m : Machine) : Type 0 where
   pub numbers : (x : Bare) → m .bare x ≡ bareNumber x
   pub values : (x : Bare) → m .values x ≡ bareValues x
+  pub readers : (n most : ℕ) → (m .bare (readPlain n most) ≡ m .bare (readWithin n most)) × (m .values (readPlain n most) ≡ m .values (readWithin n most))
   pub writes : (a p : ℕ) (message output : List ℕ) → Writable a p message output → m .writes a p message output ≡ 0
   pub images : (a p : ℕ) (message output : List ℕ) → Writable a p message output → m .written a p message output ≡ groupImages (eqb p 1) a message
   pub size : (a p : ℕ) (message output : List ℕ) → Writable a p message output → length (m .written a p message output) ≡ 376

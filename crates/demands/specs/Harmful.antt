@@ -14,6 +14,7 @@
 --                  index 1 is answered 3
 --   babbling       ask refused shows a byte; boasting: board text's number is always 5
 --   mute           every bare call gives 33 and 0
+--   timid          the plain header reader never tries three flips
 --   sparing        the writer sets the spare bit of the first image
 --   unheeding      packets are read at 3, whatever the setting; severe: one refused with 49 drops the group of its address
 --   forgetful      leave puts 3; harsh: start puts 0; stubborn: the setting's call answers 0 and puts nothing
@@ -34,7 +35,7 @@ use Rattle.asking.specs.Asking.{asked, askPart}
 use Rattle.faults.specs.Faults.{numberDrops}
 use Rattle.group.specs.Group.{slotDropped}
 use Rattle.adapter.specs.Calls.{addressOf, packetAnswer, packetAfter, writeAfter}
-use Rattle.demands.specs.Machine.{Question, ask, Call, start, follow, leave, packet, subframeEnd, setFlips, asks, Board, Machine, ours, questionAnswer, ourAnswer, ourAfter, ourBoard, run}
+use Rattle.demands.specs.Machine.{Question, ask, Call, start, follow, leave, packet, subframeEnd, setFlips, asks, Board, Machine, ours, questionAnswer, ourAnswer, ourAfter, ourBoard, run, Bare, readHeader, readWithin, readPlain, writeHeader, readWord, writeWord, readType, writeType, bareNumber, bareValues}
 use Rattle.demands.specs.Rows.{indexOf}
 use Rattle.demands.specs.Empty.{but}
 
@@ -232,6 +233,29 @@ mute =
       written = ours .written;
       bare = λ x. 33;
       values = λ x. 0 ∷ [];
+    }
+
+unfoldable pub atMostTwo : Bare → Bare
+atMostTwo (readHeader n) = readHeader n
+atMostTwo (readWithin n most) = readWithin n most
+atMostTwo (readPlain n most) = readPlain n (cond (ltb 2 most) 2 most)
+atMostTwo (writeHeader a i) = writeHeader a i
+atMostTwo (readWord n) = readWord n
+atMostTwo (writeWord i) = writeWord i
+atMostTwo (readType b) = readType b
+atMostTwo (writeType b) = writeType b
+
+abbrev pub timid : Machine
+timid =
+    record {
+      answer = ourAnswer;
+      after = ourAfter;
+      shown = ours .shown;
+      board = ours .board;
+      writes = ours .writes;
+      written = ours .written;
+      bare = λ x. bareNumber (atMostTwo x);
+      values = λ x. bareValues (atMostTwo x);
     }
 
 abbrev pub sparing : Machine

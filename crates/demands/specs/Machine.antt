@@ -17,6 +17,7 @@ use mathlib.Core.List.{List, [], _∷_}
 use Prim.Native.Nat.{ℕ, _<_}
 use lib.ListN.{length, getD}
 use Rattle.bare.specs.Bare.{headerRead, headerWithin, headerWritten, wordRead, wordWritten, typeRead, typeWritten}
+use Rattle.plain.specs.Plain.{headerPlain}
 use Rattle.head.specs.declared.Wish.{Wish}
 use Rattle.table.specs.Calls.{startAnswer, startAfter, followAnswer, followAfter, leaveAnswer, leaveAfter, endAnswer, endAfter, setAnswer, setAfter}
 use Rattle.asking.specs.Asking.{asked, askPart, boardText}
@@ -46,6 +47,8 @@ pub data Bare : Type 0 where
   readHeader : ℕ → Bare
   -- a header, and the setting
   readWithin : ℕ → ℕ → Bare
+  -- the same without a table
+  readPlain : ℕ → ℕ → Bare
   -- address, index
   writeHeader : ℕ → ℕ → Bare
   readWord : ℕ → Bare
@@ -98,16 +101,18 @@ ourAfter (asks q) s = s
 unfoldable pub bareNumber : Bare → ℕ
 bareNumber (readHeader n) = headerRead n .number
 bareNumber (readWithin n most) = headerWithin n most .number
+bareNumber (readPlain n most) = headerPlain n most .number
 bareNumber (writeHeader a i) = headerWritten a i .number
 bareNumber (readWord n) = wordRead n .number
 bareNumber (writeWord i) = wordWritten i .number
 bareNumber (readType b) = typeRead b .number
 bareNumber (writeType b) = typeWritten b .number
 
--- address, index and flips, the same; the header; information and flips; the word; type and flips; the type
+-- address, index and flips, the same, and once more; the header; information and flips; the word; type and flips; the type
 unfoldable pub bareValues : Bare → List ℕ
 bareValues (readHeader n) = headerRead n .address ∷ headerRead n .index ∷ headerRead n .flips ∷ []
 bareValues (readWithin n most) = headerWithin n most .address ∷ headerWithin n most .index ∷ headerWithin n most .flips ∷ []
+bareValues (readPlain n most) = headerPlain n most .address ∷ headerPlain n most .index ∷ headerPlain n most .flips ∷ []
 bareValues (writeHeader a i) = headerWritten a i .value ∷ []
 bareValues (readWord n) = wordRead n .information ∷ wordRead n .flips ∷ []
 bareValues (writeWord i) = wordWritten i .value ∷ []

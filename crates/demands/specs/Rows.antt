@@ -30,7 +30,7 @@ use Rattle.head.specs.declared.Wish.{Wish}
 use Rattle.table.specs.State.{setting, slotAt, find, good}
 use Rattle.history.specs.Sent.{In}
 use Rattle.adapter.specs.Calls.{addressOf, flipsOf, followed}
-use Rattle.demands.specs.Machine.{Question, ask, Call, start, follow, leave, packet, subframeEnd, setFlips, asks, Bare, readHeader, readWithin, writeHeader, readWord, writeWord, readType, writeType}
+use Rattle.demands.specs.Machine.{Question, ask, Call, start, follow, leave, packet, subframeEnd, setFlips, asks, Bare, readHeader, readWithin, readPlain, writeHeader, readWord, writeWord, readType, writeType}
 
 -- ---- the calls on a state
 
@@ -113,6 +113,8 @@ writeRows a p message output =
 unfoldable pub bareRows : Bare → List Row
 bareRows (readHeader n) = row (leb (2 ^ 23) n) 33 ∷ []
 bareRows (readWithin n most) = row (leb (2 ^ 23) n) 33 ∷ row (ltb 3 most) 48 ∷ row (ltb most (flips (word23 (nearest word23 n)) n)) 49 ∷ []
+-- "Refusals: as the table reader"
+bareRows (readPlain n most) = row (leb (2 ^ 23) n) 33 ∷ row (ltb 3 most) 48 ∷ row (ltb most (flips (word23 (nearest word23 n)) n)) 49 ∷ []
 bareRows (writeHeader a i) = row (ltb 1023 a) 33 ∷ row (ltb 3 i) 33 ∷ []
 bareRows (readWord n) = row (leb (2 ^ 24) n) 33 ∷ row (leb 4096 (nearest word24 n)) 31 ∷ []
 bareRows (writeWord i) = row (leb 4096 i) 33 ∷ []

@@ -7,12 +7,15 @@
 --   start-same .. write-group-same          the calls on a state, and the group writer
 --
 -- Assumes nothing.
-use mathlib.Core.Path.{_≡_, ap}
+use mathlib.Core.Path.{_≡_, ap, _∙_}
 use mathlib.Core.List.{List}
 use Prim.Native.Nat.{ℕ}
 use lib.ListN.{length}
 use Rattle.bits.proofs.Determined.{determined}
 use Rattle.bare.specs.Bare.{headerRead, headerWithin, headerWritten, wordRead, wordWritten, typeRead, typeWritten}
+use Rattle.bare.specs.declared.Header.{Header}
+use Rattle.plain.specs.Plain.{headerPlain}
+use Rattle.plain.proofs.Theorems.{plain-is-table}
 use Rattle.packet.specs.declared.Reading.{Reading}
 use Rattle.head.specs.declared.Wish.{Wish}
 use Rattle.table.specs.Calls.{startAnswer, startAfter, followAnswer, followAfter, leaveAnswer, leaveAfter, endAnswer, endAfter, setAnswer, setAfter}
@@ -56,6 +59,21 @@ pub read-header-within-same : (n most : ℕ)
     → Four (headerWithin n most .number) (headerWithin n most .address) (headerWithin n most .index) (headerWithin n most .flips)
 read-header-within-same n most =
     four (headerWithin n most .number) (headerWithin n most .address) (headerWithin n most .index) (headerWithin n most .flips)
+
+pub read-header-plain-same : (n most : ℕ)
+    → Four (headerPlain n most .number) (headerPlain n most .address) (headerPlain n most .index) (headerPlain n most .flips)
+read-header-plain-same n most =
+    four (headerPlain n most .number) (headerPlain n most .address) (headerPlain n most .index) (headerPlain n most .flips)
+
+-- what the plain call may give and leave is also what the call by the table may
+pub either-reader : (n most r x v m : ℕ) → r ≡ headerPlain n most .number → x ≡ headerPlain n most .address
+    → v ≡ headerPlain n most .index → m ≡ headerPlain n most .flips
+    → (r ≡ headerWithin n most .number) × ((x ≡ headerWithin n most .address) × ((v ≡ headerWithin n most .index) × (m ≡ headerWithin n most .flips)))
+either-reader n most r x v m e f g h =
+    let same = plain-is-table n most in (
+      e ∙ ap (λ (y : Header). y .number) same,
+      (f ∙ ap (λ (y : Header). y .address) same, (g ∙ ap (λ (y : Header). y .index) same, h ∙ ap (λ (y : Header). y .flips) same)),
+    )
 
 pub write-header-same : (a i : ℕ) → Two (headerWritten a i .number) (headerWritten a i .value)
 write-header-same a i = two (headerWritten a i .number) (headerWritten a i .value)

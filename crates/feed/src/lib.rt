@@ -4,6 +4,7 @@
 // calls    the calls on a state, and the group writer
 ghost use mathlib.Core.Path.{_≡_};
 ghost use Rattle.bare.specs.Bare.{headerRead, headerWithin, headerWritten, wordRead, wordWritten, typeRead, typeWritten};
+ghost use Rattle.plain.specs.Plain.{headerPlain};
 ghost use Rattle.feed.specs.Fed.{values, fed};
 use bare::Header;
 use image::Packet;
@@ -36,6 +37,27 @@ pub extern "C" fn feed_read_header_within(
     ensures { λ _. ⌜ now (flips .exit) ≡ headerWithin n most .flips ⌝ }
 {
     let header = bare::read_header_within(n, most);
+    *address = header.address;
+    *index = header.index;
+    *flips = header.flips;
+    header.number
+}
+
+// The same without a table: the error patterns themselves are tried, fewest flips first.
+#[no_mangle]
+pub extern "C" fn feed_read_header_plain(
+    n: u32,
+    most: u32,
+    address: &mut u16,
+    index: &mut u8,
+    flips: &mut u8,
+) -> u8
+    ensures { λ r. ⌜ r ≡ headerPlain n most .number ⌝ }
+    ensures { λ _. ⌜ now (address .exit) ≡ headerPlain n most .address ⌝ }
+    ensures { λ _. ⌜ now (index .exit) ≡ headerPlain n most .index ⌝ }
+    ensures { λ _. ⌜ now (flips .exit) ≡ headerPlain n most .flips ⌝ }
+{
+    let header = plain::read_header(n, most);
     *address = header.address;
     *index = header.index;
     *flips = header.flips;

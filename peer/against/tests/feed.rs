@@ -1,6 +1,8 @@
 //! The type for programs in Rust: it says what the calls under it say.
 
-use against::feed::{write_group, Feed, Protection, Refusal, Taken, Worth};
+use against::feed::{
+    read_header, read_header_plain, write_group, Feed, Header, Protection, Refusal, Taken, Worth,
+};
 use second::samples::calls::{self, Call};
 use second::samples::{difference, flip, rounds, states};
 use second::table::STATE;
@@ -33,6 +35,22 @@ fn a_group_from_its_writing_to_its_end() {
     assert_eq!(feed.leave(17), Ok(()));
     assert_eq!(feed.board_text(17, NOTICE), (Err(Refusal(27)), NOTICE));
     assert_eq!(feed.bytes(), Feed::new().bytes());
+}
+
+/// Address 17, index 0, with bits 0 and 5 flipped, by both readers.
+#[test]
+fn a_bare_header_by_either_reader() {
+    let read = Header {
+        address: 17,
+        index: 0,
+        flips: 2,
+    };
+    for reader in [read_header, read_header_plain] {
+        assert_eq!(reader(0x75F030, 2), Ok(read));
+        assert_eq!(reader(0x75F030, 1), Err(Refusal(49)));
+        assert_eq!(reader(0x75F030, 4), Err(Refusal(48)));
+        assert_eq!(reader(0x800000, 4), Err(Refusal(33)));
+    }
 }
 
 /// "A header refused so belongs to no slot and changes nothing."

@@ -5,9 +5,11 @@
 //! it is with a `Map`, the multiplex's map.
 
 mod answers;
+mod header;
 mod map;
 
 pub use answers::{Protection, Refusal, Taken, Worth};
+pub use header::{read_header, read_header_plain, Header};
 pub use map::{Map, Reach, Structure};
 
 use crate::calls;

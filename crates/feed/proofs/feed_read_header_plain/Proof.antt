@@ -1,0 +1,14 @@
+-- `feed::feed_read_header_plain` meets its contract: each value is the field of what the plain reader gives. Assumes nothing.
+use borrow.Author.Needs.{needs}
+use Rattle.feed.proofs.Fields.{header-fields}
+use Rattle.feed.proofs.feed_read_header_plain.Statement.{statement}
+use Rattle.feed.proofs.feed_read_header_plain.Tie as tie
+
+read-header-requires : tie.Need-read-header-requires
+read-header-requires c κs = search needs
+
+returns : tie.Need-returns
+returns c = header-fields (c .read-header .ensures)
+
+pub feed-read-header-plain-spec : {M : Type 1} → statement M
+feed-read-header-plain-spec = tie.close (tie.spec read-header-requires returns)
