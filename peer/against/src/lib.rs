@@ -22,6 +22,13 @@ extern "C" {
         index: *mut u8,
         flips: *mut u8,
     ) -> u8;
+    fn feed_read_header_plain(
+        n: u32,
+        most: u32,
+        address: *mut u16,
+        index: *mut u8,
+        flips: *mut u8,
+    ) -> u8;
     fn feed_write_header(address: u32, index: u32, header: *mut u32) -> u8;
     fn feed_read_word(n: u32, information: *mut u16, flips: *mut u8) -> u8;
     fn feed_write_word(information: u32, word: *mut u32) -> u8;
@@ -59,6 +66,14 @@ pub fn read_header_within(n: u32, most: u32) -> (u8, u16, u8, u8) {
     let (mut address, mut index, mut flips) = (MARK16, MARK, MARK);
     // SAFETY: the call writes only these three values, and all live until it returns.
     let number = unsafe { feed_read_header_within(n, most, &mut address, &mut index, &mut flips) };
+    (number, address, index, flips)
+}
+
+/// The same by the reader that names no table.
+pub fn read_header_plain(n: u32, most: u32) -> (u8, u16, u8, u8) {
+    let (mut address, mut index, mut flips) = (MARK16, MARK, MARK);
+    // SAFETY: the call writes only these three values, and all live until it returns.
+    let number = unsafe { feed_read_header_plain(n, most, &mut address, &mut index, &mut flips) };
     (number, address, index, flips)
 }
 

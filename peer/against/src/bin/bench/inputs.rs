@@ -13,6 +13,10 @@ pub type Image = [u8; IMAGE];
 pub type State = [u8; STATE];
 
 const WORDS: usize = 16_384;
+/// Few enough for a reader that tries pattern after pattern, which takes a thousand times as long as one with a table.
+const FEW_HEADERS: usize = 128;
+/// The pattern that such a reader comes to last.
+const LAST_PATTERN: u32 = 0x70_0000;
 /// Few enough to stay in the nearest cache, too many for a branch to be learnt by heart.
 const IMAGES: usize = 256;
 
@@ -24,6 +28,19 @@ pub fn words(flips: usize) -> Vec<u32> {
 /// Headers, without a parity bit, with so many flips.
 pub fn headers(flips: usize) -> Vec<u32> {
     damaged(47, word23, 23, flips)
+}
+
+/// Fewer of them, for the reader that names no table.
+pub fn few_headers(flips: usize) -> Vec<u32> {
+    let mut few = headers(flips);
+    few.truncate(FEW_HEADERS);
+    few
+}
+
+/// Headers of which every pattern is tried: the worst case.
+pub fn headers_tried_last() -> Vec<u32> {
+    let clean = few_headers(0);
+    clean.iter().map(|header| header ^ LAST_PATTERN).collect()
 }
 
 fn damaged(seed: u64, word: fn(u32) -> u32, width: usize, flips: usize) -> Vec<u32> {

@@ -23,6 +23,11 @@ fn main() {
     headers("read header, 3 flips", &inputs::headers(3));
     headers_within("read header at setting 3, 3 flips", 3, &inputs::headers(3));
     headers_within("read header at setting 2, 3 flips: 49", 2, &inputs::headers(3));
+    headers_plain("read header, plain: clean", &inputs::few_headers(0));
+    headers_plain("read header, plain: 1 flip", &inputs::few_headers(1));
+    headers_plain("read header, plain: 2 flips", &inputs::few_headers(2));
+    headers_plain("read header, plain: 3 flips", &inputs::few_headers(3));
+    headers_plain("read header, plain: the last pattern", &inputs::headers_tried_last());
     images("received plain, clean", false, &inputs::plain());
     images("received protected, clean", true, &inputs::protected(0));
     let damaged = inputs::protected(3);
@@ -60,6 +65,14 @@ fn headers_within(name: &str, most: u32, headers: &[u32]) {
     let ours = || headers.iter().map(|&header| sum(against::read_header_within(header, most))).sum();
     let fast = || headers.iter().map(|&header| sum(read(header, most))).sum();
     Row::measure(headers.len(), ours, fast).print(name);
+}
+
+/// The reader that names no table beside the second program's, which tries the same patterns in the same order.
+fn headers_plain(name: &str, headers: &[u32]) {
+    let read = black_box(rival::READ_HEADER_PLAIN);
+    let ours = || headers.iter().map(|&header| sum(against::read_header_plain(header, MOST_FLIPS))).sum();
+    let plain = || headers.iter().map(|&header| sum(read(header, MOST_FLIPS))).sum();
+    Row::measure(headers.len(), ours, plain).print(name);
 }
 
 fn sum((number, address, index, flips): (u8, u16, u8, u8)) -> u64 {

@@ -5,6 +5,7 @@ use crate::Machine;
 use second::golay::{read_header, read_header_within, read_word, write_header, write_word};
 use second::group::{packet, write_group};
 use second::image::{protect, received, write_image, IMAGE, PROTECTED, USEFUL};
+use second::plain::read_header_plain;
 use second::table::{ask, board_text, follow, leave, set_header_flips, start, subframe_end, Lent, STATE};
 use second::types::{read_type, write_type};
 
@@ -135,6 +136,7 @@ fn on_codes(name: &str, args: &[u64]) -> Option<Vec<u64>> {
         ("read-type", &[n]) => Some(code(4, wide(n), 0)),
         ("write-type", &[n]) => Some(code(5, wide(n), 0)),
         ("read-header-within", &[n, most]) => Some(code(6, wide(n), wide(most))),
+        ("read-header-plain", &[n, most]) => Some(code(7, wide(n), wide(most))),
         ("many", &[call, first, step, times]) => Some(vec![many(call, first, step, times)]),
         _ => None,
     }
@@ -159,6 +161,7 @@ fn code(call: u64, n: u32, other: u32) -> Vec<u64> {
             two((number, value.into()))
         }
         6 => four(read_header_within(n, other)),
+        7 => four(read_header_plain(n, other)),
         _ => panic!("many of no call"),
     }
 }
@@ -177,7 +180,7 @@ fn many(call: u64, first: u64, step: u64, times: u64) -> u64 {
         let n = wide(first + k * step);
         let mut answer = match call {
             1 => code(1, n % ADDRESSES, n / ADDRESSES),
-            6 => code(6, n % HEADERS, n / HEADERS),
+            6 | 7 => code(call, n % HEADERS, n / HEADERS),
             _ => code(call, n, 0),
         };
         answer.resize(4, 0);
