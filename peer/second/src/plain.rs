@@ -1,4 +1,4 @@
-//! The header reader that names no table: error patterns are tried, fewest flips first, until one leaves a word.
+//! The plain header reader (document 02, Ask 10), which names no table: error patterns are tried, fewest flips first, until one leaves a word.
 //!
 //! `golay` looks through all words and `fast` keeps a table; here nothing is kept, and no word is made. Bit k of a header
 //! is the k-th bit sent and stands for x^(22-k), so the division (4.3.6.1.3) goes from bit 0 upwards.
