@@ -1,6 +1,7 @@
 -- The bare calls case by case: what each definition of specs/Bare.antt comes to where a row holds and where none does.
 --
 --   header-large, header-small, header-word    33; read as the nearest word
+--   header-few, header-clean                   its flips: at most three; none where nothing is left
 --   within-33, within-48, within-49, within-0  the reader with a setting; within-three: at 3 it is the reader without one
 --   header-address, header-index, header-written
 --   word-large, word-none, word-near, word-clean, near-small, judged-clean, judged-by
@@ -20,13 +21,13 @@ use Rattle.bits.specs.Rows.{row, refusal, given}
 use Rattle.bits.proofs.Flips.{flips-same}
 use Rattle.bits.proofs.Rows.{refusal-hit, refusal-miss}
 use Rattle.bare.specs.Bare.{headerRead, mostFlips, headerWithin, headerRefused, headerWritten, wordRead, wordWritten, Judged}
-use Rattle.golay.specs.Code.{word23, word24, check, nearest}
+use Rattle.golay.specs.Code.{remainder, word23, word24, check, nearest}
 use Rattle.bare.specs.declared.Header.{Header}
 use Rattle.bare.specs.declared.Word.{Word}
 use Rattle.bare.specs.declared.Written.{Written}
 use native.Mathlib.Decide.{decLt}
 use Rattle.golay.proofs.Nearest.{nearest-near}
-use Rattle.golay.proofs.Reading.{clean-word, nearest23-lt, nearest24-is, nearest24-none}
+use Rattle.golay.proofs.Reading.{clean-word, clean-nearest, nearest23-lt, nearest24-is, nearest24-none}
 use Rattle.golay.proofs.Words.{word23-first}
 
 -- ---- headers
@@ -94,6 +95,10 @@ header-flips n h = ap (λ (x : Header). x .flips) (header-small n h)
 -- a header of 23 bits lies within three flips of its word
 pub header-few : (n : ℕ) → n < 2 ^ 23 → headerRead n .flips ≤ mostFlips
 header-few n h = omega (arith, header-flips n h, nearest-near word23 n (nearest23-lt n h))
+
+-- what leaves no remainder has none
+pub header-clean : (n : ℕ) → n < 2 ^ 23 → remainder n ≡ 0 → headerRead n .flips ≡ 0
+header-clean n h e = header-flips n h ∙ ap (λ (x : ℕ). flips x n) (sym (clean-nearest n e)) ∙ flips-same n
 
 module _ (n most : ℕ) (h : n < 2 ^ 23) where
   past-33 : withinRows n most ≡ refusal (row (ltb mostFlips most) 48 ∷ row (ltb most (flipsRead n)) 49 ∷ [])

@@ -2,6 +2,7 @@ pub mod Bare
 pub mod Counting
 pub mod Determined
 pub mod Edges
+pub mod Entries
 pub mod Noise
 pub mod Theorems
 pub mod Types

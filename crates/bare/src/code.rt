@@ -28,21 +28,12 @@ pub fn remainder(n: u32) -> u32
     lookup::check(n % 4096) % 2048 ^ n / 4096
 }
 
-// The information of the word nearest to 23 bits, by the rows: what the pattern of their remainder says is flipped of it,
-// flipped back.
-pub fn near(n: u32) -> u32
-    requires { ⌜ n < 2 ^ 23 ⌝ }
-    ensures { λ r. ⌜ r ≡ nearest word23 n ⌝ }
-{
-    n % 4096 ^ fours::turned(remainder(n))
-}
-
-// The word nearest to 23 bits, by the table of patterns.
-pub fn corrected(patterns: &[u32], n: u32) -> u32
+// The word nearest to 23 bits, by the table of patterns and their remainder.
+pub fn corrected(patterns: &[u32], n: u32, r: u32) -> u32
     requires { ⌜ Patterns (now patterns) ⌝ }
     requires { ⌜ n < 2 ^ 23 ⌝ }
-    ensures { λ r. ⌜ r ≡ word23 (nearest word23 n) ⌝ }
+    requires { ⌜ r ≡ remainder n ⌝ }
+    ensures { λ v. ⌜ v ≡ word23 (nearest word23 n) ⌝ }
 {
-    let r = remainder(n) as usize;
-    n ^ patterns[r]
+    n ^ patterns[r as usize]
 }

@@ -73,11 +73,19 @@ impl TypeByte {
     pub const CORRECTED: u32 = 2;
 }
 
-// 33: a header of 2^23 or more. Below it none is refused: each lies within three flips of a word.
+// 33: a header of 2^23 or more. Below it none is refused: each lies within three flips of a word. It is the reader below at 3, and is written
+// out so that what is set up for a damaged header stands apart from both: a clean one is then read in a few steps.
 pub fn read_header(n: u32) -> Header
     ensures { λ r. ⌜ r ≡ headerRead n ⌝ }
 {
-    read_header_within(n, Header::CORRECTED)
+    if Header::NUMBERS <= n {
+        return refused(33);
+    }
+    let rest = code::remainder(n);
+    if rest == 0 {
+        return header_of(n, n);
+    }
+    by_table(n, rest)
 }
 
 // 33: a header of 2^23 or more; 48: a setting above 3; 49: more flips than the setting.
@@ -90,7 +98,11 @@ pub fn read_header_within(n: u32, most: u32) -> Header
     if Header::CORRECTED < most {
         return refused(48);
     }
-    let header = by_table(n);
+    let rest = code::remainder(n);
+    if rest == 0 {
+        return header_of(n, n);
+    }
+    let header = by_table(n, rest);
     if most < header.flips as u32 {
         return refused(49);
     }
@@ -108,20 +120,18 @@ fn refused(number: u8) -> Header
     }
 }
 
-// The nearest header by the constant table of patterns, which is set up only where the header is damaged.
-fn by_table(n: u32) -> Header
+// The nearest header by the constant table of patterns, which is set up for it, and the remainder.
+fn by_table(n: u32, rest: u32) -> Header
     requires { ⌜ n < 2 ^ 23 ⌝ }
+    requires { ⌜ rest ≡ remainder n ⌝ }
     ensures { λ r. ⌜ r ≡ headerRead n ⌝ }
 {
-    if code::remainder(n) == 0 {
-        return header_of(n, n);
-    }
     let patterns = lookup::patterns();
-    header_of(n, code::corrected(&patterns, n))
+    header_of(n, code::corrected(&patterns, n, rest))
 }
 
-// The same for 23 bits that are in hand, as an image has them, by the rows: nothing is set up. A clean one is read as it stands,
-// so that its flips need no second look.
+// The same for 23 bits that are in hand, as an image has them, by the rows: nothing is set up, and the rows have the flips too. A clean one
+// is read as it stands and needs no row.
 pub fn near_header(n: u32) -> Header
     requires { ⌜ n < 2 ^ 23 ⌝ }
     ensures { λ r. ⌜ r ≡ headerRead n ⌝ }
@@ -130,7 +140,14 @@ pub fn near_header(n: u32) -> Header
     if left == 0 {
         return header_of(n, n);
     }
-    header_of(n, code::header_word(code::near(n)))
+    let entry = fours::entry(left);
+    let i = n % Word::INFORMATIONS ^ entry % Word::INFORMATIONS;
+    Header {
+        number: 0,
+        address: (i % Header::ADDRESSES) as u16,
+        index: (i / Header::ADDRESSES) as u8,
+        flips: (entry / Word::INFORMATIONS) as u8,
+    }
 }
 
 // The header that 23 bits are read as, once the nearest word is known.
@@ -210,14 +227,16 @@ pub fn judged(n: u32) -> u32
     damaged(n, wrong % 2048)
 }
 
-// The same by the remainder of the first 23 bits: the information nearest to them, and in how many of all 24 bits its word differs.
+// The same by the remainder of the first 23 bits: the information nearest to them, and how many of them are flipped. All 24 bits of a word
+// have odd parity, so the parity bit is flipped too where the ones and the flips together are even.
 fn damaged(n: u32, r: u32) -> u32
     requires { ⌜ n < 2 ^ 24 ⌝ }
     requires { ⌜ r ≡ remainder (n % 2 ^ 23) ⌝ }
     ensures { λ v. ⌜ Judged n v ⌝ }
 {
-    let i = n % Word::INFORMATIONS ^ fours::turned(r);
-    i + u32::count_ones(n ^ code::data_word(i)) * Word::INFORMATIONS
+    let near = n % Word::INFORMATIONS ^ fours::entry(r);
+    let even = (u32::count_ones(n) + near / Word::INFORMATIONS + 1) % 2;
+    near + even * Word::INFORMATIONS
 }
 
 // 33: an information of 4,096 or more.

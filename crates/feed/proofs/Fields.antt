@@ -3,17 +3,20 @@
 -- Written out, and not left to `cc` at the needs: there it would read the two codes as well.
 --
 -- Assumes nothing.
-use mathlib.Core.Path.{_≡_, ap}
+use mathlib.Core.Path.{_≡_, ap, _∙_}
+use Prim.Native.Nat.{ℕ}
 use Rattle.bare.specs.declared.Header.{Header}
 use Rattle.bare.specs.declared.Word.{Word}
 use Rattle.bare.specs.declared.TypeByte.{TypeByte}
 use Rattle.bare.specs.declared.Written.{Written}
 
-pub header-fields : {r x : Header} → r ≡ x
-    → (r .number ≡ x .number) × ((r .address ≡ x .address) × ((r .index ≡ x .index) × (r .flips ≡ x .flips)))
-header-fields e = (
-  ap (λ (h : Header). h .number) e,
-  (ap (λ (h : Header). h .address) e, (ap (λ (h : Header). h .index) e, ap (λ (h : Header). h .flips) e)),
+-- a header's four are handed over by one function, `feed::hand`, whichever reader gave them
+pub header-handed : {r x : Header} {number address index flips : ℕ} → r ≡ x
+    → (number ≡ r .number) × ((address ≡ r .address) × ((index ≡ r .index) × (flips ≡ r .flips)))
+    → (number ≡ x .number) × ((address ≡ x .address) × ((index ≡ x .index) × (flips ≡ x .flips)))
+header-handed e g = (
+  g .0 ∙ ap (λ (h : Header). h .number) e,
+  (g .1 .0 ∙ ap (λ (h : Header). h .address) e, (g .1 .1 .0 ∙ ap (λ (h : Header). h .index) e, g .1 .1 .1 ∙ ap (λ (h : Header). h .flips) e)),
 )
 
 pub word-fields : {r x : Word} → r ≡ x

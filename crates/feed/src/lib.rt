@@ -19,7 +19,7 @@ pub extern "C" fn feed_read_header(n: u32, address: &mut u16, index: &mut u8, fl
     ensures { λ _. ⌜ now (index .exit) ≡ headerRead n .index ⌝ }
     ensures { λ _. ⌜ now (flips .exit) ≡ headerRead n .flips ⌝ }
 {
-    feed_read_header_within(n, Header::CORRECTED, address, index, flips)
+    hand(bare::read_header(n), address, index, flips)
 }
 
 // 33: a header of 2^23 or more; 48: a setting above 3; 49: more flips than the setting.
@@ -36,11 +36,7 @@ pub extern "C" fn feed_read_header_within(
     ensures { λ _. ⌜ now (index .exit) ≡ headerWithin n most .index ⌝ }
     ensures { λ _. ⌜ now (flips .exit) ≡ headerWithin n most .flips ⌝ }
 {
-    let header = bare::read_header_within(n, most);
-    *address = header.address;
-    *index = header.index;
-    *flips = header.flips;
-    header.number
+    hand(bare::read_header_within(n, most), address, index, flips)
 }
 
 // The same without a table: the error patterns themselves are tried, fewest flips first.
@@ -57,7 +53,16 @@ pub extern "C" fn feed_read_header_plain(
     ensures { λ _. ⌜ now (index .exit) ≡ headerPlain n most .index ⌝ }
     ensures { λ _. ⌜ now (flips .exit) ≡ headerPlain n most .flips ⌝ }
 {
-    let header = plain::read_header(n, most);
+    hand(plain::read_header(n, most), address, index, flips)
+}
+
+// What was read of a header, handed over.
+fn hand(header: Header, address: &mut u16, index: &mut u8, flips: &mut u8) -> u8
+    ensures { λ r. ⌜ r ≡ header .number ⌝ }
+    ensures { λ _. ⌜ now (address .exit) ≡ header .address ⌝ }
+    ensures { λ _. ⌜ now (index .exit) ≡ header .index ⌝ }
+    ensures { λ _. ⌜ now (flips .exit) ≡ header .flips ⌝ }
+{
     *address = header.address;
     *index = header.index;
     *flips = header.flips;

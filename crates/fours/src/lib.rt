@@ -3,19 +3,20 @@
 //
 // rows    the rows
 ghost use mathlib.Core.Path.{_≡_};
-ghost use Prim.Native.Nat.{_%_, _<_};
+ghost use Prim.Native.Nat.{_<_};
 ghost use lib.ListN.{getD};
-ghost use Rattle.golay.proofs.Fours.{four};
+ghost use Rattle.golay.proofs.Fours.{four, entryOf};
 ghost use Rattle.golay.proofs.Rule.{patterns};
 
 mod rows;
 
-// The first twelve bits of the pattern of a remainder: what is flipped of the information. They are that table's.
-pub fn turned(r: u32) -> u32
+// The pattern of a remainder, which is that table's: its first twelve bits, what is flipped of the information, and 4,096 times how many
+// bits are flipped in all.
+pub fn entry(r: u32) -> u32
     requires { ⌜ r < 2048 ⌝ }
-    ensures { λ v. ⌜ v ≡ getD patterns r 0 % 4096 ⌝ }
+    ensures { λ v. ⌜ v ≡ entryOf (getD patterns r 0) ⌝ }
 {
-    ((four(r / 4) >> r % 4 * 16) % 4096) as u32
+    ((four(r / 4) >> r % 4 * 16) % 65536) as u32
 }
 
 // The four patterns from 4 k on.

@@ -1,56 +1,48 @@
--- `bare::damaged` meets its contract: the information nearest to the first 23 bits, judged with the parity bit.
+-- `bare::damaged` meets its contract: information and flips of the first 23 bits by the entry of their remainder, and the parity bit's flip
+-- by the parity of all.
 -- Assumes nothing.
-use mathlib.Core.Path.{_≡_, sym, ap, _∙_, subst}
+use mathlib.Core.Path.{_≡_, ap, _∙_}
 use Prim.Native.Nat.{ℕ, _%_, _^_, _≤_, _<_}
 use native.Mathlib.Omega.{arith}
-use lib.Bits.{bitXor, xor-lt}
+use lib.Bits.{bitXor}
 use lib.Count.{ones, ones-le}
 use lib.ListN.{getD}
-use Rattle.golay.specs.Code.{remainder, word23, word24, nearest}
+use Rattle.golay.specs.Code.{remainder}
 use Rattle.golay.proofs.Division.{remainder-small}
-use Rattle.golay.proofs.Fours.{turned}
-use Rattle.golay.proofs.Reading.{nearest23-lt}
+use Rattle.golay.proofs.Fours.{entryOf}
 use Rattle.golay.proofs.Rule.{patterns}
-use Rattle.golay.proofs.Words.{word24-lt}
-use Rattle.bare.proofs.Bare.{judged-by}
+use Rattle.bare.proofs.Entries.{near-lt, judged-entry}
+use borrow.Author.Needs.{needs}
 use Rattle.bare.proofs.damaged.Statement.{statement}
 use Rattle.bare.proofs.damaged.Tie as tie
 
--- the information that is found, and that few bits can differ from its word
-module _ (n r t : ℕ) (h : n < 2 ^ 24) (own : r ≡ remainder (n % 2 ^ 23)) (e : t ≡ getD patterns r 0 % 4096) where
-  found : bitXor (n % 4096) t ≡ nearest word23 (n % 2 ^ 23)
-  found = ap (λ (x : ℕ). bitXor x t) low ∙ turned (n % 2 ^ 23) r t (omega arith) own e
-    where
-      low : n % 4096 ≡ n % 2 ^ 23 % 4096
-      low = omega arith
+-- the entry is that of the remainder; what is made of it is small
+own : (c : tie.After-entry) → c .entry .result ≡ entryOf (getD patterns (remainder (c .before .args .n % 2 ^ 23)) 0)
+own c = c .entry .ensures ∙ ap (λ (r : ℕ). entryOf (getD patterns r 0)) (c .before .pre .1)
 
-  small : bitXor (n % 4096) t < 4096
-  small = subst (λ (x : ℕ). x < 4096) (sym found) (nearest23-lt (n % 2 ^ 23) (omega arith))
+near : (c : tie.After-entry) → bitXor (c .before .args .n % 4096) (c .entry .result) < 2 ^ 14
+near c = near-lt (c .before .args .n) (c .entry .result) (c .before .pre .0) (own c)
 
-  few : (word : ℕ) → word ≡ word24 (bitXor (n % 4096) t) → ones (bitXor n word) ≤ 24
-  few word w = ones-le 24 (bitXor n word) (xor-lt 24 n word h (subst (λ (x : ℕ). x < 2 ^ 24) (sym w) (word24-lt (bitXor (n % 4096) t) small)))
+few : (c : tie.After-entry) → ones (c .before .args .n) ≤ 24
+few c = ones-le 24 (c .before .args .n) (c .before .pre .0)
 
-turned-requires : tie.Need-turned-requires
-turned-requires c κs = omega (arith, c .pre .1, remainder-small (c .args .n % 2 ^ 23) (omega arith))
+entry-requires : tie.Need-entry-requires
+entry-requires c κs = omega (arith, c .pre .1, remainder-small (c .args .n % 2 ^ 23) (omega arith))
 
-data-word-requires : tie.Need-data-word-requires
-data-word-requires c κs = let s = c .before in small (s .args .n) (s .args .r) (c .turned .result) (s .pre .0) (s .pre .1) (c .turned .ensures)
+add-even : tie.Need-add-even
+add-even c = omega (arith, near c, few c)
 
-returns : tie.Need-returns
-returns c =
-    let s = c .before .before in
-    judged-by (s .args .n) (bitXor (s .args .n % 4096) (c .before .turned .result)) (c .data-word .result) (s .pre .0) (found (s .args .n) (s .args .r) (c .before .turned .result) (s .pre .0) (s .pre .1) (c .before .turned .ensures)) (c .data-word .ensures)
+add-even-2 : tie.Need-add-even-2
+add-even-2 c = omega (arith, near c, few c)
 
 mul-result : tie.Need-mul-result
-mul-result c =
-    let s = c .before .before in
-    omega (arith, few (s .args .n) (s .args .r) (c .before .turned .result) (s .pre .0) (s .pre .1) (c .before .turned .ensures) (c .data-word .result) (c .data-word .ensures))
+mul-result c = search needs
 
 add-result : tie.Need-add-result
-add-result c =
-    let s = c .before .before in
-    omega (arith, small (s .args .n) (s .args .r) (c .before .turned .result) (s .pre .0) (s .pre .1) (c .before .turned .ensures), few (s .args .n) (s .args .r) (c .before .turned .result) (s .pre .0) (s .pre .1) (c .before .turned .ensures) (c .data-word .result) (c .data-word .ensures))
+add-result c = omega (arith, near c)
+
+returns : tie.Need-returns
+returns c = judged-entry (c .before .args .n) (c .entry .result) (c .before .pre .0) (own c)
 
 pub damaged-spec : {M : Type 1} → statement M
-damaged-spec =
-    tie.close (tie.spec turned-requires data-word-requires mul-result add-result returns)
+damaged-spec = tie.close (tie.spec entry-requires add-even add-even-2 mul-result add-result returns)

@@ -1,15 +1,25 @@
--- `bare::near_header` meets its contract: a word as it stands, or the nearest information by the rows, and its word.
+-- `bare::near_header` meets its contract: a word as it stands, or information and flips by the rows.
 -- Assumes nothing.
-use mathlib.Core.Path.{sym, ap, _∙_, subst}
-use Prim.Native.Nat.{ℕ, _<_}
-use Rattle.golay.specs.Code.{word23}
-use Rattle.golay.proofs.Reading.{nearest23-lt, clean-nearest}
+use mathlib.Core.Path.{_≡_, sym, ap, _∙_}
+use Prim.Native.Nat.{ℕ}
+use native.Mathlib.Omega.{arith}
+use lib.ListN.{getD}
+use Rattle.golay.specs.Code.{remainder}
+use Rattle.golay.proofs.Division.{remainder-small}
+use Rattle.golay.proofs.Fours.{entryOf}
+use Rattle.golay.proofs.Reading.{clean-nearest}
+use Rattle.golay.proofs.Rule.{patterns}
+use Rattle.bare.proofs.Entries.{header-entry, entry-index, entry-flips}
 use borrow.Author.Needs.{needs}
 use Rattle.bare.proofs.near_header.Statement.{statement}
 use Rattle.bare.proofs.near_header.Tie as tie
 
 abbrev start : tie.After-remainder → tie.Start
 start c = c .before
+
+-- the entry is that of the remainder
+own : (c : tie.After-entry) → c .entry .result ≡ entryOf (getD patterns (remainder (start (c .before .before) .args .n)) 0)
+own c = c .entry .ensures ∙ ap (λ (r : ℕ). entryOf (getD patterns r 0)) (c .before .before .remainder .ensures)
 
 remainder-requires : tie.Need-remainder-requires
 remainder-requires c κs = search needs
@@ -21,21 +31,22 @@ header-of-requires c κs =
 returns : tie.Need-returns
 returns c = search needs
 
-near-requires : tie.Need-near-requires
-near-requires c κs = search needs
+entry-requires : tie.Need-entry-requires
+entry-requires c κs =
+    omega (arith, c .before .remainder .ensures, remainder-small (start (c .before) .args .n) (start (c .before) .pre))
 
-header-word-requires : tie.Need-header-word-requires
-header-word-requires c κs =
-    let known = start (c .before .before) in
-    subst (λ (x : ℕ). x < 4096) (sym (c .near .ensures)) (nearest23-lt (known .args .n) (known .pre))
+cast-t8 : tie.Need-cast-t8
+cast-t8 c = search needs
 
-header-of-requires-2 : tie.Need-header-of-requires-2
-header-of-requires-2 c κs =
-    (start (c .before .before .before) .pre, c .header-word .ensures ∙ ap word23 (c .before .near .ensures))
+cast-t9 : tie.Need-cast-t9
+cast-t9 c = omega (arith, entry-index (start (c .before .before) .args .n) (c .entry .result))
+
+cast-t11 : tie.Need-cast-t11
+cast-t11 c = omega (arith, entry-flips (start (c .before .before) .args .n) (c .entry .result) (start (c .before .before) .pre) (own c))
 
 returns-2 : tie.Need-returns-2
-returns-2 c = search needs
+returns-2 c = sym (header-entry (start (c .before .before) .args .n) (c .entry .result) (start (c .before .before) .pre) (own c))
 
 pub near-header-spec : {M : Type 1} → statement M
 near-header-spec =
-    tie.close (tie.spec remainder-requires header-of-requires returns near-requires header-word-requires header-of-requires-2 returns-2)
+    tie.close (tie.spec remainder-requires header-of-requires returns entry-requires cast-t8 cast-t9 cast-t11 returns-2)

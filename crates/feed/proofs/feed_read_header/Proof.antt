@@ -1,19 +1,17 @@
--- `feed::feed_read_header` meets its contract: the call with a setting, at 3. Assumes nothing.
-use mathlib.Core.Path.{_∙_}
+-- `feed::feed_read_header` meets its contract: what the bare reader gives, handed over. Assumes nothing.
 use borrow.Author.Needs.{needs}
-use Rattle.bare.proofs.Bare.{within-three}
-use Rattle.feed.proofs.Fields.{header-fields}
+use Rattle.feed.proofs.Fields.{header-handed}
 use Rattle.feed.proofs.feed_read_header.Statement.{statement}
 use Rattle.feed.proofs.feed_read_header.Tie as tie
 
-feed-read-header-within-requires : tie.Need-feed-read-header-within-requires
-feed-read-header-within-requires c κs = search needs
+read-header-requires : tie.Need-read-header-requires
+read-header-requires c κs = search needs
+
+hand-requires : tie.Need-hand-requires
+hand-requires c κs = search needs
 
 returns : tie.Need-returns
-returns c =
-    let given = c .feed-read-header-within .ensures in
-    let same = header-fields (within-three _) in
-    (given .0 ∙ same .0, (given .1 .0 ∙ same .1 .0, (given .1 .1 .0 ∙ same .1 .1 .0, given .1 .1 .1 ∙ same .1 .1 .1)))
+returns c = header-handed (c .before .before .before .before .read-header .ensures) (c .hand .ensures)
 
 pub feed-read-header-spec : {M : Type 1} → statement M
-feed-read-header-spec = tie.close (tie.spec feed-read-header-within-requires returns)
+feed-read-header-spec = tie.close (tie.spec read-header-requires hand-requires returns)

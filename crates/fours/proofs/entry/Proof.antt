@@ -1,11 +1,11 @@
--- `fours::turned` meets its contract: the number of four patterns, and in it the one of the remainder.
+-- `fours::entry` meets its contract: the number of four patterns, and in it the one of the remainder.
 -- Assumes nothing.
 use mathlib.Core.Path.{ap, _∙_}
 use Prim.Native.Nat.{ℕ, _/_, _%_, _*_, _^_}
 use native.Mathlib.Omega.{arith}
 use Rattle.golay.proofs.Fours.{fours-right}
-use Rattle.fours.proofs.turned.Statement.{statement}
-use Rattle.fours.proofs.turned.Tie as tie
+use Rattle.fours.proofs.entry.Statement.{statement}
+use Rattle.fours.proofs.entry.Tie as tie
 
 four-requires : tie.Need-four-requires
 four-requires c κs = omega arith
@@ -24,9 +24,9 @@ cast-result-2 c = omega arith
 
 returns : tie.Need-returns
 returns c =
-    ap (λ (x : ℕ). x / 2 ^ (c .before .args .r % 4 * 16) % 4096) (c .four .ensures)
+    ap (λ (x : ℕ). x / 2 ^ (c .before .args .r % 4 * 16) % 2 ^ 16) (c .four .ensures)
     ∙ fours-right (c .before .args .r) (c .before .pre)
 
-pub turned-spec : {M : Type 1} → statement M
-turned-spec =
+pub entry-spec : {M : Type 1} → statement M
+entry-spec =
     tie.close (tie.spec four-requires mul-result cast-result shr-result cast-result-2 returns)
