@@ -1,6 +1,6 @@
 -- `plain::no_flip` meets its contract.
 -- Assumes nothing.
-use mathlib.Core.Path.{_≡_, sym, _∙_}
+use mathlib.Core.Path.{sym, _∙_}
 use borrow.Author.Needs.{needs}
 use Rattle.plain.proofs.Trying.{clean, damaged}
 use Rattle.plain.proofs.no_flip.Statement.{statement}
