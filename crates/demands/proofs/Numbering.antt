@@ -31,7 +31,7 @@ use Rattle.asking.proofs.Laws.{asked-refused}
 use Rattle.history.specs.Sent.{In}
 use Rattle.adapter.specs.Calls.{addressOf, flipsOf, followed, packetAnswer, writeAfter}
 use Rattle.demands.specs.Machine.{Call, follow, packet, subframeEnd, asks, ourAnswer, writeHeader, bareNumber, questionAnswer, ask}
-use Rattle.plain.specs.Plain.{patterns, trials, leaving, headerPlain}
+use Rattle.plain.specs.Plain.{errorPatterns, trials, leaving, headerPlain}
 use Rattle.golay.specs.Code.{less, line, divide, remainder, word23, nearest}
 use Rattle.bits.specs.Search.{first}
 use lib.Count.{ones, onesIn}
@@ -118,7 +118,7 @@ mute-fails d =
 
 -- the word of 0 with bits 0 to 2 flipped, at 3: refused by a reader that tries no more than two flips, and read by the other
 pub timid-fails : Demand2 timid → ⊥
-unfolding atMostTwo bareNumber headerPlain headerWithin refusal trials patterns leaving remainder divide line less nearest first word23 flips ones onesIn
+unfolding atMostTwo bareNumber headerPlain headerWithin refusal trials errorPatterns leaving remainder divide line less nearest first word23 flips ones onesIn
 timid-fails d =
     let z : _≡_ {A = ℕ} 49 0 = d .readers 7 3 .0 in
     omega arith

@@ -17,7 +17,7 @@ use Rattle.bits.specs.Rows.{row, refusal, given}
 use Rattle.bits.proofs.Rows.{refusal-hit, refusal-miss}
 use Rattle.bare.specs.Bare.{mostFlips, headerRefused}
 use Rattle.bare.specs.declared.Header.{Header}
-use Rattle.plain.specs.Plain.{patterns, trials, leaving, headerPlain}
+use Rattle.plain.specs.Plain.{errorPatterns, trials, leaving, headerPlain}
 use Rattle.plain.proofs.Trying.{none, Flips, found, patterns-only, trial-hit}
 
 -- the answer by a pattern
@@ -67,14 +67,14 @@ module _ (n most : ℕ) (h : n < 2 ^ 23) where
         ∙ ap (λ (x : ℕ). plainAs 0 x n) p
 
     -- the search as the loop makes it: what is found at f flips, where fewer left no word
-    pub plain-found : (f e : ℕ) → f ≤ most → leaving n (trials f) ≡ none → e ≡ leaving n (patterns f 23) → e < none
+    pub plain-found : (f e : ℕ) → f ≤ most → leaving n (trials f) ≡ none → e ≡ leaving n (errorPatterns f 23) → e < none
         → headerPlain n most ≡ record { number = 0; address = bitXor n e % 1024; index = bitXor n e / 1024 % 4; flips = f }
     plain-found f e m before is fits =
         plain-0 e (trial-hit n f most m before (subst (λ (x : ℕ). x < none) is fits) ∙ sym is) fits
         ∙ (λ i. record { number = 0; address = bitXor n e % 1024; index = bitXor n e / 1024 % 4; flips = many i })
       where
         many : ones e ≡ f
-        many = ap ones is ∙ found (Flips f 23) n (patterns f 23) (patterns-only f 23) (subst (λ (x : ℕ). x < none) is fits) .0 .many
+        many = ap ones is ∙ found (Flips f 23) n (errorPatterns f 23) (patterns-only f 23) (subst (λ (x : ℕ). x < none) is fits) .0 .many
 
     -- and where none was found up to the setting
     pub plain-none : (f : ℕ) → f ≤ most + 1 → most + 1 ≤ f → leaving n (trials f) ≡ none → headerPlain n most ≡ headerRefused 49

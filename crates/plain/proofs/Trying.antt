@@ -1,4 +1,4 @@
--- Laws of `leaving`, `patterns` and `trials`.
+-- Laws of `leaving`, `errorPatterns` and `trials`.
 --
 --   clean, damaged           no flip leaves a word, or does not
 --   found                    what is found is of the list, and leaves a word
@@ -26,7 +26,7 @@ use Rattle.bits.specs.All.{All}
 use Rattle.bits.proofs.Flips.{xor-assoc, ones-zero, ones-none}
 use Rattle.golay.specs.Code.{remainder}
 use Rattle.bare.proofs.Counting.{ones-set, xor-one}
-use Rattle.plain.specs.Plain.{patterns, trials, leaving}
+use Rattle.plain.specs.Plain.{errorPatterns, trials, leaving}
 
 abbrev pub none : ℕ
 none = 2 ^ 23
@@ -161,12 +161,12 @@ module _ (L M : ℕ → List ℕ) (grows : (i : ℕ) → L (suc i) ≡ L i ++ M 
 
 -- ---- no flip
 
-pub clean : (n b : ℕ) → remainder n ≡ 0 → leaving n (patterns 0 b) ≡ 0
-unfolding patterns
+pub clean : (n b : ℕ) → remainder n ≡ 0 → leaving n (errorPatterns 0 b) ≡ 0
+unfolding errorPatterns
 clean n b h = here n 0 [] (ap remainder (xor-zero-r n) ∙ h)
 
-pub damaged : (n b : ℕ) → (remainder n ≡ 0 → ⊥) → leaving n (patterns 0 b) ≡ none
-unfolding patterns
+pub damaged : (n b : ℕ) → (remainder n ≡ 0 → ⊥) → leaving n (errorPatterns 0 b) ≡ none
+unfolding errorPatterns
 damaged n b h = past n 0 [] (λ e. h (sym (ap remainder (xor-zero-r n)) ∙ e)) ∙ nothing n
 
 -- ---- the patterns of k flips
@@ -187,33 +187,33 @@ unset-flips k b e f = record { bits = omega (arith, f .bits, pow-suc 2 b); many 
 
 -- those with bit b flipped, and k flips below it
 abbrev further : ℕ → ℕ → List ℕ
-further k b = set b (patterns k b)
+further k b = set b (errorPatterns k b)
 
-one-more : (k b : ℕ) → patterns (suc k) (suc b) ≡ patterns (suc k) b ++ further k b
-unfolding patterns
+one-more : (k b : ℕ) → errorPatterns (suc k) (suc b) ≡ errorPatterns (suc k) b ++ further k b
+unfolding errorPatterns
 one-more k b = refl
 
-pub patterns-only : (k b : ℕ) → All (Flips k b) (patterns k b)
-unfolding patterns
+pub patterns-only : (k b : ℕ) → All (Flips k b) (errorPatterns k b)
+unfolding errorPatterns
 patterns-only zero b = (record { bits = omega (arith, pow-mono {i = 0} {j = b} (omega arith)); many = ones-zero }, tt)
 patterns-only (suc k) zero = tt
 patterns-only (suc k) (suc b) =
-    all-cat (Flips (suc k) (suc b)) (patterns (suc k) b) _
-    (all-then (Flips (suc k) b) (Flips (suc k) (suc b)) (unset-flips (suc k) b) (patterns (suc k) b) (patterns-only (suc k) b))
-    (all-map (Flips k b) (Flips (suc k) (suc b)) (λ (e : ℕ). 2 ^ b + e) (set-flips k b) (patterns k b) (patterns-only k b))
+    all-cat (Flips (suc k) (suc b)) (errorPatterns (suc k) b) _
+    (all-then (Flips (suc k) b) (Flips (suc k) (suc b)) (unset-flips (suc k) b) (errorPatterns (suc k) b) (patterns-only (suc k) b))
+    (all-map (Flips k b) (Flips (suc k) (suc b)) (λ (e : ℕ). 2 ^ b + e) (set-flips k b) (errorPatterns k b) (patterns-only k b))
 
-patterns-below : (k b : ℕ) → All (λ (e : ℕ). e < 2 ^ b) (patterns k b)
-patterns-below k b = all-then (Flips k b) (λ (e : ℕ). e < 2 ^ b) (λ e f. f .bits) (patterns k b) (patterns-only k b)
+patterns-below : (k b : ℕ) → All (λ (e : ℕ). e < 2 ^ b) (errorPatterns k b)
+patterns-below k b = all-then (Flips k b) (λ (e : ℕ). e < 2 ^ b) (λ e f. f .bits) (errorPatterns k b) (patterns-only k b)
 
 small : (b : ℕ) → b ≤ 23 → 2 ^ b ≤ none
 small b h = pow-mono {i = b} {j = 23} h
 
-patterns-small : (k b : ℕ) → b ≤ 23 → All (λ (e : ℕ). e < none) (patterns k b)
+patterns-small : (k b : ℕ) → b ≤ 23 → All (λ (e : ℕ). e < none) (errorPatterns k b)
 patterns-small k b h =
-    all-then (λ (e : ℕ). e < 2 ^ b) (λ (e : ℕ). e < none) (λ e l. omega (arith, l, small b h)) (patterns k b) (patterns-below k b)
+    all-then (λ (e : ℕ). e < 2 ^ b) (λ (e : ℕ). e < none) (λ e l. omega (arith, l, small b h)) (errorPatterns k b) (patterns-below k b)
 
-pub none-yet : (n k : ℕ) → leaving n (patterns (suc k) 0) ≡ none
-unfolding patterns
+pub none-yet : (n k : ℕ) → leaving n (errorPatterns (suc k) 0) ≡ none
+unfolding errorPatterns
 none-yet n k = nothing n
 
 -- the weight of bit b, as the code shifts it
@@ -227,58 +227,58 @@ pub weight-lt : (b bits : ℕ) → b < bits → bits ≤ 23 → weight b < none
 weight-lt b bits h l = omega (arith, weight-is b (omega arith), pow-suc 2 b, pow-mono {i = suc b} {j = 23} (omega arith))
 
 -- one turn: bit b, and k flips below it
-module _ (n k b bits : ℕ) (within : b < bits) (all : bits ≤ 23) (before : leaving n (patterns (suc k) b) ≡ none) where
+module _ (n k b bits : ℕ) (within : b < bits) (all : bits ≤ 23) (before : leaving n (errorPatterns (suc k) b) ≡ none) where
   is : weight b ≡ 2 ^ b
   is = weight-is b (omega arith)
 
   -- what the turn looks for, at the bit's weight
   abbrev lower : ℕ → ℕ
-  lower w = leaving (bitXor n w) (patterns k b)
+  lower w = leaving (bitXor n w) (errorPatterns k b)
 
   reached : lower (2 ^ b) < none → leaving n (further k b) < none
-  reached f = subst (λ (v : ℕ). v < none) (sym (set-hit n b (patterns k b) (patterns-below k b) f)) fits
+  reached f = subst (λ (v : ℕ). v < none) (sym (set-hit n b (errorPatterns k b) (patterns-below k b) f)) fits
     where
       fits : 2 ^ b + lower (2 ^ b) < none
-      fits = omega (arith, found (Flips k b) (bitXor n (2 ^ b)) (patterns k b) (patterns-only k b) f .0 .bits, pow-suc 2 b, pow-mono {i = suc b} {j = 23} (omega arith))
+      fits = omega (arith, found (Flips k b) (bitXor n (2 ^ b)) (errorPatterns k b) (patterns-only k b) f .0 .bits, pow-suc 2 b, pow-mono {i = suc b} {j = 23} (omega arith))
 
   module _ (below : ℕ) (e : below ≡ lower (weight b)) where
     e' : below ≡ lower (2 ^ b)
     e' = e ∙ ap lower is
 
-    pub turn-hit : below < none → weight b + below ≡ leaving n (patterns (suc k) bits)
+    pub turn-hit : below < none → weight b + below ≡ leaving n (errorPatterns (suc k) bits)
     turn-hit f =
         ap₂ (λ (w v : ℕ). w + v) is e'
-        ∙ sym (set-hit n b (patterns k b) (patterns-below k b) f')
-        ∙ sym (grown-hit (patterns (suc k)) (further k) (one-more k) n b (patterns-small (suc k) b (omega arith)) before bits (omega arith) (reached f'))
+        ∙ sym (set-hit n b (errorPatterns k b) (patterns-below k b) f')
+        ∙ sym (grown-hit (errorPatterns (suc k)) (further k) (one-more k) n b (patterns-small (suc k) b (omega arith)) before bits (omega arith) (reached f'))
       where
         f' : lower (2 ^ b) < none
         f' = subst (λ (v : ℕ). v < none) e' f
 
-    pub turn-miss : none ≤ below → leaving n (patterns (suc k) (b + 1)) ≡ none
+    pub turn-miss : none ≤ below → leaving n (errorPatterns (suc k) (b + 1)) ≡ none
     turn-miss f =
-        ap (λ (i : ℕ). leaving n (patterns (suc k) i)) (add-one b)
-        ∙ grown (patterns (suc k)) (further k) (one-more k) n b (patterns-small (suc k) b (omega arith)) before
-        ∙ set-miss n b (patterns k b) (patterns-below k b) (small b (omega arith)) (subst (λ (v : ℕ). none ≤ v) e' f)
+        ap (λ (i : ℕ). leaving n (errorPatterns (suc k) i)) (add-one b)
+        ∙ grown (errorPatterns (suc k)) (further k) (one-more k) n b (patterns-small (suc k) b (omega arith)) before
+        ∙ set-miss n b (errorPatterns k b) (patterns-below k b) (small b (omega arith)) (subst (λ (v : ℕ). none ≤ v) e' f)
 
 -- and after the last turn
-pub turn-end : (n k b bits : ℕ) → b ≤ bits → bits ≤ b → leaving n (patterns (suc k) b) ≡ none → none ≡ leaving n (patterns (suc k) bits)
-turn-end n k b bits l m h = sym h ∙ ap (λ (i : ℕ). leaving n (patterns (suc k) i)) (omega arith)
+pub turn-end : (n k b bits : ℕ) → b ≤ bits → bits ≤ b → leaving n (errorPatterns (suc k) b) ≡ none → none ≡ leaving n (errorPatterns (suc k) bits)
+turn-end n k b bits l m h = sym h ∙ ap (λ (i : ℕ). leaving n (errorPatterns (suc k) i)) (omega arith)
 
 -- Where a pattern of k flips in b bits leaves a word, one is found: the highest bit is flipped, or it is not.
 abbrev Finds : ℕ → ℕ → ℕ → Type 0
-Finds n k b = (e : ℕ) → Flips k b e → remainder (bitXor n e) ≡ 0 → leaving n (patterns k b) < none
+Finds n k b = (e : ℕ) → Flips k b e → remainder (bitXor n e) ≡ 0 → leaving n (errorPatterns k b) < none
 
 module _ (n k b : ℕ) (l : suc b ≤ 23) (even : Finds n (suc k) b) (odd : Finds (bitXor n (2 ^ b)) k b) where
-  still : leaving n (patterns (suc k) b) < none → leaving n (patterns (suc k) (suc b)) < none
-  still m = subst (λ (v : ℕ). v < none) (sym (ap (leaving n) (one-more k b) ∙ cat-hit n (patterns (suc k) b) _ m)) m
+  still : leaving n (errorPatterns (suc k) b) < none → leaving n (errorPatterns (suc k) (suc b)) < none
+  still m = subst (λ (v : ℕ). v < none) (sym (ap (leaving n) (one-more k b) ∙ cat-hit n (errorPatterns (suc k) b) _ m)) m
 
-  now : leaving n (patterns (suc k) b) ≡ none → leaving (bitXor n (2 ^ b)) (patterns k b) < none → leaving n (patterns (suc k) (suc b)) < none
+  now : leaving n (errorPatterns (suc k) b) ≡ none → leaving (bitXor n (2 ^ b)) (errorPatterns k b) < none → leaving n (errorPatterns (suc k) (suc b)) < none
   now before m =
-      subst (λ (v : ℕ). v < none) (sym (grown (patterns (suc k)) (further k) (one-more k) n b (patterns-small (suc k) b (omega arith)) before))
+      subst (λ (v : ℕ). v < none) (sym (grown (errorPatterns (suc k)) (further k) (one-more k) n b (patterns-small (suc k) b (omega arith)) before))
       (reached n k b (suc b) (omega arith) l before m)
 
   -- the flips below the highest bit
-  below-high : (e : ℕ) → Flips (suc k) (suc b) e → (e < 2 ^ b → ⊥) → remainder (bitXor n e) ≡ 0 → leaving (bitXor n (2 ^ b)) (patterns k b) < none
+  below-high : (e : ℕ) → Flips (suc k) (suc b) e → (e < 2 ^ b → ⊥) → remainder (bitXor n e) ≡ 0 → leaving (bitXor n (2 ^ b)) (errorPatterns k b) < none
   below-high e f high h =
       odd (e - 2 ^ b) (record { bits = below; many = omega (arith, f .many, ap ones whole, ones-set b (e - 2 ^ b) below) })
       (sym (same n b (e - 2 ^ b) below) ∙ ap (λ (x : ℕ). remainder (bitXor n x)) whole ∙ h)
@@ -290,13 +290,13 @@ module _ (n k b : ℕ) (l : suc b ≤ 23) (even : Finds n (suc k) b) (odd : Find
       below = omega (arith, high, f .bits, pow-suc 2 b)
 
   wider : Finds n (suc k) (suc b)
-  wider e f h = go (decLt e (2 ^ b)) (decLt (leaving n (patterns (suc k) b)) none)
+  wider e f h = go (decLt e (2 ^ b)) (decLt (leaving n (errorPatterns (suc k) b)) none)
     where
-      go : Dec (e < 2 ^ b) → Dec (leaving n (patterns (suc k) b) < none) → leaving n (patterns (suc k) (suc b)) < none
+      go : Dec (e < 2 ^ b) → Dec (leaving n (errorPatterns (suc k) b) < none) → leaving n (errorPatterns (suc k) (suc b)) < none
       go d (yes m) = still m
       go (yes low) (no m) = still (even e (record { bits = low; many = f .many }) h)
       go (no high) (no m) =
-          now (not-found n (patterns (suc k) b) (patterns-small (suc k) b (omega arith)) m) (below-high e f high h)
+          now (not-found n (errorPatterns (suc k) b) (patterns-small (suc k) b (omega arith)) m) (below-high e f high h)
 
 pub patterns-all : (n k b : ℕ) → b ≤ 23 → Finds n k b
 patterns-all n zero b l e f h =
@@ -306,12 +306,12 @@ patterns-all n (suc k) (suc b) l e f h =
     wider n k b l (patterns-all n (suc k) b (omega arith)) (patterns-all (bitXor n (2 ^ b)) k b (omega arith)) e f h
 
 -- as many flips as are asked for
-pub of-many : (n k flips r : ℕ) → flips ≡ k → r ≡ leaving n (patterns k 23) → r ≡ leaving n (patterns flips 23)
-of-many n k flips r e h = h ∙ ap (λ (j : ℕ). leaving n (patterns j 23)) (sym e)
+pub of-many : (n k flips r : ℕ) → flips ≡ k → r ≡ leaving n (errorPatterns k 23) → r ≡ leaving n (errorPatterns flips 23)
+of-many n k flips r e h = h ∙ ap (λ (j : ℕ). leaving n (errorPatterns j 23)) (sym e)
 
 -- ---- all patterns, fewest flips first
 
-flips-more : (f : ℕ) → trials (suc f) ≡ trials f ++ patterns f 23
+flips-more : (f : ℕ) → trials (suc f) ≡ trials f ++ errorPatterns f 23
 unfolding trials
 flips-more f = refl
 
@@ -324,9 +324,9 @@ pub trials-only : (f : ℕ) → All (Fewer f) (trials f)
 unfolding trials
 trials-only zero = tt
 trials-only (suc f) =
-    all-cat (Fewer (suc f)) (trials f) (patterns f 23)
+    all-cat (Fewer (suc f)) (trials f) (errorPatterns f 23)
     (all-then (Fewer f) (Fewer (suc f)) (λ e h. record { bits = h .bits; few = omega (arith, h .few) }) (trials f) (trials-only f))
-    (all-then (Flips f 23) (Fewer (suc f)) (λ e h. record { bits = h .bits; few = omega (arith, h .many) }) (patterns f 23) (patterns-only f 23))
+    (all-then (Flips f 23) (Fewer (suc f)) (λ e h. record { bits = h .bits; few = omega (arith, h .many) }) (errorPatterns f 23) (patterns-only f 23))
 
 pub trials-small : (f : ℕ) → All (λ (e : ℕ). e < none) (trials f)
 trials-small f = all-then (Fewer f) (λ (e : ℕ). e < none) (λ e h. h .bits) (trials f) (trials-only f)
@@ -335,16 +335,16 @@ pub none-tried : (n : ℕ) → leaving n (trials 0) ≡ none
 unfolding trials
 none-tried n = nothing n
 
-pub trial-hit : (n f most : ℕ) → f ≤ most → leaving n (trials f) ≡ none → leaving n (patterns f 23) < none
-    → leaving n (trials (suc most)) ≡ leaving n (patterns f 23)
+pub trial-hit : (n f most : ℕ) → f ≤ most → leaving n (trials f) ≡ none → leaving n (errorPatterns f 23) < none
+    → leaving n (trials (suc most)) ≡ leaving n (errorPatterns f 23)
 trial-hit n f most l before h =
-    grown-hit trials (λ (i : ℕ). patterns i 23) flips-more n f (trials-small f) before (suc most) (omega arith) h
+    grown-hit trials (λ (i : ℕ). errorPatterns i 23) flips-more n f (trials-small f) before (suc most) (omega arith) h
 
-pub trial-miss : (n f : ℕ) → leaving n (trials f) ≡ none → none ≤ leaving n (patterns f 23) → leaving n (trials (f + 1)) ≡ none
+pub trial-miss : (n f : ℕ) → leaving n (trials f) ≡ none → none ≤ leaving n (errorPatterns f 23) → leaving n (trials (f + 1)) ≡ none
 trial-miss n f before h =
     ap (λ (i : ℕ). leaving n (trials i)) (add-one f)
-    ∙ grown trials (λ (i : ℕ). patterns i 23) flips-more n f (trials-small f) before
-    ∙ not-found n (patterns f 23) (patterns-small f 23 (omega arith)) (λ l. omega (arith, l, h))
+    ∙ grown trials (λ (i : ℕ). errorPatterns i 23) flips-more n f (trials-small f) before
+    ∙ not-found n (errorPatterns f 23) (patterns-small f 23 (omega arith)) (λ l. omega (arith, l, h))
 
 pub trials-all : (n f e : ℕ) → Fewer f e → remainder (bitXor n e) ≡ 0 → leaving n (trials f) < none
 trials-all n zero e h r = absurd (omega (arith, h .few))
@@ -352,7 +352,7 @@ trials-all n (suc f) e h r = go (decLt (leaving n (trials f)) none) (decLt (ones
   where
     go : Dec (leaving n (trials f) < none) → Dec (ones e < f) → (Fewer f e → remainder (bitXor n e) ≡ 0 → leaving n (trials f) < none)
         → leaving n (trials (suc f)) < none
-    go (yes m) d ih = subst (λ (v : ℕ). v < none) (sym (ap (leaving n) (flips-more f) ∙ cat-hit n (trials f) (patterns f 23) m)) m
+    go (yes m) d ih = subst (λ (v : ℕ). v < none) (sym (ap (leaving n) (flips-more f) ∙ cat-hit n (trials f) (errorPatterns f 23) m)) m
     go (no m) (yes d) ih = absurd (m (ih (record { bits = h .bits; few = d }) r))
     go (no m) (no d) ih =
         let last = patterns-all n f 23 (omega arith) e (record { bits = h .bits; many = omega (arith, h .few, d) }) r in

@@ -16,18 +16,18 @@ use Rattle.bits.specs.Rows.{refusal, given}
 use Rattle.golay.specs.Code.{less, line, divide, remainder}
 use Rattle.bare.specs.Bare.{headerRefused}
 use Rattle.bare.specs.declared.Header.{Header}
-use Rattle.plain.specs.Plain.{patterns, trials, leaving, headerPlain}
+use Rattle.plain.specs.Plain.{errorPatterns, trials, leaving, headerPlain}
 
-pub counts : map (λ (k : ℕ). length (patterns k 23)) (0 ∷ 1 ∷ 2 ∷ 3 ∷ []) ≡ (1 ∷ 23 ∷ 253 ∷ 1771 ∷ [])
-unfolding patterns
+pub counts : map (λ (k : ℕ). length (errorPatterns k 23)) (0 ∷ 1 ∷ 2 ∷ 3 ∷ []) ≡ (1 ∷ 23 ∷ 253 ∷ 1771 ∷ [])
+unfolding errorPatterns
 counts = refl
 
 pub in-all : length (trials 4) ≡ 2 ^ 11
-unfolding patterns trials
+unfolding errorPatterns trials
 in-all = refl
 
-pub order : (patterns 2 4 ≡ (3 ∷ 5 ∷ 6 ∷ 9 ∷ 10 ∷ 12 ∷ [])) × (getD (trials 4) 2047 0 ≡ 0x700000)
-unfolding patterns trials
+pub order : (errorPatterns 2 4 ≡ (3 ∷ 5 ∷ 6 ∷ 9 ∷ 10 ∷ 12 ∷ [])) × (getD (trials 4) 2047 0 ≡ 0x700000)
+unfolding errorPatterns trials
 order = (refl, refl)
 
 abbrev turned : ℕ → Header
@@ -37,9 +37,9 @@ pub read-each : (map (headerPlain 0x75F011) (0 ∷ 3 ∷ []) ≡ (turned 0 ∷ t
     × (map (headerPlain 0x75F010) (0 ∷ 1 ∷ 3 ∷ []) ≡ (headerRefused 49 ∷ turned 1 ∷ turned 1 ∷ []))
     × (map (headerPlain 0x75FC11) (1 ∷ 2 ∷ 3 ∷ []) ≡ (headerRefused 49 ∷ turned 2 ∷ turned 2 ∷ []))
     × (map (headerPlain 0x75F016) (0 ∷ 2 ∷ 3 ∷ []) ≡ (headerRefused 49 ∷ headerRefused 49 ∷ turned 3 ∷ []))
-unfolding headerPlain refusal given trials patterns leaving remainder divide line less ones onesIn
+unfolding headerPlain refusal given trials errorPatterns leaving remainder divide line less ones onesIn
 read-each = (refl, refl, refl, refl)
 
 pub refused : (headerPlain 0x80000F 4 ≡ headerRefused 33) × (headerPlain 0xF 4 ≡ headerRefused 48) × (headerPlain 0xF 2 ≡ headerRefused 49)
-unfolding headerPlain refusal given trials patterns leaving remainder divide line less ones onesIn
+unfolding headerPlain refusal given trials errorPatterns leaving remainder divide line less ones onesIn
 refused = (refl, refl, refl)

@@ -1,10 +1,10 @@
 -- The plain header reader of document 02, Ask 10: it "tries the error patterns themselves, fewest flips first". It stands on the division
 -- of 4.3.6.1.3 alone and names no table, neither that of the patterns nor that of the check bits.
 --
---   patterns k b      the error patterns with k flips, all of them in bits 0 to b - 1, in the order of their numbers
---   trials f          those of 23 bits with fewer than f flips: no flip, then one flip, then two ..
---   leaving n es      the first of these patterns that, flipped in n, leaves a word; 2^23 where none does
---   headerPlain       what a header is read as at a setting
+--   errorPatterns k b    the error patterns with k flips, all of them in bits 0 to b - 1, in the order of their numbers
+--   trials f             those of 23 bits with fewer than f flips: no flip, then one flip, then two ..
+--   leaving n es         the first of these patterns that, flipped in n, leaves a word; 2^23 where none does
+--   headerPlain          what a header is read as at a setting
 use mathlib.Core.Bool.{cond}
 use mathlib.Core.List.{List, [], _∷_, _++_, map}
 use Prim.Native.Nat.{ℕ, zero, suc, _+_, _/_, _%_, _^_}
@@ -17,15 +17,15 @@ use Rattle.bare.specs.Bare.{mostFlips}
 use Rattle.bare.specs.declared.Header.{Header}
 
 -- Bit b is not flipped, or it is, and one flip fewer lies below it.
-unfoldable pub patterns : ℕ → ℕ → List ℕ
-patterns zero b = 0 ∷ []
-patterns (suc k) zero = []
-patterns (suc k) (suc b) = patterns (suc k) b ++ map (λ (e : ℕ). 2 ^ b + e) (patterns k b)
+unfoldable pub errorPatterns : ℕ → ℕ → List ℕ
+errorPatterns zero b = 0 ∷ []
+errorPatterns (suc k) zero = []
+errorPatterns (suc k) (suc b) = errorPatterns (suc k) b ++ map (λ (e : ℕ). 2 ^ b + e) (errorPatterns k b)
 
 -- "fewest flips first"
 unfoldable pub trials : ℕ → List ℕ
 trials zero = []
-trials (suc f) = trials f ++ patterns f 23
+trials (suc f) = trials f ++ errorPatterns f 23
 
 -- A word is a multiple of G(x): the division leaves nothing.
 unfoldable pub leaving : ℕ → List ℕ → ℕ

@@ -8,7 +8,7 @@
 ghost use mathlib.Core.Path.{_≡_};
 ghost use Prim.Native.Nat.{_/_, _%_, _≤_, _<_};
 ghost use Rattle.golay.specs.Code.{remainder};
-ghost use Rattle.plain.specs.Plain.{patterns, leaving, headerPlain};
+ghost use Rattle.plain.specs.Plain.{errorPatterns, leaving, headerPlain};
 use bare::Header;
 
 // G(x) = x^11 + x^10 + x^6 + x^5 + x^4 + x^2 + 1, the highest power sent first, so that x^11 has weight 1 and x^0 weight 2^11.
@@ -53,7 +53,7 @@ fn header(number: u8, word: u32, flips: u32) -> Header
 // The pattern of so many flips that leaves a word, or NONE.
 fn flipped(n: u32, flips: u32) -> u32
     requires { ⌜ flips ≤ 3 ⌝ }
-    ensures { λ r. ⌜ r ≡ leaving n (patterns flips 23) ⌝ }
+    ensures { λ r. ⌜ r ≡ leaving n (errorPatterns flips 23) ⌝ }
 {
     match flips {
         0 => no_flip(n),
@@ -65,7 +65,7 @@ fn flipped(n: u32, flips: u32) -> u32
 
 // No flip: it is a word as it stands.
 fn no_flip(n: u32) -> u32
-    ensures { λ r. ⌜ r ≡ leaving n (patterns 0 23) ⌝ }
+    ensures { λ r. ⌜ r ≡ leaving n (errorPatterns 0 23) ⌝ }
 {
     if remainder(n) == 0 {
         return 0;
@@ -76,7 +76,7 @@ fn no_flip(n: u32) -> u32
 // One flip in bits 0 to bits - 1: each in turn.
 fn one_flip(n: u32, bits: u32) -> u32
     requires { ⌜ bits ≤ 23 ⌝ }
-    ensures { λ r. ⌜ r ≡ leaving n (patterns 1 bits) ⌝ }
+    ensures { λ r. ⌜ r ≡ leaving n (errorPatterns 1 bits) ⌝ }
 {
     for bit in 0..bits {
         let flip = 1u32 << bit;
@@ -90,7 +90,7 @@ fn one_flip(n: u32, bits: u32) -> u32
 // Two flips: each bit in turn as the higher one, and one flip below it.
 fn two_flips(n: u32, bits: u32) -> u32
     requires { ⌜ bits ≤ 23 ⌝ }
-    ensures { λ r. ⌜ r ≡ leaving n (patterns 2 bits) ⌝ }
+    ensures { λ r. ⌜ r ≡ leaving n (errorPatterns 2 bits) ⌝ }
 {
     for bit in 0..bits {
         let flip = 1u32 << bit;
@@ -105,7 +105,7 @@ fn two_flips(n: u32, bits: u32) -> u32
 // Three flips: each bit in turn as the highest one, and two flips below it.
 fn three_flips(n: u32, bits: u32) -> u32
     requires { ⌜ bits ≤ 23 ⌝ }
-    ensures { λ r. ⌜ r ≡ leaving n (patterns 3 bits) ⌝ }
+    ensures { λ r. ⌜ r ≡ leaving n (errorPatterns 3 bits) ⌝ }
 {
     for bit in 0..bits {
         let flip = 1u32 << bit;

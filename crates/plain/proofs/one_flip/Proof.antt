@@ -4,7 +4,7 @@ use mathlib.Core.Path.{_≡_, sym, _∙_}
 use Prim.Native.Nat.{_-_, _^_, _≤_}
 use native.Mathlib.Nat.{add-zero}
 use native.Mathlib.Omega.{arith}
-use Rattle.plain.specs.Plain.{patterns, leaving}
+use Rattle.plain.specs.Plain.{errorPatterns, leaving}
 use Rattle.plain.proofs.Trying.{clean, damaged, none-yet, turn-hit, turn-miss, turn-end}
 use Rattle.plain.proofs.one_flip.Statement.{statement}
 use Rattle.plain.proofs.one_flip.Tie as tie
@@ -13,7 +13,7 @@ use Rattle.plain.proofs.one_flip.Lts as lts
 use Rattle.plain.proofs.remainder.Reads as remainder-reads
 
 abbrev Inv-loop : tie.InvT-loop
-Inv-loop n bits bit₀ bit = (bit ≤ bits) × (leaving n (patterns 1 bit) ≡ 2 ^ 23)
+Inv-loop n bits bit₀ bit = (bit ≤ bits) × (leaving n (errorPatterns 1 bit) ≡ 2 ^ 23)
 
 abbrev μ-loop : tie.MeasureT-loop
 μ-loop n bits bit₀ bit = bits - bit

@@ -3,7 +3,7 @@
 use mathlib.Core.Path.{_≡_}
 use Prim.Native.Nat.{_-_, _^_, _≤_}
 use native.Mathlib.Omega.{arith}
-use Rattle.plain.specs.Plain.{patterns, leaving}
+use Rattle.plain.specs.Plain.{errorPatterns, leaving}
 use Rattle.plain.proofs.Trying.{none-yet, weight-lt, turn-hit, turn-miss, turn-end}
 use Rattle.plain.proofs.two_flips.Statement.{statement}
 use Rattle.plain.proofs.two_flips.Tie as tie
@@ -12,7 +12,7 @@ use Rattle.plain.proofs.two_flips.Lts as lts
 use Rattle.plain.proofs.one_flip.Reads as one-flip-reads
 
 abbrev Inv-loop : tie.InvT-loop
-Inv-loop n bits bit₀ bit = (bit ≤ bits) × (leaving n (patterns 2 bit) ≡ 2 ^ 23)
+Inv-loop n bits bit₀ bit = (bit ≤ bits) × (leaving n (errorPatterns 2 bit) ≡ 2 ^ 23)
 
 abbrev μ-loop : tie.MeasureT-loop
 μ-loop n bits bit₀ bit = bits - bit
