@@ -2,7 +2,7 @@
 --
 --   header-entry      a header by the entry of its remainder; entry-index, entry-flips: its parts fit
 --   flips-24          the flips in all 24 bits of a word by those in the first 23 and the parity of all
---   judged-entry      a word by the entry of the remainder of its first 23 bits; near-lt, even-lt: its parts fit
+--   judged-entry      a word by the entry of the remainder of its first 23 bits; near-lt: it fits
 --
 -- Assumes nothing.
 use mathlib.Core.Path.{_≡_, refl, sym, ap, ap₂, _∙_, subst}

@@ -1,4 +1,4 @@
-// What the bare calls are made of: words, remainders, the information nearest to a number. The tables are in the crates
+// What the bare calls are made of: words, remainders, the word nearest to a number by the table. The tables are in the crates
 // `lookup` and `fours`.
 ghost use mathlib.Core.Path.{_≡_};
 ghost use Prim.Native.Nat.{_/_, _%_, _*_, _^_, _<_};

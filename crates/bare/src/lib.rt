@@ -1,6 +1,6 @@
 // The codes of ETS 300 352 as bare calls: numbers in, a number and values out. Every number is answered.
 //
-// code    what the calls are made of: words, remainder, the information nearest to a number
+// code    what the calls are made of: words, remainder, the nearest word by the table
 ghost use mathlib.Core.Path.{_≡_};
 ghost use Prim.Native.Nat.{_%_, _^_, _<_, _≤_};
 ghost use Rattle.bits.specs.Bits.{flips};

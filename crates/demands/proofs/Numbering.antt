@@ -15,7 +15,7 @@ use lib.Dec.{ltb, eqb, lit≤, lit<}
 use lib.ListN.{length, getD}
 use lib.Seq.{getD-set-same}
 use Rattle.bits.specs.Bits.{blank, flips}
-use Rattle.bits.specs.Rows.{Row, row, refusal}
+use Rattle.bits.specs.Rows.{row, refusal}
 use Rattle.bits.proofs.Storing.{blank-length}
 use Rattle.bare.specs.Bare.{headerWithin, headerWritten}
 use Rattle.image.specs.Image.{spareOf}

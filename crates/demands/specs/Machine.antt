@@ -108,7 +108,7 @@ bareNumber (writeWord i) = wordWritten i .number
 bareNumber (readType b) = typeRead b .number
 bareNumber (writeType b) = typeWritten b .number
 
--- address, index and flips, the same, and once more; the header; information and flips; the word; type and flips; the type
+-- of each header reader address, index and flips; the header; information and flips; the word; type and flips; the type
 unfoldable pub bareValues : Bare → List ℕ
 bareValues (readHeader n) = headerRead n .address ∷ headerRead n .index ∷ headerRead n .flips ∷ []
 bareValues (readWithin n most) = headerWithin n most .address ∷ headerWithin n most .index ∷ headerWithin n most .flips ∷ []

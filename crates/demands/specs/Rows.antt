@@ -110,11 +110,14 @@ writeRows a p message output =
 
 -- ---- the bare calls: 33 "a bare number too large"; 48, 49 as above; 31 no word within three flips; 28 no type within two, or not one of the four
 
+-- a header, and the setting: of both readers, "Refusals: as the table reader" (document 02, Ask 10)
+abbrev headerRows : ℕ → ℕ → List Row
+headerRows n most = row (leb (2 ^ 23) n) 33 ∷ row (ltb 3 most) 48 ∷ row (ltb most (flips (word23 (nearest word23 n)) n)) 49 ∷ []
+
 unfoldable pub bareRows : Bare → List Row
 bareRows (readHeader n) = row (leb (2 ^ 23) n) 33 ∷ []
-bareRows (readWithin n most) = row (leb (2 ^ 23) n) 33 ∷ row (ltb 3 most) 48 ∷ row (ltb most (flips (word23 (nearest word23 n)) n)) 49 ∷ []
--- "Refusals: as the table reader"
-bareRows (readPlain n most) = row (leb (2 ^ 23) n) 33 ∷ row (ltb 3 most) 48 ∷ row (ltb most (flips (word23 (nearest word23 n)) n)) 49 ∷ []
+bareRows (readWithin n most) = headerRows n most
+bareRows (readPlain n most) = headerRows n most
 bareRows (writeHeader a i) = row (ltb 1023 a) 33 ∷ row (ltb 3 i) 33 ∷ []
 bareRows (readWord n) = row (leb (2 ^ 24) n) 33 ∷ row (leb 4096 (nearest word24 n)) 31 ∷ []
 bareRows (writeWord i) = row (leb 4096 i) 33 ∷ []

@@ -27,13 +27,13 @@ unfoldable pub trials : ℕ → List ℕ
 trials zero = []
 trials (suc f) = trials f ++ errorPatterns f 23
 
--- A word is a multiple of G(x): the division leaves nothing.
+-- 4.3.6.1.3: a word is "a polynomial which is a multiple of the generator polynomial G(x)"; the division leaves nothing.
 unfoldable pub leaving : ℕ → List ℕ → ℕ
 leaving n [] = 2 ^ 23
 leaving n (e ∷ es) = cond (eqb (remainder (bitXor n e)) 0) e (leaving n es)
 
 -- 33: header 2^23 or more; 48: a setting above 3; 49: no pattern of as many flips as the setting, or fewer, leaves a word. Bits 0 to 9 of
--- the word are the address, 10 and 11 the index; the flips are those of the pattern.
+-- the word are the address, 10 and 11 the index (4.3.6.1); the flips are those of the pattern.
 unfoldable pub headerPlain : ℕ → ℕ → Header
 headerPlain n most =
     let e = leaving n (trials (suc most)) in
