@@ -10,18 +10,20 @@
  *    4  nothing yet   5  fresh   6  doubtful   7  stale                         (ask, board text)
  *   20  a lent length is wrong            27  address not followed
  *   21  spare bit set                     28  type unreadable
- *   22  address not 1 to 1,022            29  type 3F or C7
+ *   22  address not 1 to 1,022            29  type 3F: a control packet
  *   23  protection not 0 or 1             30  type F8
  *   24  limit not 1 to 1,500              31  a protected word can't be read
  *   25  address already followed          32  out of step
  *   26  no free slot                      33  a bare number too large
- *   44  a pair of a field is wrong        34  state, or map, not good
+ *   47  type C7                           34  state, or map, not good
+ *   44  a pair of a field is wrong                                            (the map)
  *   45  more than 128 components          46  structure unfinished            (the map)
  *   48  setting above 3                   49  header beyond the setting       (headers)
  *
  * A call is refused with the first number of its order that applies. A refused call changes nothing that was lent to it, but for one
- * case: a packet refused with 28, 29, 30, 31 or 32 drops the unfinished group of its address and marks a gap there. Values that a call
- * hands out by pointers are set by a refused one, too, as the call says.
+ * case: a packet refused with 28, 47, 30, 31 or 32 drops the unfinished group of its address and marks a gap there. 29 is no error: a
+ * control packet stands between the packets of a group and is none of them. Values that a call hands out by pointers are set by a refused
+ * one, too, as the call says.
  *
  * The library allocates nothing, keeps nothing between calls and has no global state: everything it knows is in the state that you
  * lend. Calls on different states may run at the same time.
@@ -103,9 +105,17 @@ uint8_t feed_set_header_flips(uint8_t *state, size_t state_len, uint32_t most);
  * Takes in one packet image of 94 bytes: bit k in order of transmission is the bit of weight 2^(k mod 8) in byte k/8, and the bit of
  * weight 128 in byte 93 is 0. Answers 1 where it starts a group, 2 where it is held, 3 where it makes a group whole.
  * Refused, in this order: 20, 34, 21, 49 (more flips in the header than the setting says: the packet is no address's, and changes nothing),
- * 27, and these, which drop the address's unfinished group and mark a gap: 28, 29, 30, 31, 32.
+ * 27, 28, 29, 47, 30, 31, 32. Of these 29 changes nothing; 28, 47, 30, 31 and 32 drop the address's unfinished group and mark a gap.
  */
 uint8_t feed_packet(uint8_t *state, size_t state_len, const uint8_t *image, size_t image_len);
+
+/*
+ * The same call, with what its number carries. With 32, *awaited_or_place is the index that was awaited before this packet, and *came the
+ * index that came. With 31, *awaited_or_place is the place of the first word that cannot be read, 0 to 29, and *came is 0. With every
+ * other number, refusals too, both are 0. Both are always set; the number says what they are.
+ */
+uint8_t feed_packet_detail(uint8_t *state, size_t state_len, const uint8_t *image, size_t image_len, uint8_t *awaited_or_place,
+                           uint8_t *came);
 
 /*
  * Ends a subframe: every whole group is one subframe older, up to 1,500.
@@ -141,7 +151,7 @@ uint8_t feed_write_group(uint32_t address, uint32_t protection, const uint8_t *m
  * What one packet's type byte and data are read as, without a state: *index and the 90 useful bytes, or the 45 of protected data with
  * 0 behind them. With 31, *place is that of the first word that cannot be read, 0 to 29. Where the packet is refused the other values
  * are 0. bytes_len is 90.
- * Refused, in this order: 20 (bytes_len) and 23, which change nothing; 20 (image_len), 28, 29, 30, 31.
+ * Refused, in this order: 20 (bytes_len) and 23, which change nothing; 20 (image_len), 28, 29, 47, 30, 31.
  */
 uint8_t feed_received(uint8_t protection, const uint8_t *image, size_t image_len, uint8_t *place, uint8_t *index, uint8_t *bytes,
                       size_t bytes_len);

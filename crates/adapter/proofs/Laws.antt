@@ -6,34 +6,26 @@
 --   size-refused, spare-refused      20 where the image is not 94 bytes, 21 where its spare bit is set
 --   beyond-refused                   49 where its header has more flips than the setting
 --   answered-refused, answered-passed     what a number that refuses makes of an answer, and what 0 does
---   packet-place                     an answer has a place with 31 only
 --   packet-number                    the call's number is its answer's
 --   packet-refused, packet-placed    the call's number with the state after it, by these rows
 --
 -- Assumes nothing.
 use mathlib.Core.Path.{_≡_, refl, ap, ap₂, _∙_}
-use mathlib.Core.Bool.{Bool, true, false, cond, not, _&&_}
+use mathlib.Core.Bool.{true, false, not, _&&_}
 use mathlib.Core.List.{List, [], _∷_}
 use Prim.Native.Nat.{ℕ, zero, suc, _≤_, _<_}
 use native.Mathlib.Omega.{arith}
-use native.Mathlib.Decide.{ℕ-discrete}
 use borrow.Author.Tests.{not-false, eqb-true, eq-eqb, ne-eqb, lt-ltb, le-ltb, ltb-true, ltb-false}
 use lib.Dec.{ltb, eqb}
 use lib.ListN.{length}
 use Rattle.bits.specs.Rows.{row, refusal, given, further}
 use Rattle.bits.proofs.Rows.{refusal-hit, refusal-miss, refusal-passed, refusal-none, further-refused, further-passed, done-refused, done-passed}
 use Rattle.bits.proofs.Search.{and-left, and-right}
-use Rattle.bare.specs.Bare.{headerRead}
-use Rattle.image.specs.Image.{headerOf, spareOf}
-use Rattle.words.specs.Protected.{dataRead}
-use Rattle.packet.specs.Received.{usefulOf, receivedNumber, received}
-use Rattle.head.specs.Move.{moveNumber, rowAt}
-use Rattle.head.specs.declared.Head.{Head}
+use Rattle.image.specs.Image.{spareOf}
 use Rattle.table.specs.State.{slots, setting, find}
 use Rattle.table.proofs.Looking.{Passed, past-state, state-rest}
-use Rattle.group.specs.Group.{taken, takenNumber}
 use Rattle.group.specs.declared.Answer.{Answer}
-use Rattle.adapter.specs.Calls.{addressOf, flipsOf, beyond, followed, placeRows, unplaced, readingAt, slotAnswered, slotAnswer, slotAfter, refusedAnswer, answeredBy, packetAnswered, packetAnswer, packetAfter}
+use Rattle.adapter.specs.Calls.{addressOf, flipsOf, beyond, followed, placeRows, unplaced, slotAnswer, slotAfter, refusedAnswer, answeredBy, packetAnswered, packetAnswer, packetAfter}
 
 pub followed-both : (s : List ℕ) (a : ℕ) → followed s a ≡ true → (0 < a) × (find s a < slots)
 unfolding followed
@@ -100,25 +92,7 @@ pub answered-passed : (n : ℕ) (x : Answer) → n ≡ 0 → answeredBy n x ≡ 
 unfolding given further
 answered-passed n x z = ap (λ (m : ℕ). answeredBy m x) z
 
--- a reading has a place with 31 only, and so has its answer
-place-with-31 : (p : Bool) (image : List ℕ) (h : Head) → (taken (received p image) h .number ≡ 31 → ⊥) → taken (received p image) h .place ≡ 0
-unfolding takenNumber received further
-place-with-31 p image h ne =
-    ap (λ (b : Bool). cond b (dataRead (usefulOf image) .place) 0)
-    (ne-eqb (receivedNumber p image) 31
-    (λ e. ne (ap (λ (n : ℕ). further n (moveNumber (rowAt h (given n (headerRead (headerOf image) .index))))) e)))
-
 module _ (s image : List ℕ) where
-  pub packet-place : (packetAnswered s image .number ≡ 31 → ⊥) → packetAnswered s image .place ≡ 0
-  unfolding readingAt
-  packet-place ne = go (ℕ-discrete (unplaced s image) 0)
-    where
-      go : Dec (unplaced s image ≡ 0) → packetAnswered s image .place ≡ 0
-      go (yes z) =
-          let x = answered-passed (unplaced s image) (slotAnswered s image) z in
-          ap (λ (y : Answer). y .place) x ∙ place-with-31 _ image _ (λ e. ne (ap (λ (y : Answer). y .number) x ∙ e))
-      go (no n) = ap (λ (y : Answer). y .place) (answered-refused (unplaced s image) (slotAnswered s image) n)
-
   pub packet-number : packetAnswer s image ≡ packetAnswered s image .number
   unfolding packetAnswer
   packet-number = refl

@@ -1,4 +1,5 @@
 pub mod Arriving
+pub mod Carrying
 pub mod Determined
 pub mod Laws
 pub mod Vectors

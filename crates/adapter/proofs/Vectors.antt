@@ -6,7 +6,7 @@
 --   packets           20 before 34 before 21 before 27
 --   beyond-0, within-27, beyond-21     a header with one flip: 49 at the setting 0, after 21 and before 27, and changes nothing; at 1 it is read
 --   arrived           what a packet is answered that is read as 17 where 17 is followed, protected
---   answers, starts   28, 29, 29, 30 by the type; 1 for a data packet with index 0
+--   answers, starts   28, 29, 47, 30 by the type; 1 for a data packet with index 0; control-29, reserved-47: two of these
 --   unfollowed-told   27 carries nothing
 --   word-told         31 with place 2, where the third word has four flips
 --   out-told          32 with 2 and 3, where a slot awaits 2 and index 3 comes
@@ -131,7 +131,7 @@ flips-17 image e = ap (λ (n : ℕ). headerRead n .flips) e ∙ ap (λ (h : Head
 clean-within : (s image : List ℕ) → headerOf image ≡ 0x75F011 → calls.beyond s image ≡ false
 clean-within s image e = within-few s image (setting s) 0 refl (sym (flips-17 image e)) (omega arith)
 
-pub unfollowed-told : calls.packetAnswered started image.plain ≡ answer 27 0 0 0
+pub unfollowed-told : calls.packetAnswered started image.plain ≡ answer 27 0 0
 unfolding first
 unfollowed-told =
     let none = image-0 started image.plain refl 0 (sym (end-done started nobody start-shows)) refl 0 (sym image.plain-spare) (λ q. omega (arith, q)) in
@@ -243,14 +243,24 @@ module _ (image : List ℕ) (l : length image ≡ 94) (h : headerOf image ≡ 0x
   pub arrived : calls.packetAnswer followed image ≡ takenNumber (received true image) (newHead (wishOf 17 1 2))
   arrived = packet-number followed image ∙ ap (λ (x : Answer). x .number) arrived-told
 
-abbrev typed : ℕ → List ℕ
+abbrev pub typed : ℕ → List ℕ
 typed t = written 17 0 t image.counting
 
-pub answers : map (λ (t : ℕ). calls.packetAnswer followed (typed t)) (0x55 ∷ 0x3F ∷ 0xC7 ∷ 0xF8 ∷ []) ≡ (28 ∷ 29 ∷ 29 ∷ 30 ∷ [])
+pub answers : map (λ (t : ℕ). calls.packetAnswer followed (typed t)) (0x55 ∷ 0x3F ∷ 0xC7 ∷ 0xF8 ∷ []) ≡ (28 ∷ 29 ∷ 47 ∷ 30 ∷ [])
 unfolding takenNumber received receivedNumber refusal further typeOf typeNear flips ones onesIn headerOf bytesOf spareOf written imageOf numbersIn number bitsOf sent word23 remainder divide line less
 answers = λ i.
     arrived (typed 0x55) refl refl refl i ∷ arrived (typed 0x3F) refl refl refl i ∷ arrived (typed 0xC7) refl refl refl i
     ∷ arrived (typed 0xF8) refl refl refl i ∷ []
+
+-- of a control packet, and of one of type C7, by their places in that list
+pub control-29 : calls.packetAnswer followed (typed 0x3F) ≡ 29
+control-29 = ap (λ (ns : List ℕ). getD ns 1 0) answers
+
+pub reserved-47 : calls.packetAnswer followed (typed 0xC7) ≡ 47
+reserved-47 = ap (λ (ns : List ℕ). getD ns 2 0) answers
+
+pub typed-17 : (t : ℕ) → headerOf (typed t) ≡ 0x75F011 → calls.addressOf (typed t) ≡ 17
+typed-17 t h = address-17 (typed t) h
 
 -- ---- a data packet with index 0 starts a group
 
@@ -290,7 +300,7 @@ third-read =
     ∙ data-short (indexOf third) (dataRead (usefulOf third)) (subst (λ (n : ℕ). n < 30) (sym third-place) (lit< tt))
     ∙ ap (refusedAs 31) third-place
 
-pub word-told : calls.packetAnswered followed third ≡ answer 31 2 0 0
+pub word-told : calls.packetAnswered followed third ≡ answer 31 2 0
 unfolding takenNumber further headerOf spareOf written imageOf numbersIn number bitsOf sent blank word23 remainder divide line less
 word-told = arrived-told third refl refl refl ∙ ap (λ (r : Reading). group.taken r (newHead (wishOf 17 1 2))) third-read
 
@@ -308,7 +318,7 @@ module _ (s : List ℕ) (placed : Placed s late) where
   late-read p =
       ap (λ (n : ℕ). received (eqb n 1) late) p ∙ received-sent true 17 3 words.counting (lit≤ tt) (lit≤ tt) refl bytes
 
-  pub out-told : at .wish .protection ≡ 1 → at .awaited ≡ 2 → calls.packetAnswered s late ≡ answer 32 0 2 3
+  pub out-told : at .wish .protection ≡ 1 → at .awaited ≡ 2 → calls.packetAnswered s late ≡ answer 32 2 3
   unfolding takenNumber further perOf needsOf rowOf moveOf moveNumber
   out-told p w =
       answered-passed (calls.unplaced s late) (calls.slotAnswered s late) (placed-zero s late placed)

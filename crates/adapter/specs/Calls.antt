@@ -1,4 +1,4 @@
--- The packet call and the group writer (document 01, sections 4 and 6; document 02, Ask 7), each as two functions of what was lent: its answer,
+-- The packet call and the group writer (document 01, sections 4 and 6; document 02, Asks 6 and 7), each as two functions of what was lent: its answer,
 -- and the bytes after.
 --
 --   addressOf image          the address that its header is read with
@@ -10,7 +10,7 @@
 --   slotAnswered, slotAfter  what the slot of its address answers, and the state with that slot after; slotAnswer: its number
 --   refusedAnswer n          the answer that is a number and carries nothing
 --   answeredBy n x           that where n refuses, otherwise x
---   packetAnswered, packetAfter     the call's; packetAnswer: its number
+--   packetAnswered, packetAfter     the call's, with what 31 and 32 carry; packetAnswer: its number
 --   groupSize p              the message of a group: 360 bytes plain, 180 protected
 --   groupImages p a m        its four images, indices 0 to 3
 --   writeAnswer, writeAfter  22, 23, 20
@@ -33,7 +33,7 @@ use Rattle.table.specs.Calls.{stateRows}
 use Rattle.group.specs.Group.{taken, takenAfter}
 use Rattle.group.specs.declared.Answer.{Answer}
 
--- ---- packet: 20, 34, 21, 49, 27, 28, 29, 30, 31, 32
+-- ---- packet: 20, 34, 21, 49, 27, 28, 29, 47, 30, 31, 32
 
 unfoldable pub addressOf : List ℕ → ℕ
 addressOf image = headerRead (headerOf image) .address
@@ -77,15 +77,10 @@ slotAfter s image =
 
 -- a call that is refused before its slot is found has nothing to tell of a packet
 abbrev pub refusedAnswer : ℕ → Answer
-refusedAnswer n = record { number = n; place = 0; awaited = 0; came = 0 }
+refusedAnswer n = record { number = n; detail = 0; came = 0 }
 
 abbrev pub answeredBy : ℕ → Answer → Answer
-answeredBy n x = record {
-  number = further n (x .number);
-  place = given n (x .place);
-  awaited = given n (x .awaited);
-  came = given n (x .came);
-}
+answeredBy n x = record { number = further n (x .number); detail = given n (x .detail); came = given n (x .came) }
 
 abbrev pub packetAnswered : List ℕ → List ℕ → Answer
 packetAnswered s image = answeredBy (unplaced s image) (slotAnswered s image)

@@ -25,7 +25,7 @@ use words::Data;
 
 pub mod write;
 
-// One image: 20, 34, 21, 49, 27, 28, 29, 30, 31, 32, or 1 started, 2 held, 3 whole.
+// One image: 20, 34, 21, 49, 27, 28, 29, 47, 30, 31, 32, or 1 started, 2 held, 3 whole.
 pub fn packet(state: &mut [u8], image: &[u8]) -> u8
     ensures { λ r. ⌜ r ≡ packetAnswer (now (state .entry)) (now (image .entry)) ⌝ }
     ensures { λ _. ⌜ now (state .exit) ≡ packetAfter (now (state .entry)) (now (image .entry)) ⌝ }
@@ -33,7 +33,7 @@ pub fn packet(state: &mut [u8], image: &[u8]) -> u8
     answered(state, image).number
 }
 
-// The same with what 31 and 32 carry.
+// The same with what 31 and 32 carry, and 0 with every other number.
 pub fn answered(state: &mut [u8], image: &[u8]) -> Answer
     ensures { λ r. ⌜ r ≡ packetAnswered (now (state .entry)) (now (image .entry)) ⌝ }
     ensures { λ _. ⌜ now (state .exit) ≡ packetAfter (now (state .entry)) (now (image .entry)) ⌝ }
@@ -66,8 +66,7 @@ fn refused(number: u8) -> Answer
 {
     Answer {
         number,
-        place: 0,
-        awaited: 0,
+        detail: 0,
         came: 0,
     }
 }

@@ -5,6 +5,7 @@
 //     leave ADDRESS = NUMBER STATE           end = NUMBER STATE
 //     set-header-flips MOST = NUMBER STATE
 //     packet IMAGE LENGTH = NUMBER STATE     an image, 0 to 3, of which so many bytes are lent
+//     detail IMAGE LENGTH = NUMBER DETAIL CAME STATE       the same with what the number carries
 //     ask ADDRESS = NUMBER PLACE LENGTH SHOWN
 //     board ADDRESS LENGTH = NUMBER LENGTH SHOWN           so many bytes of the message are the notice
 //     write ADDRESS PROTECTION LENGTH OUTPUT = NUMBER IMAGES    so many bytes of the message and of the images are lent
@@ -19,7 +20,7 @@ use rows::bytes::front;
 use rows::tell;
 
 pub fn called(row: Row, state: &mut [u8], images: &mut [u8], message: &mut [u8]) -> Answer {
-    let names = b"start follow leave end packet ask board write set-header-flips ";
+    let names = b"start follow leave end packet ask board write set-header-flips detail ";
     let v = row.values;
     match tell::place(names, row.name) {
         0 => behind(0, table::start(state), state),
@@ -35,6 +36,7 @@ pub fn called(row: Row, state: &mut [u8], images: &mut [u8], message: &mut [u8])
             table::set_header_flips(state, (v[0] % Row::WIDE) as u32),
             state,
         ),
+        9 => detail(v, state, images),
         _ => images::called(row, images, message),
     }
 }
@@ -50,12 +52,36 @@ fn follow(v: [u64; 24], state: &mut [u8]) -> Answer {
 }
 
 fn packet(v: [u64; 24], state: &mut [u8], images: &[u8]) -> Answer {
+    let number = adapter::packet(state, image(v, images));
+    behind(2, number, state)
+}
+
+fn detail(v: [u64; 24], state: &mut [u8], images: &[u8]) -> Answer {
+    let answer = adapter::answered(state, image(v, images));
+    let digest = digested(START, state);
+    Answer {
+        args: 2,
+        len: 4,
+        values: [
+            answer.number as u64,
+            answer.detail as u64,
+            answer.came as u64,
+            digest,
+            0,
+            0,
+            0,
+            0,
+        ],
+    }
+}
+
+// The image that a row names, and as many of its bytes as it lends.
+fn image(v: [u64; 24], images: &[u8]) -> &[u8] {
     let from = (v[0] % 4) as usize * 94;
     if images.len() < from {
-        return Answer::unknown();
+        return &images[0..0];
     }
-    let number = adapter::packet(state, front(&images[from..], v[1]));
-    behind(2, number, state)
+    front(&images[from..], v[1])
 }
 
 fn ask(v: [u64; 24], state: &[u8]) -> Answer {

@@ -28,11 +28,11 @@ use Rattle.head.specs.declared.Head.{Head}
 use Rattle.slot.proofs.Goods.{good-slot}
 use Rattle.head.proofs.Bounds.{good-dropped}
 use Rattle.group.specs.Group.{refusedAfter, blockOf, slotMoved, slotDropped, takenNumber, takenAfter}
-use Rattle.group.proofs.Doing.{block-le, taken-dropped}
+use Rattle.group.proofs.Doing.{block-le, taken-by}
 use Rattle.group.proofs.Laws.{Fits, row-fits, moved-size, moved-good, moved-head, dropped-size, dropped-head}
-use Rattle.faults.specs.Faults.{number, faultOf}
-use Rattle.faults.proofs.Laws.{unreadable-drops, fault-number, unreadable-not-zero}
-use Rattle.history.proofs.Laws.{after-refused}
+use Rattle.faults.specs.Faults.{number, drops, faultOf}
+use Rattle.faults.proofs.Laws.{fault-number, unreadable-not-zero}
+use Rattle.history.proofs.Laws.{after-refused, after-kept}
 use Rattle.history.specs.Followed.{Event, after, answer}
 use Rattle.history.specs.Followed as one
 use Rattle.adapter.specs.Calls.{readingAt}
@@ -117,19 +117,41 @@ module _ (x image : List ℕ) (l : length x ≡ slotSize) (g : goodHead (headOf 
         number = further-passed (r .number) _ z;
       }
 
-  refused-does : Refused r → Does (one.refused (faultOf (r .number))) x (takenAfter r x) (takenNumber r (headOf x))
+  -- a refusal that drops
+  dropped-does : Refused r → drops (faultOf (r .number)) ≡ true → Does (one.refused (faultOf (r .number))) x (takenAfter r x) (takenNumber r (headOf x))
   unfolding takenAfter takenNumber after answer
-  refused-does f =
+  dropped-does f d =
       let ne = refused-not-zero r f in
-      let e : takenAfter r x ≡ slotDropped x = taken-dropped r x ne (unreadable-drops (r .number) f) in
+      let e : takenAfter r x ≡ slotDropped x = taken-by r x true ne (fault-number (r .number) f .1 ∙ d) in
       let h : headOf (takenAfter r x) ≡ droppedHead (headOf x) = ap headOf e ∙ dropped-head x l g in
       record {
         size = ap length e ∙ dropped-size x l g;
         good = good-slot (takenAfter r x) (ap goodHead h ∙ good-dropped (headOf x) g);
         address = ap (λ (y : Head). y .wish .address) h;
-        seen = ap seenIn e ∙ view-dropped x l g ∙ after-refused (faultOf (r .number)) (seenIn x);
+        seen = ap seenIn e ∙ view-dropped x l g ∙ after-refused (faultOf (r .number)) (seenIn x) d;
         number = further-refused (r .number) _ ne ∙ sym (fault-answered r f);
       }
+
+  -- one that does not, a control packet: the slot stays as it is
+  kept-does : Refused r → drops (faultOf (r .number)) ≡ false → Does (one.refused (faultOf (r .number))) x (takenAfter r x) (takenNumber r (headOf x))
+  unfolding takenAfter takenNumber after answer
+  kept-does f d =
+      let ne = refused-not-zero r f in
+      let e : takenAfter r x ≡ x = taken-by r x false ne (fault-number (r .number) f .1 ∙ d) in
+      record {
+        size = ap length e ∙ l;
+        good = good-slot (takenAfter r x) (ap (λ (y : List ℕ). goodHead (headOf y)) e ∙ g);
+        address = ap (λ (y : List ℕ). headOf y .wish .address) e;
+        seen = ap seenIn e ∙ after-kept (faultOf (r .number)) (seenIn x) d;
+        number = further-refused (r .number) _ ne ∙ sym (fault-answered r f);
+      }
+
+  refused-does : Refused r → Does (one.refused (faultOf (r .number))) x (takenAfter r x) (takenNumber r (headOf x))
+  refused-does f = go (drops (faultOf (r .number))) refl
+    where
+      go : (d : Bool) → drops (faultOf (r .number)) ≡ d → Does (one.refused (faultOf (r .number))) x (takenAfter r x) (takenNumber r (headOf x))
+      go true e = dropped-does f e
+      go false e = kept-does f e
 
   pub taken-does : length image ≡ 94 → Does (eventOf p image) x (takenAfter (readingAt x image) x) (takenNumber (readingAt x image) (headOf x))
   unfolding readingAt

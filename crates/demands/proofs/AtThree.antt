@@ -22,7 +22,7 @@ use Rattle.adapter.specs.Calls.{addressOf, flipsOf}
 use Rattle.demands.specs.Machine.{Call, start, follow, leave, packet, subframeEnd, setFlips, asks, Machine, ours}
 use Rattle.demands.specs.Setting.{settingNow}
 use Rattle.demands.specs.Seen.{arrivesAt}
-use Rattle.demands.specs.Demand3.{Happening, arrives, call, Demand3}
+use Rattle.demands.specs.Demand3.{Happening, arrives, control, call, Demand3}
 use Rattle.demands.specs.Demand3 as any
 use Rattle.demands.specs.Three.{Lost, Apart, Channel, AtThree}
 use Rattle.demands.proofs.Third.{demand-3}
@@ -59,6 +59,7 @@ channel-three p a sent n [] ch = tt
 channel-three p a sent n (arrives i c image ∷ h) ch =
     let x = ch .0 in
     (record { next = x .next; came = x .came; spare = x .spare }, channel-three p a sent (suc (4 * i + c)) h (ch .1))
+channel-three p a sent n (control image ∷ h) ch = (ch .0, channel-three p a sent n h (ch .1))
 channel-three p a sent n (call x ∷ h) ch =
     let b = between a x (ch .0) in
     (b .0, subst (λ (k : ℕ). any.Channel p a sent k n h) (b .1) (channel-three p a sent n h (ch .1)))

@@ -1,6 +1,8 @@
 -- The channel in bits of images, as the arrivals of which the crate history speaks.
 --
 --   arrivals p h           what happens, as arrivals
+--   came-arrives, came-event, came-drops     an image that came of a data packet: it arrives at the address, as that packet or dropping
+--   control-arrives, control-event           one that came of a control packet: it arrives, and is refused with 29
 --   channel-order          they are in order; channel-stays: nothing leaves the address
 --   channel-events         their events are those of the calls
 --   readable-came, came-readable     a packet that arrived readable is one that came
@@ -9,71 +11,98 @@
 --
 -- Assumes nothing.
 use mathlib.Core.Path.{_≡_, refl, sym, ap, ap₂, _∙_, subst}
-use mathlib.Core.Bool.{Bool, true, false, cond, not}
+use mathlib.Core.Bool.{Bool, true, false, cond}
 use mathlib.Core.List.{List, [], _∷_, _++_}
 use mathlib.Core.Logic.{_⊎_, inl, inr}
 use Prim.Native.Nat.{ℕ, zero, suc, _+_, _*_, _≤_, _<_}
 use native.Mathlib.Omega.{arith}
 use native.Mathlib.Nat.{le-trans}
 use borrow.Author.Tests.{eq-eqb, ne-eqb, leb-true}
-use lib.Dec.{T, leb, eqb}
+use lib.Dec.{T, leb, lit<}
 use lib.ListN.{length, take}
 use Rattle.bits.specs.Bits.{flips}
 use Rattle.image.specs.Image.{headerOf, spareOf}
-use Rattle.packet.specs.Received.{received, readableAs}
-use Rattle.packet.specs.Damage.{dataSize, sentImage, Came, Refused}
+use Rattle.packet.specs.Received.{received, readableAs, written}
+use Rattle.packet.specs.Damage.{dataSize, carried, sentImage, Kept, Any, CameBy, Came}
 use Rattle.packet.specs.declared.Reading.{Reading}
 use Rattle.packet.proofs.Answers.{filled-begins}
-use Rattle.packet.proofs.Damages.{header-came, header-flipped-by, received-came}
-use Rattle.faults.specs.Faults.{faultOf}
+use Rattle.packet.proofs.Damages.{carried-length, carried-below, written-came, written-flipped-by, header-came, received-control, received-came}
+use Rattle.faults.specs.Faults.{number, drops, typeControl, wordUnreadable, faultOf}
 use Rattle.history.specs.Followed as one
 use Rattle.history.specs.Sent as sent
 use Rattle.adapter.specs.Calls.{addressOf, flipsOf}
 use Rattle.demands.specs.Machine.{Call, start, follow, leave, packet, subframeEnd, setFlips, asks, Bytes}
-use Rattle.demands.specs.Demand3.{Stays, AllStay, Carries, Lost, Happening, arrives, call, callOf, calls, Apart, Channel, ReadableIn, arrivalBy, passing, arrivals}
+use Rattle.demands.specs.Demand3.{Stays, AllStay, Carries, Lost, Happening, arrives, control, call, callOf, calls, Apart, ComesControl, Channel, ReadableIn, arrivalBy, passing, arrivals}
 use Rattle.demands.specs.Setting.{settingNow}
 use Rattle.demands.specs.Seen.{arrivesAt, eventOf, eventsAt, eventsOf}
-use Rattle.demands.proofs.Acting.{event-read, event-refused, refused-not-zero}
+use Rattle.demands.proofs.Acting.{event-read, event-refused}
 use Rattle.demands.proofs.Calling.{Arrives, is-arrives, arrives-is}
 
 -- ---- one image that came of a sent packet
 
+-- of any packet, by its type byte and useful bytes
+module _ (kept : List ℕ → List ℕ → Type 0) (k a c ty : ℕ) (u image : List ℕ) (hk : k ≤ 3) (ha : a ≤ 1023) (hc : c < 4) (ht : ty < 256)
+    (l : length u ≡ 90) (b : Bytes u) (came : CameBy kept k (written a c ty u) image) where
+  arrives-by : spareOf image ≡ 0 → Arrives a k image
+  unfolding addressOf flipsOf
+  arrives-by z =
+      let few = le-trans (came .header) hk in
+      record {
+        size = came .size;
+        spare = ne-eqb (spareOf image) 1 (λ q. omega (arith, z, q));
+        -- its header is read with the flips that it has
+        within = subst (λ (n : ℕ). n ≤ k) (sym (written-flipped-by a c ty u ha (omega arith) ht l b image few)) (came .header);
+        address = written-came a c ty u ha (omega arith) ht l b image few .0;
+      }
+
+-- of a data packet
 module _ (p : Bool) (k a c : ℕ) (d image : List ℕ) (hk : k ≤ 3) (ha : a ≤ 1023) (hc : c < 4) (l : length d ≡ dataSize p) (b : Bytes d)
     (came : Came p k (sentImage p a c d) image) where
-  came-address : addressOf image ≡ a
-  unfolding addressOf
-  came-address = header-came p a c d ha (omega arith) l b image (le-trans (came .header) hk) .0
-
-  -- its header is read with the flips that it has
-  came-flips : flipsOf image ≤ k
-  unfolding flipsOf
-  came-flips = subst (λ (n : ℕ). n ≤ k) (sym (header-flipped-by p a c d ha (omega arith) l b image (le-trans (came .header) hk))) (came .header)
-
   pub came-arrives : spareOf image ≡ 0 → Arrives a k image
-  came-arrives z = record {
-    size = came .size;
-    spare = ne-eqb (spareOf image) 1 (λ q. omega (arith, z, q));
-    within = came-flips;
-    address = came-address;
-  }
+  came-arrives = arrives-by (Kept 4 p) k a c 0x00 (carried p d) image hk ha hc (lit< tt) (carried-length p d l) (carried-below p d b) came
+
+  came-either : (received p image ≡ readableAs c d) ⊎ (received p image .number ≡ number wordUnreadable)
+  came-either = received-came p k a c d image hk ha (omega arith) l b came
 
   pub came-event : received p image .number ≡ 0 → eventOf p image ≡ one.packet c d
-  came-event z = event-read p image z ∙ go (received-came p k a c d image hk ha (omega arith) l b came)
+  came-event z = event-read p image z ∙ go came-either
     where
-      go : (received p image ≡ readableAs c d) ⊎ Refused (received p image)
+      go : (received p image ≡ readableAs c d) ⊎ (received p image .number ≡ number wordUnreadable)
           → one.packet (received p image .index) (take (dataSize p) (received p image .bytes)) ≡ one.packet c d
       go (inl e) =
           ap (λ (r : Reading). one.packet (r .index) (take (dataSize p) (r .bytes))) e
           ∙ ap (one.packet c) (filled-begins (dataSize p) d l)
-      go (inr f) = absurd (refused-not-zero (received p image) f z)
+      go (inr f) = absurd (omega (arith, f, z))
+
+  -- where it is refused, its group is dropped
+  came-drops : (m : ℕ) → received p image .number ≡ suc m → drops (faultOf (suc m)) ≡ true
+  unfolding faultOf
+  came-drops m e = go came-either
+    where
+      go : (received p image ≡ readableAs c d) ⊎ (received p image .number ≡ number wordUnreadable) → drops (faultOf (suc m)) ≡ true
+      go (inl q) = absurd (omega (arith, e, ap (λ (r : Reading). r .number) q))
+      go (inr f) = ap (λ (n : ℕ). drops (faultOf n)) (sym e ∙ f)
+
+-- of a control packet
+control-arrives : (k a : ℕ) (image : List ℕ) → k ≤ 3 → a ≤ 1023 → ComesControl a k image → Arrives a k image
+control-arrives k a image hk ha x =
+    arrives-by Any k a (x .index) 0x3F (x .useful) image hk ha (x .below) (lit< tt) (x .size) (x .bytes) (x .came) (x .spare)
+
+control-event : (p : Bool) (k a : ℕ) (image : List ℕ) → a ≤ 1023 → ComesControl a k image → eventOf p image ≡ one.refused typeControl
+unfolding faultOf
+control-event p k a image ha x =
+    let below = x .below in
+    let e = ap (λ (r : Reading). r .number)
+    (received-control p k a (x .index) (x .useful) image ha (omega arith) (x .size) (x .bytes) (x .came)) in
+    event-refused p image (λ z. omega (arith, e, z)) ∙ ap (λ (n : ℕ). one.refused (faultOf n)) e
 
 -- ---- arrivals
 
-next-by : (m n i c : ℕ) (h : List sent.Arrival) → sent.Next 4 3 n i c → sent.InOrder 4 3 (suc (4 * i + c)) h
-    → sent.InOrder 4 3 n (arrivalBy m i c ∷ h)
+next-by : (k n i c : ℕ) (h : List sent.Arrival) → sent.Next 4 3 n i c → ((m : ℕ) → k ≡ suc m → drops (faultOf (suc m)) ≡ true)
+    → sent.InOrder 4 3 (suc (4 * i + c)) h → sent.InOrder 4 3 n (arrivalBy k i c ∷ h)
 unfolding arrivalBy sent.InOrder
-next-by zero n i c h x y = (x, y)
-next-by (suc m) n i c h x y = (x, y)
+next-by zero n i c h x d y = (x, y)
+next-by (suc m) n i c h x d y = (x, d m refl, y)
 
 passing-order : (x : Call) (n : ℕ) (h : List sent.Arrival) → sent.InOrder 4 3 n h → sent.InOrder 4 3 n (passing x ++ h)
 unfolding passing sent.InOrder
@@ -84,13 +113,6 @@ passing-order (packet image) n h o = o
 passing-order subframeEnd n h o = o
 passing-order (setFlips most) n h o = o
 passing-order (asks q) n h o = o
-
-pub channel-order : (p : Bool) (a : ℕ) (s : sent.Sent) (m n : ℕ) (h : List Happening) → Channel p a s m n h → sent.InOrder 4 3 n (arrivals p h)
-unfolding Channel arrivals sent.InOrder
-channel-order p a s m n [] ch = tt
-channel-order p a s m n (arrives i c image ∷ h) ch =
-    next-by (received p image .number) n i c (arrivals p h) (ch .0 .next) (channel-order p a s m (suc (4 * i + c)) h (ch .1))
-channel-order p a s m n (call x ∷ h) ch = passing-order x n (arrivals p h) (channel-order p a s _ n h (ch .1))
 
 apart-stays : (a m : ℕ) (x : Call) → Apart a m x → Stays a x
 unfolding Apart Stays
@@ -106,6 +128,7 @@ pub channel-stays : (p : Bool) (a : ℕ) (s : sent.Sent) (m n : ℕ) (h : List H
 unfolding Channel calls callOf AllStay Stays
 channel-stays p a s m n [] ch = tt
 channel-stays p a s m n (arrives i c image ∷ h) ch = (tt, channel-stays p a s m (suc (4 * i + c)) h (ch .1))
+channel-stays p a s m n (control image ∷ h) ch = (tt, channel-stays p a s m n h (ch .1))
 channel-stays p a s m n (call x ∷ h) ch = (apart-stays a m x (ch .0), channel-stays p a s _ n h (ch .1))
 
 -- the setting stays 0 to 3
@@ -122,6 +145,20 @@ channel-few (setFlips most) m h = go (leb most 3) refl
     go true e = leb-true most 3 e
     go false e = h
 channel-few (asks q) m h = h
+
+pub channel-order : (p : Bool) (a : ℕ) (s : sent.Sent) → a ≤ 1023 → Carries p s → (m n : ℕ) (h : List Happening) → m ≤ 3 → Channel p a s m n h
+    → sent.InOrder 4 3 n (arrivals p h)
+unfolding Channel arrivals sent.InOrder
+channel-order p a s ha k m n [] hm ch = tt
+channel-order p a s ha k m n (arrives i c image ∷ h) hm ch =
+    let x = ch .0 in
+    let hc = x .next .index in
+    next-by (received p image .number) n i c (arrivals p h) (x .next)
+    (came-drops p m a c (s i c) image hm ha hc (k .size i c hc) (k .bytes i c hc) (x .came))
+    (channel-order p a s ha k m (suc (4 * i + c)) h hm (ch .1))
+channel-order p a s ha k m n (control image ∷ h) hm ch = channel-order p a s ha k m n h hm (ch .1)
+channel-order p a s ha k m n (call x ∷ h) hm ch =
+    passing-order x n (arrivals p h) (channel-order p a s ha k (settingNow x m) n h (channel-few x m hm) (ch .1))
 
 -- ---- the events are those of the calls
 
@@ -164,8 +201,13 @@ arrival-event p s i c image read = go (received p image .number) refl
 
 pub channel-events : (p : Bool) (a : ℕ) (s : sent.Sent) → a ≤ 1023 → Carries p s → (m n : ℕ) (h : List Happening) → m ≤ 3 → Channel p a s m n h
     → sent.events s (arrivals p h) ≡ eventsOf a p m (calls h)
-unfolding Channel arrivals sent.events eventsOf calls callOf eventsAt settingNow
+unfolding Channel arrivals sent.events sent.event eventsOf calls callOf eventsAt settingNow
 channel-events p a s ha k m n [] hm ch = refl
+channel-events p a s ha k m n (control image ∷ h) hm ch =
+    let here = control-arrives m a image hm ha (ch .0) in
+    ap₂ (λ (e : one.Event) (es : List one.Event). e ∷ es) (sym (control-event p m a image ha (ch .0)))
+    (channel-events p a s ha k m n h hm (ch .1))
+    ∙ sym (ap (λ (b : Bool). cond b (eventOf p image ∷ []) [] ++ eventsOf a p m (calls h)) (is-arrives a m image here))
 channel-events p a s ha k m n (arrives i c image ∷ h) hm ch =
     let x = ch .0 in
     let hc = x .next .index in
@@ -185,11 +227,13 @@ channel-events p a s ha k m n (call x ∷ h) hm ch =
 cameAs : sent.Arrival → ℕ × ℕ
 cameAs (sent.came i c) = (i, c)
 cameAs (sent.damaged i c r) = (0, 0)
+cameAs sent.control = (0, 0)
 cameAs sent.subframeEnd = (0, 0)
 
 isCame : sent.Arrival → Bool
 isCame (sent.came i c) = true
 isCame (sent.damaged i c r) = false
+isCame sent.control = false
 isCame sent.subframeEnd = false
 
 came-by : (m j d i c : ℕ) → arrivalBy m j d ≡ sent.came i c → (j ≡ i) × (d ≡ c) × (m ≡ 0)
@@ -221,14 +265,17 @@ passing-out i c (asks r) h q = q
 pub readable-came : (p : Bool) (i c : ℕ) (h : List Happening) → ReadableIn p i c h → sent.CameIn i c (arrivals p h)
 unfolding ReadableIn arrivals sent.CameIn arrivalBy
 readable-came p i c [] q = q
+readable-came p i c (control image ∷ h) q = inr (readable-came p i c h q)
 readable-came p i c (arrives j d image ∷ h) (inl e) =
     inl (λ k. arrivalBy (e .2 k) (e .0 k) (e .1 k))
 readable-came p i c (arrives j d image ∷ h) (inr q) = inr (readable-came p i c h q)
 readable-came p i c (call x ∷ h) q = passing-in i c x (arrivals p h) (readable-came p i c h q)
 
 pub came-readable : (p : Bool) (i c : ℕ) (h : List Happening) → sent.CameIn i c (arrivals p h) → ReadableIn p i c h
-unfolding ReadableIn arrivals sent.CameIn
+unfolding ReadableIn arrivals sent.CameIn isCame
 came-readable p i c [] q = q
+came-readable p i c (control image ∷ h) (inl e) = absurd (subst T (sym (ap isCame e)) tt)
+came-readable p i c (control image ∷ h) (inr q) = came-readable p i c h q
 came-readable p i c (arrives j d image ∷ h) (inl e) = inl (came-by (received p image .number) j d i c e)
 came-readable p i c (arrives j d image ∷ h) (inr q) = inr (came-readable p i c h q)
 came-readable p i c (call x ∷ h) q = came-readable p i c h (passing-out i c x (arrivals p h) q)

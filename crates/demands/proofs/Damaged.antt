@@ -3,12 +3,14 @@
 --
 --   worked-sent, worked-carried     packet c of group i is 45 bytes of the value 4 * i + c, modulo 256
 --   as-sent i c, hit i c x          its image, and this image so flipped
---   header-three, word-three, word-four, type-eight     what is flipped; header-counted, word-three-counted,
+--   header-three, word-three, word-four, type-two       what is flipped; header-counted, word-three-counted,
 --                                   word-four-counted, type-counted: exactly so many bits
---   word-four-beyond, type-beyond   the last two are more than the codes correct
+--   word-four-beyond                four in a word are more than the codes correct
+--   type-four, type-vanishes, type-beyond     four flips in a type byte are outside of demand 3's words: it is read as 3F, and 29
 --   Receives i c image n            the image may come of that packet, and it is received with the number n
---   sent-receives, header-receives, word-three-receives     0
---   word-four-receives, type-receives                       31 and 29
+--   sent-receives, header-receives, word-three-receives, type-receives      0
+--   word-four-receives              31
+--   told, told-comes                what came of a control packet to 17, with three flips in its header and two in its type byte
 --   other, other-counted, other-read, other-apart     a packet to address 18, with three flips in its header too
 --   spare-one, spare-read, spare-apart    packet 1 of group 2 with its spare bit set: read as 17, and counted as lost
 --   cut, cut-read, cut-number, cut-apart  packet 2 of group 2 without its last byte: read as 17, 20, and counted as lost
@@ -26,7 +28,9 @@ use lib.Count.{ones, onesIn}
 use lib.Dec.{lit<, lit≤}
 use lib.ListN.{length, getD, take, replicate, length-replicate}
 use lib.Seq.{length-take-le, take-take}
-use Rattle.bits.specs.Bits.{flips, number, sent}
+use Rattle.bits.specs.Bits.{flips, number, sent, blank}
+use Rattle.bits.proofs.Storing.{blank-length}
+use Rattle.runs.proofs.Parts.{blank-at}
 use Rattle.bits.proofs.Flips.{ones-in, ones-zero, flips-same}
 use Rattle.bits.proofs.Runs.{sent-take}
 use Rattle.bare.specs.Bare.{headerRead, types, typeNear}
@@ -36,11 +40,11 @@ use Rattle.packet.specs.Damage.{sentImage, Came, Corrected}
 use Rattle.packet.specs.declared.Reading.{Reading}
 use Rattle.packet.proofs.Answers.{answer-length}
 use Rattle.packet.proofs.Damages.{sent-corrected, corrected-came, sent-spare, received-sent, header-came, header-flipped-by}
-use Rattle.packet.proofs.Flipped.{Flipping, flipped, Fits, wordFlips, flipped-spare, flipped-header, flipped-type, flipped-word, flipped-came, flipped-read, flipped-short, flipped-control, spareSet, spareSet-spare, spareSet-header}
+use Rattle.packet.proofs.Flipped.{Flipping, flipped, Fits, wordFlips, flipped-spare, flipped-header, flipped-type, flipped-word, flipped-came, flipped-read, flipped-short, flipped-control, control-came, spareSet, spareSet-spare, spareSet-header}
 use Rattle.history.specs.Sent.{Sent}
 use Rattle.adapter.specs.Calls.{addressOf, flipsOf}
 use Rattle.demands.specs.Machine.{packet, Bytes}
-use Rattle.demands.specs.Demand3.{Carries, Apart}
+use Rattle.demands.specs.Demand3.{Carries, Apart, ComesControl}
 
 -- ---- what is sent
 
@@ -91,8 +95,15 @@ word-three = record { header = 0; type = 0x00; place = 29; word = 0x801001 }
 abbrev pub word-four : Flipping
 word-four = record { header = 0; type = 0x00; place = 29; word = 0x801003 }
 
-abbrev pub type-eight : Flipping
-type-eight = record { header = 0; type = 0xFF; place = 0; word = 0 }
+abbrev pub type-two : Flipping
+type-two = record { header = 0; type = 0x03; place = 0; word = 0 }
+
+abbrev pub type-four : Flipping
+type-four = record { header = 0; type = 0x0F; place = 0; word = 0 }
+
+-- of 3F
+abbrev pub control-five : Flipping
+control-five = record { header = 0x400801; type = 0xFF; place = 0; word = 0 }
 
 abbrev pub hit : ℕ → ℕ → Flipping → List ℕ
 hit i c x = flipped 17 c (worked-sent i c) x
@@ -122,16 +133,24 @@ four-word-ones : ones 0x801003 ≡ 4
 unfolding onesIn
 four-word-ones = ones-in 24 0x801003 (lit< tt)
 
-type-flips : flips 0x00 0xFF ≡ 8
+type-flips : flips 0x00 0x03 ≡ 2
 unfolding flips ones onesIn
 type-flips = refl
+
+four-flips : flips 0x00 0x0F ≡ 4
+unfolding flips ones onesIn
+four-flips = refl
+
+control-flips : flips 0x3F 0xFF ≡ 2
+unfolding flips ones onesIn
+control-flips = refl
 
 plain-near : typeNear types 0x00 ≡ 0x00
 unfolding typeNear flips ones onesIn
 plain-near = refl
 
--- FF is two flips from 3F
-control-near : typeNear types 0xFF ≡ 0x3F
+-- 0F is two flips from 3F
+control-near : typeNear types 0x0F ≡ 0x3F
 unfolding typeNear flips ones onesIn
 control-near = refl
 
@@ -151,8 +170,11 @@ module _ (i c : ℕ) (h : c < 4) where
   four-fits : Fits 17 c (worked-sent i c) word-four
   four-fits = fits 17 i c word-four (lit≤ tt) h (lit< tt) (lit< tt) (lit< tt) (lit< tt)
 
-  type-fits : Fits 17 c (worked-sent i c) type-eight
-  type-fits = fits 17 i c type-eight (lit≤ tt) h (lit< tt) (lit< tt) (lit< tt) (lit< tt)
+  type-fits : Fits 17 c (worked-sent i c) type-two
+  type-fits = fits 17 i c type-two (lit≤ tt) h (lit< tt) (lit< tt) (lit< tt) (lit< tt)
+
+  vanished-fits : Fits 17 c (worked-sent i c) type-four
+  vanished-fits = fits 17 i c type-four (lit≤ tt) h (lit< tt) (lit< tt) (lit< tt) (lit< tt)
 
   -- ---- exactly so many
 
@@ -165,15 +187,19 @@ module _ (i c : ℕ) (h : c < 4) where
   pub word-four-counted : wordFlips (as-sent i c) (hit i c word-four) 29 ≡ 4
   word-four-counted = flipped-word 17 c (worked-sent i c) word-four four-fits ∙ four-word-ones
 
-  pub type-counted : flips (getD (bytesOf (as-sent i c)) 0 0) (getD (bytesOf (hit i c type-eight)) 0 0) ≡ 8
-  type-counted = flipped-type 17 c (worked-sent i c) type-eight type-fits ∙ type-flips
+  pub type-counted : flips (getD (bytesOf (as-sent i c)) 0 0) (getD (bytesOf (hit i c type-two)) 0 0) ≡ 2
+  type-counted = flipped-type 17 c (worked-sent i c) type-two type-fits ∙ type-flips
 
-  -- so neither these four nor these eight are within what the codes correct
+  -- so these four are not within what the codes correct
   pub word-four-beyond : Corrected true 3 (as-sent i c) (hit i c word-four) → ⊥
   word-four-beyond q = omega (arith, word-four-counted, q .useful 29 (lit< tt))
 
-  pub type-beyond : Corrected true 3 (as-sent i c) (hit i c type-eight) → ⊥
-  type-beyond q = omega (arith, type-counted, q .type)
+  -- four in a type byte may not come by demand 3's words: the packet would be taken for a control packet, and vanish
+  pub type-vanishes : received true (hit i c type-four) .number ≡ 29
+  type-vanishes = flipped-control 17 c (worked-sent i c) type-four vanished-fits control-near
+
+  pub type-beyond : Came true 3 (as-sent i c) (hit i c type-four) → ⊥
+  type-beyond q = omega (arith, flipped-type 17 c (worked-sent i c) type-four vanished-fits, four-flips, q .type)
 
   -- ---- and received so
 
@@ -181,7 +207,7 @@ module _ (i c : ℕ) (h : c < 4) where
   header-receives =
       let few : ones 0x400801 ≤ 3 = omega (arith, three-ones) in
       record {
-        came = flipped-came 17 c (worked-sent i c) header-three header-fits 3 few (no-ones 4);
+        came = flipped-came 17 c (worked-sent i c) header-three header-fits 3 few no-flips (no-ones 4);
         spare = flipped-spare 17 c (worked-sent i c) header-three header-fits;
         number = ap (λ (r : Reading). r .number) (flipped-read 17 c (worked-sent i c) header-three header-fits few no-flips (no-ones 3));
       }
@@ -190,24 +216,46 @@ module _ (i c : ℕ) (h : c < 4) where
   word-three-receives =
       let few : ones 0x801001 ≤ 3 = omega (arith, three-word-ones) in
       record {
-        came = flipped-came 17 c (worked-sent i c) word-three three-fits 3 (no-ones 3) (omega (arith, few));
+        came = flipped-came 17 c (worked-sent i c) word-three three-fits 3 (no-ones 3) no-flips (omega (arith, few));
         spare = flipped-spare 17 c (worked-sent i c) word-three three-fits;
         number = ap (λ (r : Reading). r .number) (flipped-read 17 c (worked-sent i c) word-three three-fits (no-ones 3) no-flips few);
       }
 
   pub word-four-receives : Receives i c (hit i c word-four) 31
   word-four-receives = record {
-    came = flipped-came 17 c (worked-sent i c) word-four four-fits 3 (no-ones 3) (omega (arith, four-word-ones));
+    came = flipped-came 17 c (worked-sent i c) word-four four-fits 3 (no-ones 3) no-flips (omega (arith, four-word-ones));
     spare = flipped-spare 17 c (worked-sent i c) word-four four-fits;
     number = flipped-short 17 c (worked-sent i c) word-four four-fits plain-near four-word-ones;
   }
 
-  pub type-receives : Receives i c (hit i c type-eight) 29
-  type-receives = record {
-    came = flipped-came 17 c (worked-sent i c) type-eight type-fits 3 (no-ones 3) (no-ones 4);
-    spare = flipped-spare 17 c (worked-sent i c) type-eight type-fits;
-    number = flipped-control 17 c (worked-sent i c) type-eight type-fits control-near;
-  }
+  pub type-receives : Receives i c (hit i c type-two) 0
+  type-receives =
+      let two : flips 0x00 0x03 ≤ 2 = omega (arith, type-flips) in
+      record {
+        came = flipped-came 17 c (worked-sent i c) type-two type-fits 3 (no-ones 3) two (no-ones 4);
+        spare = flipped-spare 17 c (worked-sent i c) type-two type-fits;
+        number = ap (λ (r : Reading). r .number) (flipped-read 17 c (worked-sent i c) type-two type-fits (no-ones 3) two (no-ones 3));
+      }
+
+-- ---- what comes of a control packet
+
+-- sent with index 2, which no group awaits where it stands, and 90 bytes of 0; what came has other useful bytes
+abbrev pub told : List ℕ
+told = flipped 17 2 (worked-sent 0 2) control-five
+
+pub told-comes : ComesControl 17 3 told
+told-comes =
+    let fit = fits 17 0 2 control-five (lit≤ tt) (lit< tt) (lit< tt) (lit< tt) (lit< tt) (lit< tt) in
+    record {
+      index = 2;
+      useful = blank 90;
+      below = lit< tt;
+      size = blank-length 90;
+      bytes = λ k. omega (arith, blank-at 90 k);
+      came = control-came 17 2 (worked-sent 0 2) control-five fit 3 (blank 90) (blank-length 90) (λ k. omega (arith, blank-at 90 k))
+          (omega (arith, three-ones)) (omega (arith, control-flips));
+      spare = flipped-spare 17 2 (worked-sent 0 2) control-five fit;
+    }
 
 -- ---- what comes of none that was sent to the address, or is counted as lost
 

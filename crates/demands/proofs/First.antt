@@ -1,9 +1,10 @@
--- Demand 1 for our calls: a refusal changes nothing but for 28 to 32, which drop the unfinished group of a followed address; what is
--- lent to be read stays as it is.
+-- Demand 1 for our calls: a refusal changes nothing but for 28, 47, 30, 31 and 32, which drop the unfinished group of a followed address;
+-- what is lent to be read stays as it is.
 --
 --   start-in .. question-in        so the numbers of each call but a packet: 0, 4 to 7, and those that change nothing
---   refused-in-plain, placed-in    a packet's: those, or where it is placed 1 to 3 and 28 to 32
---   placed-drops                   and 28 to 32 drop
+--   refused-in-plain, placed-in    a packet's: those, or where it is placed 1 to 3, 29 and those that drop
+--   placed-drops, placed-stays     28, 47, 30, 31 and 32 drop, and by 29 every byte stays
+--   carries                        what the packet's answer carries
 --   valueless                      0 beside a bare call's refusal
 --   demand-1
 --
@@ -12,25 +13,29 @@ use mathlib.Core.Path.{_≡_, refl, sym, ap, _∙_, subst}
 use mathlib.Core.Bool.{Bool, true, false, cond, _&&_, _||_}
 use mathlib.Core.List.{List, [], _∷_}
 use mathlib.Core.Logic.{_⊎_, inl, inr}
-use Prim.Native.Nat.{ℕ, zero, suc}
+use Prim.Native.Nat.{ℕ, zero, suc, _*_, _<_}
 use native.Mathlib.Decide.{ℕ-discrete}
 use borrow.Author.Tests.{ne-eqb}
-use lib.Dec.{eqb, leb}
+use lib.Dec.{T, eqb, leb}
 use lib.ListN.{length}
 use Rattle.bits.specs.Rows.{done, given}
 use Rattle.bare.specs.Bare.{headerRead, headerWithin, headerWritten, wordRead, wordWritten, typeRead, typeWritten}
 use Rattle.plain.specs.Plain.{headerPlain}
 use Rattle.bits.proofs.Rows.{further-refused, further-passed, done-refused, done-passed}
+use Rattle.packet.specs.Received.{usefulOf}
 use Rattle.packet.specs.Damage.{Refused}
 use Rattle.packet.specs.declared.Reading.{Reading}
 use Rattle.packet.proofs.Answers.{received-either}
 use Rattle.runs.specs.Part.{part}
-use Rattle.slot.specs.Slot.{headOf, unfinished, stored}
+use Rattle.runs.proofs.Parts.{put-part}
+use Rattle.words.specs.Protected.{dataRead}
+use Rattle.words.proofs.Each.{first-word}
+use Rattle.slot.specs.Slot.{slotSize, headOf, unfinished, stored}
 use Rattle.head.specs.Head.{askNumber}
 use Rattle.head.specs.Move.{Move, started, held, whole, outOfStep, moveNumber, rowAt, placeAt}
 use Rattle.head.specs.declared.Head.{Head}
 use Rattle.head.specs.declared.Wish.{Wish}
-use Rattle.table.specs.State.{stateSize, startedState, slotAt, find}
+use Rattle.table.specs.State.{stateSize, startedState, slotAt, withSlot, find}
 use Rattle.table.specs.Calls.{startAnswer, startAfter, followAnswer, followAfter, leaveAnswer, leaveAfter, endAnswer, endAfter, setAnswer, setAfter}
 use Rattle.table.proofs.Doing.{start-passed}
 use Rattle.table.proofs.Vectors.{started-bytes}
@@ -40,14 +45,14 @@ use Rattle.asking.proofs.Laws.{asked-group, asked-none, asked-refused, asked-fo
 use Rattle.group.specs.Group.{refusedAfter, slotMoved, slotDropped, takenNumber, takenAfter}
 use Rattle.group.proofs.Laws.{dropped-room, dropped-stored, dropped-head}
 use Rattle.faults.specs.Faults.{numberDrops}
-use Rattle.faults.proofs.Laws.{unreadable-drops}
-use Rattle.group.proofs.Doing.{out-drops, taken-dropped}
+use Rattle.group.proofs.Doing.{out-drops, taken-by}
 use Rattle.history.specs.Sent.{In}
-use Rattle.adapter.specs.Calls.{addressOf, unplaced, readingAt, packetAnswer, packetAfter, writeAnswer, writeAfter}
-use Rattle.adapter.proofs.Laws.{Placed, packet-refused}
-use Rattle.demands.specs.Machine.{Call, start, follow, leave, packet, subframeEnd, setFlips, asks, ask, Question, ours, questionAnswer, ourAnswer, ourAfter, ourBoard, Bare, readHeader, readWithin, readPlain, writeHeader, readWord, writeWord, readType, writeType, bareNumber, bareValues}
+use Rattle.adapter.specs.Calls.{addressOf, unplaced, readingAt, slotAfter, packetAnswer, packetAfter, writeAnswer, writeAfter}
+use Rattle.adapter.proofs.Laws.{Placed, placed-zero, packet-refused, packet-placed}
+use Rattle.adapter.proofs.Carrying.{packet-told, packet-short}
+use Rattle.demands.specs.Machine.{Call, start, follow, leave, packet, subframeEnd, setFlips, asks, ask, Question, ours, questionAnswer, ourAnswer, ourAfter, ourDetails, ourBoard, Bare, readHeader, readWithin, readPlain, writeHeader, readWord, writeWord, readType, writeType, bareNumber, bareValues}
 use Rattle.demands.specs.Table.{member}
-use Rattle.demands.specs.Demand1.{unchanging, dropping, Dropped, DroppedBy, Demand1, AllZero}
+use Rattle.demands.specs.Demand1.{unchanging, dropping, Dropped, FirstFailed, Carries, DroppedBy, Demand1, AllZero}
 use Rattle.demands.proofs.Numbers.{among-in, in-among, in-every, in-none, rows-in}
 use Rattle.demands.proofs.Numbered.{numbered, write-answers, bare-answers}
 use Rattle.demands.proofs.Serving.{here-size, here-good}
@@ -61,7 +66,7 @@ abbrev plain : List ℕ
 plain = 0 ∷ 4 ∷ 5 ∷ 6 ∷ 7 ∷ unchanging
 
 abbrev pub placedNumbers : List ℕ
-placedNumbers = 1 ∷ 2 ∷ 3 ∷ dropping
+placedNumbers = 1 ∷ 2 ∷ 3 ∷ 29 ∷ dropping
 
 start-in : (s : List ℕ) → In (startAnswer s) plain
 unfolding startAnswer
@@ -123,25 +128,42 @@ move-in outOfStep = among-in 32 placedNumbers tt
 -- demand 1's numbers, written out, are those of the list of faults that drop
 pub dropping-is : (n : ℕ) → numberDrops n ≡ member n dropping
 unfolding numberDrops member
-dropping-is n = go (eqb n 28) (eqb n 29) (eqb n 30) (eqb n 31) (eqb n 32)
+dropping-is n = go (eqb n 28) (eqb n 29) (eqb n 47) (eqb n 30) (eqb n 31) (eqb n 32)
   where
-    go : (a b c d e : Bool)
-        → ((a && true) || ((b && true) || ((b && true) || ((c && true) || ((d && true) || ((e && true) || false))))))
-        ≡ (a || (b || (c || (d || (e || false)))))
-    go true b c d e = refl
-    go false true c d e = refl
-    go false false true d e = refl
-    go false false false true e = refl
-    go false false false false true = refl
-    go false false false false false = refl
+    and-true : (a : Bool) → (a && true) ≡ a
+    and-true true = refl
+    and-true false = refl
 
-refused-in : (r : Reading) → Refused r → In (r .number) dropping
+    and-false : (a : Bool) → (a && false) ≡ false
+    and-false true = refl
+    and-false false = refl
+
+    go : (a b c d e f : Bool)
+        → ((a && true) || ((b && false) || ((c && true) || ((d && true) || ((e && true) || ((f && true) || false))))))
+        ≡ (a || (c || (d || (e || (f || false)))))
+    go a b c d e f = λ i. and-true a i || (and-false b i || (and-true c i || (and-true d i || (and-true e i || (and-true f i || false)))))
+
+-- so each of them drops, and none of those that change nothing does
+in-drops : (n : ℕ) → In n dropping → numberDrops n ≡ true
+unfolding numberDrops In
+in-drops n (inl e) = ap numberDrops e
+in-drops n (inr (inl e)) = ap numberDrops e
+in-drops n (inr (inr (inl e))) = ap numberDrops e
+in-drops n (inr (inr (inr (inl e)))) = ap numberDrops e
+in-drops n (inr (inr (inr (inr (inl e))))) = ap numberDrops e
+in-drops n (inr (inr (inr (inr (inr x))))) = absurd x
+
+drops-in : (n : ℕ) → numberDrops n ≡ true → In n dropping
+unfolding member
+drops-in n e = among-in n dropping (subst T (sym (sym (dropping-is n) ∙ e)) tt)
+
+refused-in : (r : Reading) → Refused r → In (r .number) (29 ∷ dropping)
 unfolding In
-refused-in r (inl e) = inl e
-refused-in r (inr (inl e)) = inr (inl e)
-refused-in r (inr (inr (inl e))) = inr (inl e)
-refused-in r (inr (inr (inr (inl e)))) = inr (inr (inl e))
-refused-in r (inr (inr (inr (inr (inl e))))) = inr (inr (inr (inl e)))
+refused-in r (inl e) = inr (inl e)
+refused-in r (inr (inl e)) = inl e
+refused-in r (inr (inr (inl e))) = inr (inr (inl e))
+refused-in r (inr (inr (inr (inl e)))) = inr (inr (inr (inl e)))
+refused-in r (inr (inr (inr (inr (inl e))))) = inr (inr (inr (inr (inl e))))
 refused-in r (inr (inr (inr (inr (inr x))))) = absurd x
 
 taken-in : (r : Reading) (h : Head) → (r .number ≡ 0) ⊎ Refused r → In (takenNumber r h) placedNumbers
@@ -149,7 +171,7 @@ unfolding takenNumber
 taken-in r h (inl z) = subst (λ (n : ℕ). In n placedNumbers) (sym (further-passed (r .number) _ z)) (move-in (rowAt h (r .index)))
 taken-in r h (inr f) =
     subst (λ (n : ℕ). In n placedNumbers) (sym (further-refused (r .number) _ (refused-not-zero r f)))
-    (in-every (r .number) dropping placedNumbers tt (refused-in r f))
+    (in-every (r .number) (29 ∷ dropping) placedNumbers tt (refused-in r f))
 
 -- ---- a packet, by whether it is placed
 
@@ -169,7 +191,31 @@ unfolding takenNumber takenAfter
 taken-drops r x (inl z) h =
     done-passed (r .number) _ (refusedAfter (r .number) x) z
     ∙ move-drops (rowAt (headOf x) (r .index)) (placeAt (headOf x) (r .index)) _ x (subst (λ (n : ℕ). In n dropping) (further-passed (r .number) _ z) h)
-taken-drops r x (inr f) h = taken-dropped r x (refused-not-zero r f) (unreadable-drops (r .number) f)
+taken-drops r x (inr f) h =
+    let ne = refused-not-zero r f in
+    taken-by r x true ne (in-drops (r .number) (subst (λ (n : ℕ). In n dropping) (further-refused (r .number) _ ne) h))
+
+move-not : (mv : Move) → In (moveNumber mv) unchanging → ⊥
+unfolding moveNumber
+move-not started h = in-among 1 unchanging h
+move-not held h = in-among 2 unchanging h
+move-not whole h = in-among 3 unchanging h
+move-not outOfStep h = in-among 32 unchanging h
+
+not-drops : (n : ℕ) → In n unchanging → numberDrops n ≡ false
+not-drops n h = go (numberDrops n) refl
+  where
+    go : (b : Bool) → numberDrops n ≡ b → numberDrops n ≡ false
+    go true e = absurd (in-none n unchanging dropping tt h (drops-in n e))
+    go false e = e
+
+-- and one that is answered with a number that changes nothing leaves its slot: a control packet
+taken-stays : (r : Reading) (x : List ℕ) → (r .number ≡ 0) ⊎ Refused r → In (takenNumber r (headOf x)) unchanging → takenAfter r x ≡ x
+unfolding takenNumber
+taken-stays r x (inl z) h = absurd (move-not _ (subst (λ (n : ℕ). In n unchanging) (further-passed (r .number) _ z) h))
+taken-stays r x (inr f) h =
+    let ne = refused-not-zero r f in
+    taken-by r x false ne (not-drops (r .number) (subst (λ (n : ℕ). In n unchanging) (further-refused (r .number) _ ne) h))
 
 module _ (s image : List ℕ) (p : Placed s image) where
   abbrev x : List ℕ
@@ -200,6 +246,31 @@ module _ (s image : List ℕ) (p : Placed s image) where
         tail = placed-setting s image p;
       }
 
+  placed-stays : In (packetAnswer s image) unchanging → packetAfter s image ≡ s
+  unfolding slotAfter withSlot slotAt
+  placed-stays h =
+      let k = find s (addressOf image) in
+      let same = taken-stays r x reading (subst (λ (n : ℕ). In n unchanging) (placed-answer s image p) h) in
+      packet-placed s image (placed-zero s image p) .1 ∙ ap (λ (b : List ℕ). withSlot k b s) same ∙ put-part (k * slotSize) slotSize s
+
+-- ---- what a packet's answer carries
+
+carries : (s image : List ℕ) → Carries s image (packetAnswer s image) (ourDetails image s)
+unfolding packetAnswer ourDetails
+carries s image =
+    let told = packet-told s image in
+    record {
+      out = told .out;
+      word = λ e. word (told .word e) (packet-short s image e);
+      others = told .others;
+    }
+  where
+    u : List ℕ
+    u = usefulOf image
+
+    word : {d c : ℕ} → (d ≡ dataRead u .place) × (c ≡ 0) → dataRead u .place < 30 → FirstFailed u d × (c ≡ 0)
+    word (e, z) short = (subst (FirstFailed u) (sym e) (short, first-word u short .0, first-word u short .1), z)
+
 -- ---- the demand
 
 -- 0 is none of these
@@ -212,7 +283,7 @@ unchanged start s h = done-unchanged (startAnswer s) _ s h
 unchanged (follow w) s h = done-unchanged (followAnswer s w) _ s h
 unchanged (leave a) s h = done-unchanged (leaveAnswer s a) _ s h
 unchanged (packet image) s h =
-    by-place s image (λ ne. packet-refused s image ne .1) (λ p. absurd (in-none _ placedNumbers unchanging tt (placed-in s image p) h))
+    by-place s image (λ ne. packet-refused s image ne .1) (λ p. placed-stays s image p h)
 unchanged subframeEnd s h = done-unchanged (endAnswer s) _ s h
 unchanged (setFlips most) s h = done-unchanged (setAnswer s most) _ s h
 unchanged (asks q) s h = refl
@@ -292,6 +363,7 @@ demand-1 = record {
   bare = bare-answers;
   unchanged = unchanged;
   dropped = drops;
+  carries = carries;
   unwritten = unwritten;
   valueless = valueless;
   started = λ s l. begins s l ∙ started-bytes;

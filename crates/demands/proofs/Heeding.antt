@@ -2,6 +2,7 @@
 --
 --   unheeding-fails, severe-fails, harsh-fails     by demand 1: no 49, a 49 that drops a group, a start that puts 0
 --   forgetful-fails, stubborn-fails                by the history: the setting lost by a leave, and never put
+--   fresh-gap, drop-changes                        a slot just followed has no gap marked, and a drop would mark one
 --
 -- Assumes nothing.
 use mathlib.Core.Path.{_≡_, refl, sym, ap, _∙_, subst}
@@ -15,6 +16,7 @@ use Rattle.bits.proofs.Rows.{done-passed}
 use Rattle.slot.specs.Slot.{headOf}
 use Rattle.head.specs.Head.{wishOf}
 use Rattle.head.specs.declared.Head.{Head}
+use Rattle.head.specs.declared.Wish.{Wish}
 use Rattle.table.specs.State.{setting, withSetting, startedState, slotAt, withSlot, find}
 use Rattle.table.specs.Calls.{startAnswer, startAfter, followAnswer, followAfter, leaveAnswer, leaveAfter, setAfter}
 use Rattle.table.proofs.Doing.{start-passed}
@@ -91,29 +93,36 @@ refused-49 =
     let u = beyond-refused begun turned refl (passed begun 17 (k .serves)) (ap (λ (n : ℕ). eqb n 1) turned-spare) (omega (arith, turned-flips, begun-zero)) in
     packet-refused begun turned (λ z. omega (arith, z, u)) .0 ∙ u
 
--- what a drop would leave of its slot: the gap marked
-abbrev dropped : List ℕ
-dropped = withSlot (find begun (addressOf turned)) (slotDropped (slotAt (find begun (addressOf turned)) begun)) begun
+-- what a drop leaves of a slot: the gap marked. So it changes a state in which a follow has just put the address
+abbrev pub droppedAt : ℕ → List ℕ → List ℕ
+droppedAt a s = withSlot (find s a) (slotDropped (slotAt (find s a) s)) s
 
-gap-marked : headOf (slotAt (find begun 17) dropped) .gap ≡ 1
-gap-marked =
-    let v = follow-serves (set 0) (wishOf 17 0 2) followed-17 .serves in
-    let k = find begun 17 in
-    let x = slotAt k begun in
-    ap (λ (a : ℕ). headOf (slotAt k (withSlot (find begun a) (slotDropped (slotAt (find begun a) begun)) begun)) .gap) turned-address
-    ∙ ap (λ (y : List ℕ). headOf y .gap) (slot-same begun (v .size) k (slotDropped x) (v .found) (dropped-size x (here-size begun 17 v) (here-good begun 17 v)))
-    ∙ ap (λ (h : Head). h .gap) (dropped-head x (here-size begun 17 v) (here-good begun 17 v))
+module _ (s : List ℕ) (w : Wish) (e : followAnswer s w ≡ 0) where
+  abbrev fresh : List ℕ
+  fresh = followAfter s w
 
-no-gap : headOf (slotAt (find begun 17) begun) .gap ≡ 0
-unfolding view seenIn one.followed
-no-gap = ap (λ (f : one.Followed). f .head .gap) (follow-serves (set 0) (wishOf 17 0 2) followed-17 .seen)
+  pub fresh-gap : headOf (slotAt (find fresh (w .address)) fresh) .gap ≡ 0
+  unfolding view seenIn one.followed
+  fresh-gap = ap (λ (f : one.Followed). f .head .gap) (follow-serves s w e .seen)
+
+  pub drop-changes : droppedAt (w .address) fresh ≡ fresh → ⊥
+  drop-changes same =
+      let v = follow-serves s w e .serves in
+      let k = find fresh (w .address) in
+      let x = slotAt k fresh in
+      let size = here-size fresh (w .address) v in
+      let marked : headOf (slotAt k (droppedAt (w .address) fresh)) .gap ≡ 1 =
+      ap (λ (y : List ℕ). headOf y .gap) (slot-same fresh (v .size) k (slotDropped x) (v .found) (dropped-size x size (here-good fresh (w .address) v)))
+      ∙ ap (λ (h : Head). h .gap) (dropped-head x size (here-good fresh (w .address) v)) in
+      omega (arith, marked, fresh-gap, ap (λ (t : List ℕ). headOf (slotAt k t) .gap) same)
 
 pub severe-fails : Demand1 severe → ⊥
 unfolding byCall ourAnswer
 severe-fails d =
     let kept = d .unchanged (packet turned) begun (subst (λ (n : ℕ). In n unchanging) (sym refused-49) (among-in 49 unchanging tt)) in
-    let same : dropped ≡ begun = sym (ap (λ (n : ℕ). cond (eqb n 49) dropped (packetAfter begun turned)) refused-49) ∙ kept in
-    omega (arith, gap-marked, no-gap, ap (λ (s : List ℕ). headOf (slotAt (find begun 17) s) .gap) same)
+    let due = droppedAt (addressOf turned) begun in
+    let same : due ≡ begun = sym (ap (λ (n : ℕ). cond (eqb n 49) due (packetAfter begun turned)) refused-49) ∙ kept in
+    drop-changes (set 0) (wishOf 17 0 2) followed-17 (ap (λ (a : ℕ). droppedAt a begun) (sym turned-address) ∙ same)
 
 pub harsh-fails : Demand1 harsh → ⊥
 unfolding byCall

@@ -13,6 +13,7 @@ pub mod Followers
 pub mod Heeding
 pub mod Keeping
 pub mod Marks
+pub mod Minding
 pub mod Numbered
 pub mod Numbering
 pub mod Numbers

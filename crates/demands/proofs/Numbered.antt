@@ -1,7 +1,7 @@
 -- Demand 1, the numbers: each of our answers is the first row's of section 6 that holds, and one of the call's own where none does.
 --
 --   answers-same        where the answer is what the order gives
---   slot-answers        28 to 32 and 1 to 3, by the tests of their rows
+--   slot-answers        28, 29, 47, 30, 31, 32 and 1 to 3, by the tests of their rows
 --   packet-answers, ask-answers, question-answers, numbered     the calls on a state
 --   follow-rows         follow's rows, as they are written out, are those that its contract cites
 --   write-answers, bare-answers               the group writer, and the bare calls
@@ -52,10 +52,10 @@ answers-same rows n e = record { refused = λ ne. e; accepted = λ z. inl (e ∙
 -- ---- a packet at its slot
 
 abbrev readingRows : Bool → Bool → Bool → Bool → Bool → List Row
-readingRows b28 b3F bC7 bF8 b31 = row b28 28 ∷ row b3F 29 ∷ row bC7 29 ∷ row bF8 30 ∷ row b31 31 ∷ []
+readingRows b28 b3F bC7 bF8 b31 = row b28 28 ∷ row b3F 29 ∷ row bC7 47 ∷ row bF8 30 ∷ row b31 31 ∷ []
 
 abbrev stepRows : Bool → Bool → Bool → Bool → Bool → Bool → List Row
-stepRows b28 b3F bC7 bF8 b31 out = row b28 28 ∷ row (b3F || bC7) 29 ∷ row bF8 30 ∷ row b31 31 ∷ row out 32 ∷ []
+stepRows b28 b3F bC7 bF8 b31 out = row b28 28 ∷ row b3F 29 ∷ row bC7 47 ∷ row bF8 30 ∷ row b31 31 ∷ row out 32 ∷ []
 
 abbrev stepNumber : Bool → Bool → Bool → Bool → Bool → ℕ → ℕ → ℕ
 stepNumber b28 b3F bC7 bF8 b31 a c =
@@ -99,7 +99,7 @@ slot-answers : (b28 b3F bC7 bF8 b31 : Bool) (a c : ℕ) → c < 4
 unfolding refusal further given
 slot-answers true b3F bC7 bF8 b31 a c h = refused-answers _ _ 28 (record { same = refl; not-zero = λ z. omega arith })
 slot-answers false true bC7 bF8 b31 a c h = refused-answers _ _ 29 (record { same = refl; not-zero = λ z. omega arith })
-slot-answers false false true bF8 b31 a c h = refused-answers _ _ 29 (record { same = refl; not-zero = λ z. omega arith })
+slot-answers false false true bF8 b31 a c h = refused-answers _ _ 47 (record { same = refl; not-zero = λ z. omega arith })
 slot-answers false false false true b31 a c h = refused-answers _ _ 30 (record { same = refl; not-zero = λ z. omega arith })
 slot-answers false false false false true a c h = refused-answers _ _ 31 (record { same = refl; not-zero = λ z. omega arith })
 slot-answers false false false false false a c h =

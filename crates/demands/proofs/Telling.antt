@@ -2,7 +2,7 @@
 --
 --   run-acts             the address after the calls is the address after their events; run-setting: the setting then
 --   lost-answer, answer-by     what a packet at the address is answered that does not arrive, and one that does
---   readable-answered, unreadable-answered     readable: 1, 2, 3 or 32; otherwise 28 to 31
+--   readable-answered, unreadable-answered     readable: 1, 2, 3 or 32; otherwise 28, 29, 47, 30 or 31
 --   handed-same          what is handed out is what the events hand out
 --
 -- Assumes nothing.
@@ -24,7 +24,7 @@ use Rattle.head.specs.Move.{Move, started, held, whole, outOfStep, moveOf, move
 use Rattle.table.specs.State.{setting}
 use Rattle.asking.specs.Asking.{askPart}
 use Rattle.history.specs.Followed as one
-use Rattle.history.proofs.Laws.{run-app, after-refused}
+use Rattle.history.proofs.Laws.{run-app, refused-either}
 use Rattle.history.specs.Sent.{In}
 use Rattle.adapter.specs.Calls.{addressOf, flipsOf, unplaced, packetAnswer}
 use Rattle.adapter.proofs.Laws.{size-refused, spare-refused, beyond-refused, packet-refused}
@@ -45,7 +45,7 @@ use Rattle.head.proofs.Moves.{moved-wish}
 pub after-protection : (e : one.Event) (f : one.Followed) → one.after e f .head .wish .protection ≡ f .head .wish .protection
 unfolding one.after one.moved one.dropped one.aged
 after-protection (one.packet c b) f = ap (λ (w : Wish). w .protection) (moved-wish (moveOf (f .per) (f .needs) (f .head .awaited) c) (f .head))
-after-protection (one.refused r) f = ap (λ (g : one.Followed). g .head .wish .protection) (sym (after-refused r f))
+after-protection (one.refused r) f = refused-either (λ (g : one.Followed). g .head .wish .protection ≡ f .head .wish .protection) r f refl refl
 after-protection one.ended f = refl
 
 pub run-protection : (es : List one.Event) (f : one.Followed) → one.run es f .head .wish .protection ≡ f .head .wish .protection
@@ -63,7 +63,7 @@ last-kept (one.packet c b) f q = go (moveOf (f .per) (f .needs) (f .head .awaite
     go held z = refl
     go whole z = absurd (subst T z tt)
     go outOfStep z = refl
-last-kept (one.refused r) f q = ap (λ (g : one.Followed). g .last) (sym (after-refused r f))
+last-kept (one.refused r) f q = refused-either (λ (g : one.Followed). g .last ≡ f .last) r f refl refl
 last-kept one.ended f q = refl
 
 view-protected : (s : List ℕ) (a : ℕ) → by (view s a) ≡ protectedAt s a
@@ -143,7 +143,7 @@ pub answer-by : (s : List ℕ) (a : ℕ) → Serves s a → (image : List ℕ) �
 answer-by s a v image r =
     answer-here s a v image r ∙ ap (λ (p : Bool). one.answer (eventOf p image) (view s a)) (sym (view-protected s a))
 
--- "readable there means not refused with 20, 21[, 49] or 28 to 31": of ours, readable is what the image is received as
+-- "readable there means not refused with 20, 21[, 49] or 28 to 31"[, 47]: of ours, readable is what the image is received as
 number-in : (mv : Move) → In (moveNumber mv) (1 ∷ 2 ∷ 3 ∷ 32 ∷ [])
 unfolding moveNumber In
 number-in started = inl refl

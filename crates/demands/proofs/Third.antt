@@ -140,7 +140,7 @@ module _ (s : List ℕ) (w : Wish) (e : followAnswer s w ≡ 0) where
   unfolding Arrived Readable
   exact sent k n h ch =
       let st = channel-stays guarded a sent (setting s) n h ch in
-      let x = exactly-four w sent n (arrivals guarded h) (channel-order guarded a sent (setting s) n h ch) in
+      let x = exactly-four w sent n (arrivals guarded h) (channel-order guarded a sent low k (setting s) n h few ch) in
       let same : handedOut ours a (calls h) t ≡ _ =
       handed-same (calls h) t a (begun .serves) st
       ∙ (λ i. one.handedOut (eventsOf a (begun-by i) (begun-setting i) (calls h)) (begun .seen i))
@@ -163,7 +163,7 @@ module _ (s : List ℕ) (w : Wish) (e : followAnswer s w ≡ 0) where
       ∙ (λ i. askNumber (one.run (eventsOf a (begun-by i) (begun-setting i) (calls h)) (begun .seen i) .head))
       ∙ ap (λ (es : List one.Event). askNumber (one.run es (one.followed w) .head)) (sym (channel-events guarded a sent low k (setting s) n h few ch)) in
       subst (Judged 4 (w .limit) (arrivals guarded h)) (sym same)
-      (nothing-missed-four w (bounds .limit-from) (bounds .limit-to) sent n (arrivals guarded h) (channel-order guarded a sent (setting s) n h ch))
+      (nothing-missed-four w (bounds .limit-from) (bounds .limit-to) sent n (arrivals guarded h) (channel-order guarded a sent low k (setting s) n h few ch))
 
 -- ---- what concerns the address, in two states in which it is the same
 

@@ -5,6 +5,12 @@
 -- order, the first one after damage among them. The last of them is called fresh exactly while fewer subframes than its limit
 -- have ended since it was handed out and no gap has been marked since. Packets for other addresses alter none of this."
 --
+-- Document 02, Ask 6: a control packet is not "a group's packet in demand 3 or the end of a lost run there; demand 3 now needs no type byte
+-- there with more than two flips". So the address carries whole groups of four data packets, and control packets anywhere between them;
+-- nothing else: a packet of type C7 or F8 that is sent there is outside of these words (it is refused, drops and marks). Two flips, because
+-- a data packet's type byte with four may be read as 3F, and the packet would vanish without a mark; and a control packet's with three may
+-- be unreadable, or F8 or C7, and would drop a group whose packets all came (the crate history, proofs/Sharp.antt).
+--
 -- The set number is the setting in force at each arrival (document 02, Ask 7): any call may change it between follow and leave, so it goes
 -- along with what happens. A packet with more flips than it is refused with 49 and counts as lost. specs/Three.antt has the words of
 -- document 01, "more than three", where the setting is 3 throughout.
@@ -14,9 +20,9 @@
 --   Stays a x              a call that neither leaves the address nor starts
 --   Carries p sent         what is sent are packets of 90 bytes, or of 45 protected ones
 --   Lost k image           refused with 20, 21 or, at the setting k, 49: it counts as lost
---   Happening              what came of packet c of group i, or any other call
+--   Happening              what came of packet c of group i, what came of a control packet, or any other call
 --   Channel p a sent k n h     the words of the demand up to "Then", over what happens from packet n and the setting k on
---   Arrived p h i          all four packets of group i arrived readable: not refused with 20, 21, 49 or 28 to 31
+--   Arrived p h i          all four packets of group i arrived readable: not refused with 20, 21, 49 or 31
 --   arrivals p h           what came of it, packet by packet, and the subframe ends between
 --   handedOut m a h s      what ask shows of the address after each answer 3 to a packet read as it
 --   Goes m a f k t s       what the machine answers and shows at the address from state s on, where the address is there as f says, k is
@@ -33,7 +39,7 @@ use lib.Dec.{eqb}
 use lib.ListN.{length}
 use Rattle.image.specs.Image.{spareOf}
 use Rattle.packet.specs.Received.{received}
-use Rattle.packet.specs.Damage.{dataSize, sentImage, Came}
+use Rattle.packet.specs.Damage.{dataSize, sentImage, controlImage, Came, ControlCame}
 use Rattle.slot.specs.Slot.{headOf}
 use Rattle.head.specs.declared.Wish.{Wish}
 use Rattle.table.specs.State.{setting, slotAt, find}
@@ -78,10 +84,12 @@ Lost k image = (length image ≡ 94 → ⊥) ⊎ ((spareOf image ≡ 1) ⊎ (k <
 pub data Happening : Type 0 where
   -- group, index, image
   arrives : ℕ → ℕ → List ℕ → Happening
+  control : List ℕ → Happening
   call : Call → Happening
 
 unfoldable pub callOf : Happening → Call
 callOf (arrives i c image) = packet image
+callOf (control image) = packet image
 callOf (call x) = x
 
 unfoldable pub calls : List Happening → List Call
@@ -103,15 +111,28 @@ pub record Comes (p : Bool) (a : ℕ) (sent : Sent) (k n i c : ℕ) (image : Lis
   pub came : Came p k (sentImage p a c (sent i c)) image
   pub spare : spareOf image ≡ 0
 
+-- a control packet that was sent to the address, whatever its index and its useful bytes
+pub record ComesControl (a k : ℕ) (image : List ℕ) : Type 0 where
+  pub index : ℕ
+  pub useful : List ℕ
+  pub below : index < 4
+  pub size : length useful ≡ 90
+  pub bytes : Bytes useful
+  pub came : ControlCame k (controlImage a index useful) image
+  pub spare : spareOf image ≡ 0
+
+-- a control packet leaves the number of the next packet as it is: those lost before and behind it are one run
 unfoldable pub Channel : Bool → ℕ → Sent → ℕ → ℕ → List Happening → Type 0
 Channel p a sent k n [] = Unit {0}
 Channel p a sent k n (arrives i c image ∷ h) = Comes p a sent k n i c image × Channel p a sent k (suc (4 * i + c)) h
+Channel p a sent k n (control image ∷ h) = ComesControl a k image × Channel p a sent k n h
 Channel p a sent k n (call x ∷ h) = Apart a k x × Channel p a sent (settingNow x k) n h
 
 -- packet c of group i arrived readable
 unfoldable pub ReadableIn : Bool → ℕ → ℕ → List Happening → Type 0
 ReadableIn p i c [] = ⊥
 ReadableIn p i c (arrives j d image ∷ h) = ((j ≡ i) × (d ≡ c) × (received p image .number ≡ 0)) ⊎ ReadableIn p i c h
+ReadableIn p i c (control image ∷ h) = ReadableIn p i c h
 ReadableIn p i c (call x ∷ h) = ReadableIn p i c h
 
 unfoldable pub Arrived : Bool → List Happening → ℕ → Type 0
@@ -135,6 +156,7 @@ passing (asks q) = []
 unfoldable pub arrivals : Bool → List Happening → List Arrival
 arrivals p [] = []
 arrivals p (arrives i c image ∷ h) = arrivalBy (received p image .number) i c ∷ arrivals p h
+arrivals p (control image ∷ h) = arriving.control ∷ arrivals p h
 arrivals p (call x ∷ h) = passing x ++ arrivals p h
 
 -- ---- what is handed out

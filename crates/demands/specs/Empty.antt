@@ -20,6 +20,7 @@ but answer after =
     record {
       answer = answer;
       after = after;
+      details = ours .details;
       shown = ours .shown;
       board = ours .board;
       writes = ours .writes;
@@ -33,6 +34,7 @@ fixed n m =
     record {
       answer = λ x s. n;
       after = m .after;
+      details = m .details;
       shown = m .shown;
       board = m .board;
       writes = λ a p message output. n;

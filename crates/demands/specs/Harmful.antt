@@ -13,6 +13,8 @@
 --   trusting, hasty     right from a follow on: on a slot with dirt in its room, as only a hand makes it, ask answers 5 with the gap marked, and
 --                  index 1 is answered 3
 --   babbling       ask refused shows a byte; boasting: board text's number is always 5
+--   startled       a control packet drops the group of its address; indulgent: one of type C7 does not
+--   swapping       32 carries the two indices exchanged; lingering: they are told with every number
 --   mute           every bare call gives 33 and 0
 --   timid          the plain header reader never tries three flips
 --   sparing        the writer sets the spare bit of the first image
@@ -35,7 +37,7 @@ use Rattle.asking.specs.Asking.{asked, askPart}
 use Rattle.faults.specs.Faults.{numberDrops}
 use Rattle.group.specs.Group.{slotDropped}
 use Rattle.adapter.specs.Calls.{addressOf, packetAnswer, packetAfter, writeAfter}
-use Rattle.demands.specs.Machine.{Question, ask, Call, start, follow, leave, packet, subframeEnd, setFlips, asks, Board, Machine, ours, questionAnswer, ourAnswer, ourAfter, ourBoard, run, Bare, readHeader, readWithin, readPlain, writeHeader, readWord, writeWord, readType, writeType, bareNumber, bareValues}
+use Rattle.demands.specs.Machine.{Question, ask, Call, start, follow, leave, packet, subframeEnd, setFlips, asks, Board, Details, Machine, ours, questionAnswer, ourAnswer, ourAfter, ourDetails, ourBoard, run, Bare, readHeader, readWithin, readPlain, writeHeader, readWord, writeWord, readType, writeType, bareNumber, bareValues}
 use Rattle.demands.specs.Rows.{indexOf}
 use Rattle.demands.specs.Empty.{but}
 
@@ -84,6 +86,7 @@ showing shown board =
     record {
       answer = ourAnswer;
       after = ourAfter;
+      details = ours .details;
       shown = shown;
       board = board;
       writes = ours .writes;
@@ -203,13 +206,17 @@ unheeding =
     but (answering follows (λ image s. packetAnswer (withSetting 3 s) image) endAnswer questionAnswer)
     (leaving startAfter followed left (λ image s. withSetting (setting s) (packetAfter (withSetting 3 s) image)) endAfter)
 
-abbrev pub severe : Machine
-severe =
+-- a packet answered n drops the group of its address
+abbrev dropsAt : ℕ → Machine
+dropsAt n =
     but ourAnswer
     (leaving startAfter followed left
     (λ image s. let k = find s (addressOf image) in
-    cond (eqb (packetAnswer s image) 49) (withSlot k (slotDropped (slotAt k s)) s) (packetAfter s image))
+    cond (eqb (packetAnswer s image) n) (withSlot k (slotDropped (slotAt k s)) s) (packetAfter s image))
     endAfter)
+
+abbrev pub severe : Machine
+severe = dropsAt 49
 
 abbrev pub forgetful : Machine
 forgetful = but ourAnswer (leaving startAfter followed (λ a s. done (leaveAnswer s a) (withSetting 3 (leaveAfter s a)) s) arrived endAfter)
@@ -220,6 +227,36 @@ harsh = but ourAnswer (leaving (λ s. done (startAnswer s) (withSetting 0 (start
 abbrev pub stubborn : Machine
 stubborn = but ourAnswer (byCall startAfter followed left arrived endAfter (λ most s. s) (λ q s. s))
 
+-- ---- control packets, and type C7
+
+abbrev pub startled : Machine
+startled = dropsAt 29
+
+abbrev pub indulgent : Machine
+indulgent = but ourAnswer (leaving startAfter followed left (λ image s. cond (eqb (packetAnswer s image) 47) s (packetAfter s image)) endAfter)
+
+-- ---- what a packet's answer carries
+
+abbrev telling : (List ℕ → List ℕ → Details) → Machine
+telling details =
+    record {
+      answer = ourAnswer;
+      after = ourAfter;
+      details = details;
+      shown = ours .shown;
+      board = ours .board;
+      writes = ours .writes;
+      written = ours .written;
+      bare = ours .bare;
+      values = ours .values;
+    }
+
+abbrev pub swapping : Machine
+swapping = telling (λ image s. record { detail = ourDetails image s .came; came = ourDetails image s .detail })
+
+abbrev pub lingering : Machine
+lingering = telling (λ image s. record { detail = headOf (slotOf s (addressOf image)) .awaited; came = indexOf image })
+
 -- ---- the bare calls, and the writer
 
 abbrev pub mute : Machine
@@ -227,6 +264,7 @@ mute =
     record {
       answer = ourAnswer;
       after = ourAfter;
+      details = ours .details;
       shown = ours .shown;
       board = ours .board;
       writes = ours .writes;
@@ -250,6 +288,7 @@ timid =
     record {
       answer = ourAnswer;
       after = ourAfter;
+      details = ours .details;
       shown = ours .shown;
       board = ours .board;
       writes = ours .writes;
@@ -263,6 +302,7 @@ sparing =
     record {
       answer = ourAnswer;
       after = ourAfter;
+      details = ours .details;
       shown = ours .shown;
       board = ours .board;
       writes = ours .writes;

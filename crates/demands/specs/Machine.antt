@@ -7,8 +7,9 @@
 --   Bare            a bare call, numbers in and numbers out
 --   bareNumber, bareValues     what a bare call gives by the definitions of the standard
 --   Board           what board text gives: number, text, and what was lent, afterwards
---   Machine         answer and state after each call; the part that ask shows of an address; board text; the group writer; the bare
---                   calls
+--   Details         what the packet call tells beside its number
+--   Machine         answer and state after each call; what a packet's answer carries; the part that ask shows of an address; board text;
+--                   the group writer; the bare calls
 --   questionAnswer  what a call that only reads answers, by the same definitions as ours
 --   ours            the definitions that the contracts of the crates table, asking and adapter cite
 --   Bytes s         a list of bytes
@@ -21,7 +22,7 @@ use Rattle.plain.specs.Plain.{headerPlain}
 use Rattle.head.specs.declared.Wish.{Wish}
 use Rattle.table.specs.Calls.{startAnswer, startAfter, followAnswer, followAfter, leaveAnswer, leaveAfter, endAnswer, endAfter, setAnswer, setAfter}
 use Rattle.asking.specs.Asking.{asked, askPart, boardText}
-use Rattle.adapter.specs.Calls.{packetAnswer, packetAfter, writeAnswer, writeAfter}
+use Rattle.adapter.specs.Calls.{packetAnswered, packetAnswer, packetAfter, writeAnswer, writeAfter}
 
 -- by the address
 pub data Question : Type 0 where
@@ -63,9 +64,16 @@ pub record Board : Type 0 where
   pub state : List ℕ
   pub notice : List ℕ
 
+-- document 02, Ask 6: with 32 the index awaited and the index that came; with 31 the word's place
+pub record Details : Type 0 where
+  pub detail : ℕ
+  pub came : ℕ
+
 pub record Machine : Type 0 where
   pub answer : Call → List ℕ → ℕ
   pub after : Call → List ℕ → List ℕ
+  -- image, state
+  pub details : List ℕ → List ℕ → Details
   pub shown : ℕ → List ℕ → List ℕ
   -- address, notice, state
   pub board : ℕ → List ℕ → List ℕ → Board
@@ -122,10 +130,14 @@ bareValues (writeType b) = typeWritten b .value ∷ []
 unfoldable pub ourBoard : ℕ → List ℕ → List ℕ → Board
 ourBoard a notice s = record { number = asked s a .number; text = boardText s a notice; state = s; notice = notice }
 
+unfoldable pub ourDetails : List ℕ → List ℕ → Details
+ourDetails image s = record { detail = packetAnswered s image .detail; came = packetAnswered s image .came }
+
 abbrev pub ours : Machine
 ours = record {
   answer = ourAnswer;
   after = ourAfter;
+  details = ourDetails;
   shown = λ a s. askPart s a;
   board = ourBoard;
   writes = λ a p m o. writeAnswer a p (length m) (length o);

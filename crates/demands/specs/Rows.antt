@@ -1,4 +1,4 @@
--- Document 01, section 6, with document 02's Ask 7: the rows of each call in its order, with their numbers written out. "A call is refused exactly when a
+-- Document 01, section 6, with document 02's Asks 6 and 7: the rows of each call in its order, with their numbers written out. "A call is refused exactly when a
 -- row in its order holds, and with the first such; otherwise it is accepted": then its answer is one of the call's own numbers.
 --
 -- The numbers and the order stand here once more, beside those that the contracts cite, so that no row can change with the code unseen.
@@ -54,12 +54,13 @@ addressRows a absent = row (not (within 1 1022 a)) 22 ∷ row absent 27 ∷ []
 abbrev pub indexOf : List ℕ → ℕ
 indexOf image = headerRead (headerOf image) .index
 
--- 28 "type unreadable", 29 "type 3F or C7", 30 "type F8", 31 "a protected word can't be read", 32 "out of step": at the slot of the
--- packet's address
+-- 28 "type unreadable", 29 "the control type 3F", 47 "for type C7, directly after 29", 30 "type F8", 31 "a protected word can't be
+-- read", 32 "out of step": at the slot of the packet's address
 abbrev pub slotRows : Head → List ℕ → List Row
 slotRows h image =
     row (leb 256 (typeOf image)) 28
-    ∷ row (eqb (typeOf image) 0x3F || eqb (typeOf image) 0xC7) 29
+    ∷ row (eqb (typeOf image) 0x3F) 29
+    ∷ row (eqb (typeOf image) 0xC7) 47
     ∷ row (eqb (typeOf image) 0xF8) 30
     ∷ row (unreadable (eqb (h .wish .protection) 1) (usefulOf image)) 31
     ∷ row (not (eqb (indexOf image) 0) && not (eqb (indexOf image) (h .awaited))) 32

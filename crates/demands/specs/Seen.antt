@@ -2,7 +2,7 @@
 -- here looks at a machine's answers. A call that only reads is no event.
 --
 --   arrivesAt a k image   the image has 94 bytes, its spare bit is 0, and it is read as the address with no more flips than the setting k
---   eventOf p image       what it is there: a readable data packet, or refused with 28 to 31
+--   eventOf p image       what it is there: a readable data packet, or refused with 28, 29, 47, 30 or 31
 --   eventsOf a p k h      the events that a list of calls means at the address, from a setting on: those images, and the subframe ends
 --   seenIn x              the address that a slot's bytes follow: its head, the bytes of the packets it holds, the group it shows
 --   marksOf h             the transcript that a slot's marks stand for: group and age, gap, awaited index; marksBy: by these

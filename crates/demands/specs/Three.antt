@@ -21,7 +21,7 @@ use Rattle.history.specs.Missing.{Judged}
 use Rattle.adapter.specs.Calls.{addressOf}
 use Rattle.demands.specs.Machine.{ask, Call, start, follow, leave, packet, subframeEnd, setFlips, asks, Machine, run}
 use Rattle.demands.specs.Seen.{arrivesAt}
-use Rattle.demands.specs.Demand3.{Carries, Happening, arrives, call, calls, Arrived, arrivals, handedOut}
+use Rattle.demands.specs.Demand3.{Carries, Happening, arrives, control, call, calls, ComesControl, Arrived, arrivals, handedOut}
 
 abbrev pub Lost : List ℕ → Type 0
 Lost image = (length image ≡ 94 → ⊥) ⊎ (spareOf image ≡ 1)
@@ -43,6 +43,7 @@ pub record Comes (p : Bool) (a : ℕ) (sent : Sent) (n i c : ℕ) (image : List 
 unfoldable pub Channel : Bool → ℕ → Sent → ℕ → List Happening → Type 0
 Channel p a sent n [] = Unit {0}
 Channel p a sent n (arrives i c image ∷ h) = Comes p a sent n i c image × Channel p a sent (suc (4 * i + c)) h
+Channel p a sent n (control image ∷ h) = ComesControl a 3 image × Channel p a sent n h
 Channel p a sent n (call x ∷ h) = Apart a x × Channel p a sent n h
 
 pub record AtThree (m : Machine) : Type 0 where

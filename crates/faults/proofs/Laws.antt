@@ -1,8 +1,8 @@
 -- Laws of the list of faults.
 --
---   numbers            their numbers in order
---   all-drop           each of them drops: a line here changes where a later request makes one that does not
---   number-drops       so the number of a fault is one that drops; numbered-drops, unreadable-drops: and any number of the list
+--   numbers, dropping     their numbers in order; those of them that drop
+--   drops-or-control      each of them drops, but for a control packet: a line here changes where a later request adds another
+--   number-drops          the number of a fault drops exactly if the fault does
 --   unreadable-not-zero   no number of the list is 0
 --   fault-number       the fault of a number has the number, and drops exactly if the number does
 --   no-whole, no-part  the number of a fault is not 3, nor 1 or 2
@@ -10,8 +10,8 @@
 --   by-tests           the tests as the code makes them
 --
 -- Assumes nothing.
-use mathlib.Core.Path.{_≡_, refl, sym, ap, subst}
-use mathlib.Core.Bool.{Bool, true, false, _&&_, _||_}
+use mathlib.Core.Path.{_≡_, refl, sym, subst}
+use mathlib.Core.Bool.{Bool, true, false, cond, _&&_, _||_}
 use mathlib.Core.List.{List, [], _∷_, map}
 use mathlib.Core.Logic.{_⊎_, inl, inr}
 use Prim.Native.Nat.{ℕ}
@@ -19,18 +19,26 @@ use native.Mathlib.Omega.{arith}
 use lib.Dec.{eqb}
 use Rattle.faults.specs.Faults.{Fault, typeUnreadable, typeControl, typeReserved, typeScrambled, wordUnreadable, outOfStep, number, drops, unreadables, faults, Numbered, faultOf, numberDrops}
 
-pub numbers : map number faults ≡ (28 ∷ 29 ∷ 29 ∷ 30 ∷ 31 ∷ 32 ∷ [])
+pub numbers : map number faults ≡ (28 ∷ 29 ∷ 47 ∷ 30 ∷ 31 ∷ 32 ∷ [])
 numbers = refl
 
-pub all-drop : (f : Fault) → drops f ≡ true
-all-drop typeUnreadable = refl
-all-drop typeControl = refl
-all-drop typeReserved = refl
-all-drop typeScrambled = refl
-all-drop wordUnreadable = refl
-all-drop outOfStep = refl
+abbrev those : List Fault → List ℕ
+those [] = []
+those (f ∷ fs) = cond (drops f) (number f ∷ those fs) (those fs)
 
-pub number-drops : (f : Fault) → numberDrops (number f) ≡ true
+-- named one by one
+pub dropping : those faults ≡ (28 ∷ 47 ∷ 30 ∷ 31 ∷ 32 ∷ [])
+dropping = refl
+
+pub drops-or-control : (f : Fault) → (drops f ≡ true) ⊎ (f ≡ typeControl)
+drops-or-control typeUnreadable = inl refl
+drops-or-control typeControl = inr refl
+drops-or-control typeReserved = inl refl
+drops-or-control typeScrambled = inl refl
+drops-or-control wordUnreadable = inl refl
+drops-or-control outOfStep = inl refl
+
+pub number-drops : (f : Fault) → numberDrops (number f) ≡ drops f
 unfolding numberDrops
 number-drops typeUnreadable = refl
 number-drops typeControl = refl
@@ -38,25 +46,6 @@ number-drops typeReserved = refl
 number-drops typeScrambled = refl
 number-drops wordUnreadable = refl
 number-drops outOfStep = refl
-
-pub numbered-drops : (n : ℕ) → Numbered faults n → numberDrops n ≡ true
-unfolding numberDrops
-numbered-drops n (inl e) = ap numberDrops e
-numbered-drops n (inr (inl e)) = ap numberDrops e
-numbered-drops n (inr (inr (inl e))) = ap numberDrops e
-numbered-drops n (inr (inr (inr (inl e)))) = ap numberDrops e
-numbered-drops n (inr (inr (inr (inr (inl e))))) = ap numberDrops e
-numbered-drops n (inr (inr (inr (inr (inr (inl e)))))) = ap numberDrops e
-numbered-drops n (inr (inr (inr (inr (inr (inr x)))))) = absurd x
-
-pub unreadable-drops : (n : ℕ) → Numbered unreadables n → numberDrops n ≡ true
-unfolding numberDrops
-unreadable-drops n (inl e) = ap numberDrops e
-unreadable-drops n (inr (inl e)) = ap numberDrops e
-unreadable-drops n (inr (inr (inl e))) = ap numberDrops e
-unreadable-drops n (inr (inr (inr (inl e)))) = ap numberDrops e
-unreadable-drops n (inr (inr (inr (inr (inl e))))) = ap numberDrops e
-unreadable-drops n (inr (inr (inr (inr (inr x))))) = absurd x
 
 pub unreadable-not-zero : (n : ℕ) → Numbered unreadables n → n ≡ 0 → ⊥
 unreadable-not-zero n (inl e) z = omega (arith, e, z)
@@ -97,15 +86,20 @@ no-part wordUnreadable = refl
 no-part outOfStep = refl
 
 -- 0, the answers to a packet that is taken, and the refusals before its address is found
-pub others-stay : map numberDrops (0 ∷ 1 ∷ 2 ∷ 3 ∷ 20 ∷ 21 ∷ 27 ∷ 34 ∷ []) ≡ (false ∷ false ∷ false ∷ false ∷ false ∷ false ∷ false ∷ false ∷ [])
+pub others-stay : map numberDrops (0 ∷ 1 ∷ 2 ∷ 3 ∷ 20 ∷ 21 ∷ 27 ∷ 34 ∷ 49 ∷ [])
+    ≡ (false ∷ false ∷ false ∷ false ∷ false ∷ false ∷ false ∷ false ∷ false ∷ [])
 unfolding numberDrops
 others-stay = refl
 
 pub by-tests : (a b c d e f : Bool)
-    → ((a || (b || (c || d))) || (e || f))
-    ≡ ((a && true) || ((b && true) || ((c && true) || ((d && true) || ((e && true) || ((f && true) || false))))))
+    → ((a || (c || d)) || (e || f))
+    ≡ ((a && true) || ((b && false) || ((c && true) || ((d && true) || ((e && true) || ((f && true) || false))))))
 by-tests true b c d e f = refl
-by-tests false true c d e f = refl
+by-tests false true true d e f = refl
+by-tests false true false true e f = refl
+by-tests false true false false true f = refl
+by-tests false true false false false true = refl
+by-tests false true false false false false = refl
 by-tests false false true d e f = refl
 by-tests false false false true e f = refl
 by-tests false false false false true f = refl

@@ -1,9 +1,10 @@
--- What may be wrong with a packet whose address is found among those followed (document 01, section 6): one list, with the number of
--- each, in the order in which it is looked for, and whether it drops the unfinished group.
+-- Why a packet whose address is found among those followed is refused (document 01, section 6; document 02, Ask 6): one list, with
+-- the number of each, in the order in which it is looked for, and whether it drops the unfinished group.
 --
---   Fault            section 6's rows 28 to 32; 29 is two types
+--   Fault            section 6's rows 28 to 32, with 47 "for type C7, directly after 29"
 --   number           what is answered
---   drops            "Refusals 28 to 32 clear the slot's unfinished group, mark its gap and make it await 0."
+--   drops            28, 47, 30, 31 and 32 "clear the slot's unfinished group, mark its gap and make it await 0"; "a control packet no
+--                    longer drops a group or marks a gap"
 --   unreadables      those that are seen in the packet itself, in their order; outOfStep comes behind them and needs the slot
 --   faults           all of them
 --   rowsBy p fs      the rows of some faults, where p says which are there
@@ -18,7 +19,7 @@ use Prim.Native.Nat.{ℕ}
 use lib.Dec.{eqb}
 use Rattle.bits.specs.Rows.{Row, row}
 
--- "type unreadable", "type 3F or C7", "type F8", "a protected word can't be read", "out of step"
+-- "type unreadable", "the control type 3F", "type C7", "type F8", "a protected word can't be read", "out of step"
 pub data Fault : Type 0 where
   typeUnreadable : Fault
   typeControl : Fault
@@ -30,14 +31,14 @@ pub data Fault : Type 0 where
 abbrev pub number : Fault → ℕ
 number typeUnreadable = 28
 number typeControl = 29
-number typeReserved = 29
+number typeReserved = 47
 number typeScrambled = 30
 number wordUnreadable = 31
 number outOfStep = 32
 
 abbrev pub drops : Fault → Bool
 drops typeUnreadable = true
-drops typeControl = true
+drops typeControl = false
 drops typeReserved = true
 drops typeScrambled = true
 drops wordUnreadable = true

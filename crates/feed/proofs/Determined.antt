@@ -5,9 +5,10 @@
 --   read-header-same .. write-type-same     the bare calls
 --   received-same                           feed_received, with the room for the bytes
 --   start-same .. write-group-same          the calls on a state, and the group writer
+--   packet-without                          feed_packet_detail is feed_packet with the details beside it
 --
 -- Assumes nothing.
-use mathlib.Core.Path.{_≡_, ap, _∙_}
+use mathlib.Core.Path.{_≡_, sym, ap, _∙_}
 use mathlib.Core.List.{List}
 use Prim.Native.Nat.{ℕ}
 use lib.ListN.{length}
@@ -22,8 +23,9 @@ use Rattle.table.specs.Calls.{startAnswer, startAfter, followAnswer, followAfte
 use Rattle.table.proofs.Determined as table
 use Rattle.table.proofs.Determined.{Same}
 use Rattle.asking.specs.Asking.{asked}
-use Rattle.adapter.specs.Calls.{packetAnswer, packetAfter, writeAnswer, writeAfter}
+use Rattle.adapter.specs.Calls.{packetAnswered, packetAnswer, packetAfter, writeAnswer, writeAfter}
 use Rattle.adapter.proofs.Determined as adapter
+use Rattle.adapter.proofs.Laws.{packet-number}
 use Rattle.feed.specs.Board.{boardFrom, boardAt, boardLength}
 use Rattle.feed.specs.Fed.{values, fed}
 
@@ -117,6 +119,19 @@ set-same = table.set-same
 
 pub packet-same : (s image : List ℕ) → Same (packetAnswer s image) (packetAfter s image)
 packet-same = adapter.packet-same
+
+-- the same with what the number carries: number, the two values, and the state
+pub packet-detail-same : (s image : List ℕ) (r x v q y w : ℕ) (t u : List ℕ) → r ≡ packetAnswered s image .number → t ≡ packetAfter s image
+    → x ≡ packetAnswered s image .detail → v ≡ packetAnswered s image .came → q ≡ packetAnswered s image .number → u ≡ packetAfter s image
+    → y ≡ packetAnswered s image .detail → w ≡ packetAnswered s image .came → ((r ≡ q) × ((x ≡ y) × (v ≡ w))) × (t ≡ u)
+packet-detail-same s image r x v q y w t u ra tb xb vc qa ub yb wc =
+    let a = packetAnswered s image in
+    (three (a .number) (a .detail) (a .came) r x v q y w ra xb vc qa yb wc, determined tb ub)
+
+-- one call is the other without the details: what `feed_packet_detail` may answer and leave is what `feed_packet` may
+pub packet-without : (s image : List ℕ) (r : ℕ) (t : List ℕ) → r ≡ packetAnswered s image .number → t ≡ packetAfter s image
+    → (r ≡ packetAnswer s image) × (t ≡ packetAfter s image)
+packet-without s image r t e f = (e ∙ sym (packet-number s image), f)
 
 pub subframe-end-same : (s : List ℕ) → Same (endAnswer s) (endAfter s)
 subframe-end-same = table.end-same

@@ -4,7 +4,7 @@ ghost use lib.ListN.{length};
 ghost use Rattle.head.specs.Head.{wishOf};
 ghost use Rattle.table.specs.Calls.{startAnswer, startAfter, followAnswer, followAfter, leaveAnswer, leaveAfter, endAnswer, endAfter, setAnswer, setAfter};
 ghost use Rattle.asking.specs.Asking.{asked};
-ghost use Rattle.adapter.specs.Calls.{packetAnswer, packetAfter, writeAnswer, writeAfter};
+ghost use Rattle.adapter.specs.Calls.{packetAnswered, packetAnswer, packetAfter, writeAnswer, writeAfter};
 ghost use Rattle.feed.specs.Board.{boardFrom, boardAt, boardLength};
 use head::Wish;
 
@@ -35,13 +35,33 @@ pub extern "C" fn feed_leave(state: &mut [u8], address: u32) -> u8
     table::leave(state, address)
 }
 
-// 20, 34, 21, 49, 27, 28, 29, 30, 31, 32; otherwise 1, 2 or 3.
+// 20, 34, 21, 49, 27, 28, 29, 47, 30, 31, 32; otherwise 1, 2 or 3.
 #[no_mangle]
 pub extern "C" fn feed_packet(state: &mut [u8], image: &[u8]) -> u8
     ensures { λ r. ⌜ r ≡ packetAnswer (now (state .entry)) (now (image .entry)) ⌝ }
     ensures { λ _. ⌜ now (state .exit) ≡ packetAfter (now (state .entry)) (now (image .entry)) ⌝ }
 {
     adapter::packet(state, image)
+}
+
+// The same with what the number carries: with 32 the index that was awaited and the one that came, with 31 the place of the first
+// word that cannot be read; 0 otherwise.
+#[no_mangle]
+pub extern "C" fn feed_packet_detail(
+    state: &mut [u8],
+    image: &[u8],
+    awaited_or_place: &mut u8,
+    came: &mut u8,
+) -> u8
+    ensures { λ r. ⌜ r ≡ packetAnswered (now (state .entry)) (now (image .entry)) .number ⌝ }
+    ensures { λ _. ⌜ now (state .exit) ≡ packetAfter (now (state .entry)) (now (image .entry)) ⌝ }
+    ensures { λ _. ⌜ now («awaited_or_place» .exit) ≡ packetAnswered (now (state .entry)) (now (image .entry)) .detail ⌝ }
+    ensures { λ _. ⌜ now (came .exit) ≡ packetAnswered (now (state .entry)) (now (image .entry)) .came ⌝ }
+{
+    let answer = adapter::answered(state, image);
+    *awaited_or_place = answer.detail;
+    *came = answer.came;
+    answer.number
 }
 
 // 20, 34, 48. From now on the header of a packet may have so many flips.

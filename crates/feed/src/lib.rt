@@ -129,7 +129,7 @@ pub extern "C" fn feed_write_type(byte: u8, value: &mut u8) -> u8
 }
 
 // 20: the room for the bytes is not 90 long; 23: protection neither 0, plain, nor 1, protected. Nothing is changed then.
-// Otherwise as the packet is received: 20, 28, 29, 30, 31.
+// Otherwise as the packet is received: 20, 28, 29, 47, 30, 31.
 #[no_mangle]
 pub extern "C" fn feed_received(
     protection: u8,

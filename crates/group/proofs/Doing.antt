@@ -219,8 +219,8 @@ module _ (r : Reading) (h : Head) (s : List ℕ) (e : h ≡ headOf s) where
 pub taken-told : (r : Reading) (h : Head) (n : ℕ) (x : Answer) → n ≡ takenNumber r h → x ≡ answerOf n (r .place) (h .awaited) (r .index) → x ≡ taken r h
 taken-told r h n x en ex = ex ∙ ap (λ (m : ℕ). answerOf m (r .place) (h .awaited) (r .index)) en
 
--- a refusal that drops
-pub taken-dropped : (r : Reading) (s : List ℕ) → (r .number ≡ 0 → ⊥) → numberDrops (r .number) ≡ true → takenAfter r s ≡ slotDropped s
+-- a refusal that drops, or leaves the slot
+pub taken-by : (r : Reading) (s : List ℕ) (d : Bool) → (r .number ≡ 0 → ⊥) → numberDrops (r .number) ≡ d → takenAfter r s ≡ cond d (slotDropped s) s
 unfolding takenAfter refusedAfter
-taken-dropped r s ne e =
+taken-by r s d ne e =
     done-refused (r .number) _ (refusedAfter (r .number) s) ne ∙ ap (λ (b : Bool). cond b (slotDropped s) s) e

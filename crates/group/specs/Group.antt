@@ -1,4 +1,4 @@
--- One packet at the slot of its address (document 01, sections 4 and 6): what the slot answers to a reading, and its bytes
+-- One packet at the slot of its address (document 01, sections 4 and 6; document 02, Ask 6): what the slot answers to a reading, and its bytes
 -- after. The byte places are the slot's; the rows are section 4's.
 --
 --   blockOf h            how many bytes a packet brings: 90 plain, 45 protected
@@ -7,10 +7,10 @@
 --   slotJoined c b s     the packet put into the slot's unfinished room
 --   roomsKept n s        the first n bytes of that room become the last whole group, and the room is cleared
 --   roomsMoved mv c b s  both rooms after a row of the table, c the packet's place in its group; slotMoved: with the head
---   slotDropped s        "Refusals 28 to 32 clear the slot's unfinished group, mark its gap and make it await 0."
+--   slotDropped s        28, 47, 30, 31 and 32 "clear the slot's unfinished group, mark its gap and make it await 0"
 --   refusedAfter n s     the slot after a refusal with number n
 --   takenNumber r h      the number that answers reading r where the head is h
---   answerOf n p a c     the answer with number n, place p, and the indices a awaited and c come, told only with 32
+--   answerOf n p a c     the answer with number n: with 32 the indices a awaited and c come, otherwise the place p
 --   taken r h            the answer to reading r where the head is h
 --   takenAfter r s       the slot after it
 use mathlib.Core.Bool.{cond}
@@ -68,12 +68,12 @@ takenNumber r h = further (r .number) (moveNumber (rowAt h (r .index)))
 abbrev pub answerOf : ℕ → ℕ → ℕ → ℕ → Answer
 answerOf n place awaited came = record {
   number = n;
-  place = place;
-  awaited = cond (eqb n (faults.number faults.outOfStep)) awaited 0;
+  detail = cond (eqb n (faults.number faults.outOfStep)) awaited place;
   came = cond (eqb n (faults.number faults.outOfStep)) came 0;
 }
 
--- a reading has a place with 31 only; the index awaited is that of the head before
+-- "32 carries the index awaited and the index that came; 31 carries the word's place, 0 to 29, the first that failed." A reading has a
+-- place with 31 only; the index awaited is that of the head before
 abbrev pub taken : Reading → Head → Answer
 taken r h = answerOf (takenNumber r h) (r .place) (h .awaited) (r .index)
 

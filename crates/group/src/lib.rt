@@ -27,12 +27,11 @@ impl Group {
     pub const IMAGES: usize = Self::PACKETS * Packet::IMAGE;
 }
 
-// What a packet is answered: its number, and what some numbers carry. With 31 the place of the first word that cannot be
-// read; with 32 the index that was awaited and the one that came. What a number does not carry is 0.
+// What a packet is answered: its number, and what it carries. With 32 the detail is the index that was awaited, beside the one that
+// came; with 31 it is the place of the first word that cannot be read. What a number does not carry is 0.
 pub struct Answer {
     pub number: u8,
-    pub place: u8,
-    pub awaited: u8,
+    pub detail: u8,
     pub came: u8,
 }
 
@@ -63,22 +62,20 @@ pub fn taken(slot: &mut [u8], head: Head, index: u8, bytes: &[u8]) -> Answer
     told(number, 0, head.awaited, index)
 }
 
-// The two indices are told only where they are why the packet was refused.
+// The two indices are told only where they are why the packet was refused; otherwise the place, which only 31 has.
 fn told(number: u8, place: u8, awaited: u8, came: u8) -> Answer
     ensures { λ r. ⌜ r ≡ answerOf number place awaited came ⌝ }
 {
     if number == Faults::OUT_OF_STEP {
         return Answer {
             number,
-            place,
-            awaited,
+            detail: awaited,
             came,
         };
     }
     Answer {
         number,
-        place,
-        awaited: 0,
+        detail: place,
         came: 0,
     }
 }
@@ -133,7 +130,7 @@ fn whole(slot: &mut [u8], head: Head, len: usize)
     Slot::store(head.whole(), slot);
 }
 
-// 28 to 32: the unfinished group is dropped.
+// 28, 47, 30, 31, 32: the unfinished group is dropped.
 fn dropped(slot: &mut [u8], head: Head)
     requires { ⌜ length (now slot) ≡ slotSize ⌝ }
     requires { ⌜ head ≡ headOf (now slot) ⌝ }

@@ -60,7 +60,7 @@ heldHead h = record { wish = h .wish; age = h .age; awaited = h .awaited + 1; gr
 abbrev pub wholeHead : Head → Head
 wholeHead h = record { wish = h .wish; age = 0; awaited = 0; group = 1; gap = 0 }
 
--- "other, 1 to 3: 32: unfinished group cleared, gap marked, awaits 0"; likewise refusals 28 to 31
+-- "other, 1 to 3: 32: unfinished group cleared, gap marked, awaits 0"; likewise refusals 28, 47, 30 and 31
 abbrev pub droppedHead : Head → Head
 droppedHead h = record { wish = h .wish; age = h .age; awaited = 0; group = h .group; gap = 1 }
 

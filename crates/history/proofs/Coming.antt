@@ -18,9 +18,9 @@ use Rattle.head.specs.declared.Head.{Head}
 use Rattle.head.proofs.Moves.{Row, move-row}
 use Rattle.faults.specs.Faults.{Fault}
 use Rattle.history.specs.Followed.{Followed, moved, dropped, aged, after, run}
-use Rattle.history.specs.Sent.{Sent, Arrival, came, damaged, subframeEnd, event, events, InOrder, CameIn}
+use Rattle.history.specs.Sent.{Sent, Arrival, came, damaged, control, subframeEnd, event, events, InOrder, CameIn}
 use Rattle.history.proofs.Laws.{after-refused}
-use Rattle.history.proofs.Full.{damaged-other, end-other, came-later}
+use Rattle.history.proofs.Full.{damaged-other, control-other, end-other, came-later}
 
 pub came-right : (i c : ℕ) (b h : List Arrival) → CameIn i c h → CameIn i c (b ++ h)
 unfolding CameIn
@@ -103,15 +103,15 @@ module _ (per i : ℕ) (h : List Arrival) (n c a : ℕ) where
       go : (damaged j d r ≡ came i c) ⊎ CameIn i c h → Coming per i h (suc (per * j + d)) c 0
       go (inl e) = absurd (damaged-other j d r i c e)
       go (inr y) =
-          coming-past (damaged j d r) (per * j + d) 0 (s .order .0 .once) (s .order .1) (λ k e. absurd (damaged-other j d r i k e)) y s
+          coming-past (damaged j d r) (per * j + d) 0 (s .order .0 .once) (s .order .2) (λ k e. absurd (damaged-other j d r i k e)) y s
 
-  coming-end : Coming per i (subframeEnd ∷ h) n c a → Coming per i h n c a
-  unfolding InOrder
-  coming-end s = record {
-    order = s .order;
+  -- an arrival that is no packet of a group
+  coming-none : (x : Arrival) → ((j d : ℕ) → x ≡ came j d → ⊥) → InOrder per (per - 1) n h → Coming per i (x ∷ h) n c a → Coming per i h n c a
+  coming-none x other o s = record {
+    order = o;
     most = s .most;
     awaits = s .awaits;
-    from = from-past per i c c subframeEnd h (λ d l. end-other i d) (omega arith) (s .from);
+    from = from-past per i c c x h (λ d l. other i d) (omega arith) (s .from);
   }
 
 pub awaits-last : (sent : Sent) (i : ℕ) (b l : List Arrival) (n c : ℕ) (f : Followed) → f .needs ≡ f .per → 1 < f .per
@@ -137,9 +137,13 @@ awaits-last sent i (came j d ∷ b) l n c f all wide s =
     awaits-last sent i b l (suc (per * j + d)) e (moved mv (d % per) (sent j d) f) all wide t
 awaits-last sent i (damaged j d r ∷ b) l n c f all wide s =
     let per = f .per in
-    subst (λ (g : Followed). (run (events sent b) g .head .awaited ≡ per - 1) × InOrder per (per - 1) (suc (per * i + (per - 1))) l) (after-refused r f)
+    subst (λ (g : Followed). (run (events sent b) g .head .awaited ≡ per - 1) × InOrder per (per - 1) (suc (per * i + (per - 1))) l)
+    (after-refused r f (s .order .1))
     (awaits-last sent i b l (suc (per * j + d)) c (dropped f) all wide
     (coming-damaged per i (b ++ (came i (per - 1) ∷ l)) n c (f .head .awaited) j d r s))
+awaits-last sent i (control ∷ b) l n c f all wide s =
+    awaits-last sent i b l n c f all wide
+    (coming-none (f .per) i (b ++ (came i (f .per - 1) ∷ l)) n c (f .head .awaited) control control-other (s .order) s)
 awaits-last sent i (subframeEnd ∷ b) l n c f all wide s =
     awaits-last sent i b l n c (aged f) all wide
-    (coming-end (f .per) i (b ++ (came i (f .per - 1) ∷ l)) n c (f .head .awaited) s)
+    (coming-none (f .per) i (b ++ (came i (f .per - 1) ∷ l)) n c (f .head .awaited) subframeEnd end-other (s .order) s)

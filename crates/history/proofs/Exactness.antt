@@ -7,14 +7,15 @@
 --   exactly-same, exactly-more  no group handed out, one group handed out
 --   same-group                  where the bound is used: the index that is awaited comes, so it is of the group that is held
 --   join, part, begun-is        a packet with place 0, or the one that is awaited: which groups are full, and the bytes held
---   exactly-*                   exactly those, by each row of the table, a refused packet, the end; exactly-from: any slot and history
+--   exactly-*                   exactly those, by each row of the table, a refused packet, an arrival that is no packet of a group, the end;
+--                               exactly-from: any slot and history
 --   exactly                     and so from any slot that holds nothing
 --   exactly-four, exactly-one   groups of four, as follow leaves the slot; groups of one, however many are lost
 --   one-handed                  and there each readable packet is handed out, in whatever order they come
 --
 -- Assumes nothing.
 use mathlib.Core.Path.{_≡_, refl, sym, ap, ap₂, _∙_, subst}
-use mathlib.Core.Bool.{false, cond}
+use mathlib.Core.Bool.{cond}
 use mathlib.Core.List.{List, [], _∷_, _++_}
 use mathlib.Core.Logic.{_⊎_, inl, inr}
 use Prim.Native.Nat.{ℕ, zero, suc, _+_, _-_, _*_, _%_, _≤_, _<_}
@@ -25,11 +26,11 @@ use lib.Dec.{eqb, lit≤}
 use Rattle.head.specs.Move.{Move, started, held, whole, outOfStep, perOf, needsOf, moveOf, moveNumber, movedHead}
 use Rattle.head.proofs.Moves.{Row, move-row, one-whole}
 use Rattle.head.specs.declared.Wish.{Wish}
-use Rattle.faults.proofs.Laws.{all-drop, no-whole}
+use Rattle.faults.proofs.Laws.{no-whole}
 use Rattle.history.specs.Followed.{Followed, begun, joined, lastOf, moved, dropped, aged, after, answer, followed, handedOut}
-use Rattle.history.specs.Sent.{Sent, Arrival, came, damaged, subframeEnd, event, events, Next, InOrder, group, groups, CameIn, Readable, In, Rising, Exactly}
-use Rattle.history.proofs.Laws.{group-le, group-lt}
-use Rattle.history.proofs.Full.{damaged-other, end-other, came-later, readable-later, behind, Full, full-join, full-part, full-lost, full-readable, full-past, full-later, full-done, full-end, full-held, full-none}
+use Rattle.history.specs.Sent.{Sent, Arrival, came, damaged, control, subframeEnd, event, events, Next, InOrder, group, groups, CameIn, Readable, In, Rising, Exactly}
+use Rattle.history.proofs.Laws.{group-le, group-lt, refused-either}
+use Rattle.history.proofs.Full.{damaged-other, control-other, end-other, came-later, readable-later, behind, Full, full-join, full-part, full-lost, full-readable, full-past, full-later, full-done, full-end, full-held, full-none}
 
 -- ---- the slot
 
@@ -217,6 +218,13 @@ exactly-end needs sent a q m = record {
   others = λ i y. absurd y;
 }
 
+-- an arrival that is no packet of a group
+exactly-past : (needs : ℕ) (sent : Sent) (a q : ℕ) (h : List Arrival) (x : Arrival) (out : List (List ℕ)) → ((j d : ℕ) → x ≡ came j d → ⊥)
+    → Exactly needs sent (Full needs a q h) out → Exactly needs sent (Full needs a q (x ∷ h)) out
+exactly-past needs sent a q h x out other =
+    exactly-same needs sent (Full needs a q (x ∷ h)) (Full needs a q h) out (λ j y. full-past needs a q h j x (other j) y)
+    (λ j y. full-later needs a q h j a x (omega arith) y)
+
 pub exactly-from : (sent : Sent) (h : List Arrival) (n q : ℕ) (f : Followed) → InOrder (f .per) (f .per - 1) n h → Holds sent n q f
     → Exactly (f .needs) sent (Full (f .needs) (f .head .awaited) q h) (handedOut (events sent h) f)
 unfolding InOrder handedOut events event after answer dropped aged
@@ -225,19 +233,17 @@ exactly-from sent (came i c ∷ h) n q f (o, os) s =
     let mv = moveOf (f .per) (f .needs) (f .head .awaited) c in
     exactly-packet sent h (λ n q f. exactly-from sent h n q f) n q i c f o os s mv (c % f .per) (mod-eq-of-lt (o .index))
     (move-row (f .per) (f .needs) (f .head .awaited) c (o .index))
-exactly-from sent (damaged i c r ∷ h) n q f (o, os) s =
+exactly-from sent (damaged i c r ∷ h) n q f (o, t, os) s =
     let m = suc (f .per * i + c) in
     let least : 1 ≤ f .needs = omega (arith, s .most) in
-    rw (no-whole r, all-drop r)
+    rw (no-whole r, t)
     (exactly-dropped sent h (λ n q f. exactly-from sent h n q f) n q i c f o os s (damaged i c r)
     (λ l e. damaged-other i c r q (f .head .awaited) e) (λ j d y e. damaged-other i c r j d e) (handedOut (events sent h) (dropped f))
     (exactly-from sent h m q (dropped f) os (holds-none sent m q (dropped f) least (s .fits) refl refl)))
+exactly-from sent (control ∷ h) n q f o s =
+    exactly-past (f .needs) sent (f .head .awaited) q h control (handedOut (events sent h) f) control-other (exactly-from sent h n q f o s)
 exactly-from sent (subframeEnd ∷ h) n q f o s =
-    let m = f .needs in
-    let a = f .head .awaited in
-    exactly-same m sent (Full m a q (subframeEnd ∷ h)) (Full m a q h) (handedOut (events sent h) (aged f))
-    (λ j y. full-past m a q h j subframeEnd (end-other j) y)
-    (λ j y. full-later m a q h j a subframeEnd (omega arith) y)
+    exactly-past (f .needs) sent (f .head .awaited) q h subframeEnd (handedOut (events sent h) (aged f)) end-other
     (exactly-from sent h n q (aged f) o (record { fits = s .fits; most = s .most; next = s .next; bytes = s .bytes }))
 
 -- ---- from a slot that holds nothing
@@ -267,10 +273,12 @@ any-lost most least n (came i c ∷ h) (o, os) = (
   record { index = o .index; once = o .once; lost = λ l. absurd (omega arith) },
   any-lost most least (suc (1 * i + c)) h os,
 )
-any-lost most least n (damaged i c r ∷ h) (o, os) = (
+any-lost most least n (damaged i c r ∷ h) (o, t, os) = (
   record { index = o .index; once = o .once; lost = λ l. absurd (omega arith) },
+  t,
   any-lost most least (suc (1 * i + c)) h os,
 )
+any-lost most least n (control ∷ h) o = any-lost most least n h o
 any-lost most least n (subframeEnd ∷ h) o = any-lost most least n h o
 
 pub exactly-one : (f : Followed) → f .per ≡ 1 → f .needs ≡ 1 → f .head .awaited ≡ 0 → f .unfinished ≡ []
@@ -285,6 +293,7 @@ unfoldable pub arrived : Sent → List Arrival → List (List ℕ)
 arrived sent [] = []
 arrived sent (came i c ∷ h) = sent i c ∷ arrived sent h
 arrived sent (damaged i c r ∷ h) = arrived sent h
+arrived sent (control ∷ h) = arrived sent h
 arrived sent (subframeEnd ∷ h) = arrived sent h
 
 one-packet : (sent : Sent) (h : List Arrival) → ((g : Followed) → g .per ≡ 1 → g .needs ≡ 1 → handedOut (events sent h) g ≡ arrived sent h)
@@ -301,5 +310,8 @@ one-handed sent [] f p m = refl
 one-handed sent (came i c ∷ h) f p m =
     one-packet sent h (λ g. one-handed sent h g) f p m (moveOf (f .per) (f .needs) (f .head .awaited) c) (c % f .per) (sent i c)
     (rw (p, m) (one-whole (f .head .awaited) c)) (rw p (mod-one c))
-one-handed sent (damaged i c r ∷ h) f p m = rw (no-whole r, all-drop r) (one-handed sent h (dropped f) p m)
+one-handed sent (damaged i c r ∷ h) f p m =
+    rw (no-whole r) (refused-either (λ (g : Followed). handedOut (events sent h) g ≡ arrived sent h) r f (one-handed sent h (dropped f) p m)
+    (one-handed sent h f p m))
+one-handed sent (control ∷ h) f p m = one-handed sent h f p m
 one-handed sent (subframeEnd ∷ h) f p m = one-handed sent h (aged f) p m

@@ -3,28 +3,31 @@
 --   Aged age n         the age is the number n of subframes that ended, or both have come to 1500
 --   Tells limit h t    the entries t tell the head h: whether there is a group, whether a gap is marked, whether packets of an
 --                      unfinished group are held, and, where there is a group, its age
---   tells-*            each event keeps that: a packet by any row of its table, a refused one, the end of a subframe
+--   tells-*            each event keeps that: a packet by any row of its table, a refused one, which drops or is a control packet, the
+--                      end of a subframe
 --   tells-shown        where it holds, ask shows what the entries call for
 --   freshness          so it is after any events whatever, from any slot that has no group, no gap marked and nothing held, whatever
 --                      the packets of a group; freshness-four: from follow on
 --
 -- Assumes nothing.
-use mathlib.Core.Path.{_≡_, refl, sym, ap, _∙_}
+use mathlib.Core.Path.{_≡_, refl, sym, ap, _∙_, subst}
 use mathlib.Core.Bool.{Bool, true, false, cond, not, _&&_, _||_}
 use mathlib.Core.List.{List, [], _∷_}
 use mathlib.Core.Logic.{_⊎_, inl, inr}
 use Prim.Native.Nat.{ℕ, suc, _+_, _≤_}
 use native.Mathlib.Omega.{arith}
 use lib.Dec.{leb, ltb, eqb}
-use borrow.Author.Tests.{ltb-true, ltb-false, lt-ltb, le-leb}
+use borrow.Author.Tests.{eqb-true, ltb-true, ltb-false, lt-ltb, le-leb}
+use Rattle.bits.proofs.Search.{clash}
 use Rattle.head.specs.Head.{newHead, droppedHead, agedHead, askNumber}
 use Rattle.head.specs.Move.{Move, started, held, whole, outOfStep, moveOf, moveNumber, movedHead}
 use Rattle.head.specs.declared.Head.{Head}
 use Rattle.head.specs.declared.Wish.{Wish}
-use Rattle.faults.specs.Faults.{Fault, number, numberDrops}
-use Rattle.faults.proofs.Laws.{all-drop, number-drops, no-whole, no-part}
+use Rattle.faults.specs.Faults.{Fault, typeControl, number, drops, numberDrops}
+use Rattle.faults.proofs.Laws.{drops-or-control, number-drops, no-whole, no-part}
 use Rattle.history.specs.Followed.{Followed, Event, packet, refused, ended, moved, dropped, aged, after, answer, followed, run}
 use Rattle.history.specs.Transcript.{Entry, answered, subframe, entry, told, isWhole, anyWhole, sinceWhole, ends, before, marks, marked, called}
+use Rattle.history.proofs.Laws.{after-refused}
 
 abbrev pub Aged : ℕ → ℕ → Type 0
 Aged age n = (age ≡ n) ⊎ ((1500 ≤ age) × (age ≤ n))
@@ -65,14 +68,28 @@ cond-or : (a b : Bool) → cond a 1 (cond b 1 0) ≡ cond {A = ℕ} (a || b) 1 0
 cond-or true b = refl
 cond-or false b = refl
 
+-- a number that drops is not a control packet's
+not-control : (n : ℕ) → numberDrops n ≡ true → eqb n (number typeControl) ≡ false
+unfolding numberDrops
+not-control n d = go (eqb n (number typeControl)) refl
+  where
+    go : (b : Bool) → eqb n (number typeControl) ≡ b → b ≡ false
+    go true e = clash (sym (subst (λ (k : ℕ). numberDrops k ≡ true) (eqb-true n (number typeControl) e) d))
+    go false e = refl
+
 module _ (limit : ℕ) (h : Head) (t : List Entry) (s : Tells limit h t) where
+  -- a control packet is passed over
+  tells-control : Tells limit h (answered (number typeControl) ∷ t)
+  unfolding anyWhole isWhole sinceWhole marked marks numberDrops before ends
+  tells-control = record { limited = s .limited; grouped = s .grouped; gapped = s .gapped; awaits = s .awaits; age = s .age }
+
   tells-dropped : (n : ℕ) → eqb n 3 ≡ false → (eqb n 1 || eqb n 2) ≡ false → numberDrops n ≡ true → Tells limit (droppedHead h) (answered n ∷ t)
   unfolding anyWhole isWhole sinceWhole marked marks before ends
   tells-dropped n e u d = record {
     limited = s .limited;
     grouped = rw e (s .grouped);
     gapped = rw (e, d);
-    awaits = rw (e, u);
+    awaits = rw (e, not-control n d, u);
     age = rw e (s .age);
   }
 
@@ -95,9 +112,6 @@ module _ (limit : ℕ) (h : Head) (t : List Entry) (s : Tells limit h t) where
   tells-moved whole = record { limited = s .limited; grouped = refl; gapped = refl; awaits = refl; age = λ e. inl refl }
   tells-moved outOfStep = tells-dropped 32 refl refl refl
 
-  tells-refused : (r : Fault) → Tells limit (droppedHead h) (answered (number r) ∷ t)
-  tells-refused r = tells-dropped (number r) (no-whole r) (no-part r) (number-drops r)
-
   tells-aged : Tells limit (agedHead h) (subframe ∷ t)
   unfolding anyWhole isWhole sinceWhole marked marks before ends
   tells-aged = record {
@@ -119,11 +133,20 @@ module _ (limit : ℕ) (h : Head) (t : List Entry) (s : Tells limit h t) where
       go true true e = ap (λ (b : Bool). cond b 7 6) (aged-limit limit (h .age) (ends (sinceWhole t)) k (s .age e))
       go true false e = ap (λ (b : Bool). cond b 7 5) (aged-limit limit (h .age) (ends (sinceWhole t)) k (s .age e))
 
+tells-refused : (limit : ℕ) (f : Followed) (t : List Entry) → Tells limit (f .head) t → (r : Fault) → (drops r ≡ true) ⊎ (r ≡ typeControl)
+    → Tells limit (after (refused r) f .head) (answered (number r) ∷ t)
+unfolding after dropped
+tells-refused limit f t s r (inl e) =
+    subst (λ (g : Followed). Tells limit (g .head) (answered (number r) ∷ t)) (after-refused r f e)
+    (tells-dropped limit (f .head) t s (number r) (no-whole r) (no-part r) (number-drops r ∙ e))
+tells-refused limit f t s r (inr e) =
+    subst (λ (x : Fault). Tells limit (after (refused x) f .head) (answered (number x) ∷ t)) (sym e) (tells-control limit (f .head) t s)
+
 tells-after : (limit : ℕ) (f : Followed) (t : List Entry) → Tells limit (f .head) t
     → (e : Event) → Tells limit (after e f .head) (entry e f ∷ t)
 unfolding after entry answer moved dropped aged
 tells-after limit f t s (packet c bytes) = tells-moved limit (f .head) t s (moveOf (f .per) (f .needs) (f .head .awaited) c)
-tells-after limit f t s (refused r) = rw (all-drop r) (tells-refused limit (f .head) t s r)
+tells-after limit f t s (refused r) = tells-refused limit f t s r (drops-or-control r)
 tells-after limit f t s ended = tells-aged limit (f .head) t s
 
 pub tells-run : (limit : ℕ) → limit ≤ 1500 → (es : List Event) (f : Followed) (t : List Entry) → Tells limit (f .head) t

@@ -3,7 +3,7 @@
 --   came-later, readable-later  what comes is not before packet n; behind: and nothing is behind its group's packet 0
 --   Full needs a q h i          each of the first `needs` packets of group i is one of the a first of group q, or comes in h
 --   full-*                      how an arrival changes which groups are full
---   damaged-other, end-other    arrivals that are no readable packet
+--   damaged-other, control-other, end-other    arrivals that are no readable packet
 --
 -- Assumes nothing.
 use mathlib.Core.Path.{_≡_, refl, sym, ap, _∙_, subst}
@@ -13,12 +13,17 @@ use Prim.Native.Nat.{ℕ, suc, _+_, _*_, _≤_, _<_}
 use native.Mathlib.Omega.{arith}
 use native.Mathlib.Decide.{ℕ-discrete}
 use Rattle.faults.specs.Faults.{Fault}
-use Rattle.history.specs.Sent.{Arrival, came, damaged, subframeEnd, InOrder, CameIn, Readable}
+use Rattle.history.specs.Sent.{Arrival, came, damaged, control, subframeEnd, InOrder, CameIn, Readable}
 
 -- ---- what is to come
 
 pub damaged-other : (i c : ℕ) (r : Fault) (j d : ℕ) → damaged i c r ≡ came j d → ⊥
 damaged-other i c r j d e =
+    let z : _≡_ {A = ℕ} 0 1 = cc in
+    omega arith
+
+pub control-other : (j d : ℕ) → control ≡ came j d → ⊥
+control-other j d e =
     let z : _≡_ {A = ℕ} 0 1 = cc in
     omega arith
 
@@ -36,8 +41,10 @@ module _ (per most : ℕ) where
       let r : c ≡ d = cc in
       omega (arith, o .once, ap (λ (x : ℕ). per * x) p)
   came-later n (came j d ∷ h) (o, os) i c (inr x) = omega (arith, o .once, came-later (suc (per * j + d)) h os i c x)
-  came-later n (damaged j d r ∷ h) (o, os) i c (inl e) = absurd (damaged-other j d r i c e)
-  came-later n (damaged j d r ∷ h) (o, os) i c (inr x) = omega (arith, o .once, came-later (suc (per * j + d)) h os i c x)
+  came-later n (damaged j d r ∷ h) (o, t, os) i c (inl e) = absurd (damaged-other j d r i c e)
+  came-later n (damaged j d r ∷ h) (o, t, os) i c (inr x) = omega (arith, o .once, came-later (suc (per * j + d)) h os i c x)
+  came-later n (control ∷ h) o i c (inl e) = absurd (control-other i c e)
+  came-later n (control ∷ h) o i c (inr x) = came-later n h o i c x
   came-later n (subframeEnd ∷ h) o i c (inl e) = absurd (end-other i c e)
   came-later n (subframeEnd ∷ h) o i c (inr x) = came-later n h o i c x
 

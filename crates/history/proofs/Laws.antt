@@ -3,14 +3,14 @@
 --   group-le, group-lt, number-same    the groups that packets are of, by their numbers
 --   ordered, ordered-holds    a test for `InOrder`, so that a history written out is in order by computation
 --   group-four                the bytes of a group of four
---   after-refused             a refused packet drops
+--   after-refused, after-kept    a refusal drops, or nothing moves; refused-either: what holds of both holds after any
 --   run-app                   events after events
 --   run-sizes                 events leave the two numbers of a group as they are
 --   index-modulo              an index counts modulo the packets of a group, for what a packet changes and for its answer
 --
 -- Assumes nothing.
-use mathlib.Core.Path.{_≡_, refl, sym, ap, subst}
-use mathlib.Core.Bool.{Bool, true, _&&_, _||_, cond}
+use mathlib.Core.Path.{_≡_, refl, sym, ap}
+use mathlib.Core.Bool.{Bool, true, false, _&&_, _||_, cond}
 use mathlib.Core.List.{List, [], _∷_, _++_, append-assoc}
 use Prim.Native.Nat.{ℕ, suc, _+_, _*_, _%_, _≤_, _<_}
 use native.Mathlib.Decide.{decLe}
@@ -21,10 +21,9 @@ use borrow.Author.Tests.{leb-true, ltb-true, lt-leb}
 use Rattle.bits.proofs.Search.{and-left, and-right, or-right}
 use Rattle.head.specs.Move.{moveNumber}
 use Rattle.head.proofs.Moves.{move-modulo}
-use Rattle.faults.specs.Faults.{Fault}
-use Rattle.faults.proofs.Laws.{all-drop}
+use Rattle.faults.specs.Faults.{Fault, drops}
 use Rattle.history.specs.Followed.{Followed, Event, packet, refused, ended, moved, dropped, aged, after, answer, run}
-use Rattle.history.specs.Sent.{Sent, Arrival, came, damaged, subframeEnd, Next, InOrder, group}
+use Rattle.history.specs.Sent.{Sent, Arrival, came, damaged, control, subframeEnd, Next, InOrder, group}
 
 -- ---- the numbers of packets
 
@@ -69,16 +68,11 @@ next-holds per most n i c e =
       lost = λ l. leb-true m (n + most) (or-right (leb per 1) (leb m (n + most)) (and-right (leb n m) bound r) (lt-leb per 1 l));
     }
 
--- a packet that is next, and what comes behind it
-packet-holds : (per most n i c : ℕ) (h : List Arrival) (rest : Bool) → (isNext per most n i c && rest) ≡ true
-    → (rest ≡ true → InOrder per most (suc (per * i + c)) h) → Next per most n i c × InOrder per most (suc (per * i + c)) h
-packet-holds per most n i c h rest e ih =
-    (next-holds per most n i c (and-left (isNext per most n i c) rest e), ih (and-right (isNext per most n i c) rest e))
-
 unfoldable pub ordered : ℕ → ℕ → ℕ → List Arrival → Bool
 ordered per most n [] = true
 ordered per most n (came i c ∷ h) = isNext per most n i c && ordered per most (suc (per * i + c)) h
-ordered per most n (damaged i c r ∷ h) = isNext per most n i c && ordered per most (suc (per * i + c)) h
+ordered per most n (damaged i c r ∷ h) = isNext per most n i c && (drops r && ordered per most (suc (per * i + c)) h)
+ordered per most n (control ∷ h) = ordered per most n h
 ordered per most n (subframeEnd ∷ h) = ordered per most n h
 
 pub ordered-holds : (per most n : ℕ) (h : List Arrival) → ordered per most n h ≡ true → InOrder per most n h
@@ -86,10 +80,17 @@ unfolding ordered InOrder
 ordered-holds per most n [] e = tt
 ordered-holds per most n (came i c ∷ h) e =
     let m = suc (per * i + c) in
-    packet-holds per most n i c h (ordered per most m h) e (ordered-holds per most m h)
+    let next = isNext per most n i c in
+    let rest = ordered per most m h in
+    (next-holds per most n i c (and-left next rest e), ordered-holds per most m h (and-right next rest e))
 ordered-holds per most n (damaged i c r ∷ h) e =
     let m = suc (per * i + c) in
-    packet-holds per most n i c h (ordered per most m h) e (ordered-holds per most m h)
+    let next = isNext per most n i c in
+    let rest = ordered per most m h in
+    let x = and-right next (drops r && rest) e in
+    let o = next-holds per most n i c (and-left next (drops r && rest) e) in
+    (o, and-left (drops r) rest x, ordered-holds per most m h (and-right (drops r) rest x))
+ordered-holds per most n (control ∷ h) e = ordered-holds per most n h e
 ordered-holds per most n (subframeEnd ∷ h) e = ordered-holds per most n h e
 
 -- ---- bytes and events
@@ -103,17 +104,29 @@ unfolding run
 run-app [] ys f = refl
 run-app (e ∷ xs) ys f = run-app xs ys (after e f)
 
--- every fault drops
-pub after-refused : (r : Fault) (f : Followed) → dropped f ≡ after (refused r) f
+-- a refusal that does not drop, and one that does
+pub after-kept : (r : Fault) (f : Followed) → drops r ≡ false → f ≡ after (refused r) f
 unfolding after
-after-refused r f = sym (ap (λ (b : Bool). cond b (dropped f) f) (all-drop r))
+after-kept r f e = sym (ap (λ (b : Bool). cond b (dropped f) f) e)
+
+pub after-refused : (r : Fault) (f : Followed) → drops r ≡ true → dropped f ≡ after (refused r) f
+unfolding after
+after-refused r f e = sym (ap (λ (b : Bool). cond b (dropped f) f) e)
+
+pub refused-either : (P : Followed → Type 0) (r : Fault) (f : Followed) → P (dropped f) → P f → P (after (refused r) f)
+unfolding after
+refused-either P r f x y = go (drops r)
+  where
+    go : (b : Bool) → P (cond b (dropped f) f)
+    go true = x
+    go false = y
 
 pub run-sizes : (es : List Event) (f : Followed) → (run es f .per ≡ f .per) × (run es f .needs ≡ f .needs)
 unfolding run after moved dropped aged
 run-sizes [] f = (refl, refl)
 run-sizes (packet c b ∷ es) f = run-sizes es (after (packet c b) f)
 run-sizes (refused r ∷ es) f =
-    subst (λ (g : Followed). (run es g .per ≡ f .per) × (run es g .needs ≡ f .needs)) (after-refused r f) (run-sizes es (dropped f))
+    refused-either (λ (g : Followed). (run es g .per ≡ f .per) × (run es g .needs ≡ f .needs)) r f (run-sizes es (dropped f)) (run-sizes es f)
 run-sizes (ended ∷ es) f = run-sizes es (aged f)
 
 pub index-modulo : (c : ℕ) (b : List ℕ) (f : Followed)

@@ -30,7 +30,7 @@ use Rattle.head.specs.declared.Wish.{Wish}
 use Rattle.history.specs.Followed.{Followed, Event, packet, refused, ended, joined, moved, dropped, aged, after, followed, run}
 use Rattle.history.specs.Sent.{Sent, Arrival, came, event, events, InOrder, CameIn, Readable, In, Rising}
 use Rattle.history.specs.Missing.{Missed, endings, Last, Judged}
-use Rattle.history.proofs.Laws.{group-le, group-lt, run-app, run-sizes, after-refused}
+use Rattle.history.proofs.Laws.{group-le, group-lt, run-app, run-sizes, refused-either}
 use Rattle.history.proofs.Full.{readable-later}
 use Rattle.history.proofs.Exactness.{exactly}
 use Rattle.history.proofs.Freshness.{Aged, aged-limit}
@@ -128,7 +128,7 @@ limit-run (packet c bytes ∷ es) f =
     let mv = moveOf (f .per) (f .needs) (f .head .awaited) c in
     limit-run es (moved mv (c % f .per) bytes f) ∙ ap (λ (w : Wish). w .limit) (moved-wish mv (f .head))
 limit-run (refused r ∷ es) f =
-    subst (λ (g : Followed). run es g .head .wish .limit ≡ f .head .wish .limit) (after-refused r f) (limit-run es (dropped f))
+    refused-either (λ (g : Followed). run es g .head .wish .limit ≡ f .head .wish .limit) r f (limit-run es (dropped f)) (limit-run es f)
 limit-run (ended ∷ es) f = limit-run es (aged f)
 
 stands-shown : (per limit i : ℕ) (l : List Arrival) (h : Head) → limit ≤ 1500 → h .wish .limit ≡ limit → Stands per i l h

@@ -26,13 +26,13 @@ use Rattle.head.specs.Head.{droppedHead, agedHead}
 use Rattle.head.specs.Move.{Move, started, held, whole, outOfStep, moveOf, moveNumber, movedHead}
 use Rattle.head.specs.declared.Head.{Head}
 use Rattle.head.proofs.Moves.{Row, move-row}
-use Rattle.faults.proofs.Laws.{all-drop, no-whole}
+use Rattle.faults.proofs.Laws.{no-whole}
 use Rattle.faults.specs.Faults.{Fault}
 use Rattle.history.specs.Followed.{Followed, moved, dropped, aged, after, answer, run, handedOut}
-use Rattle.history.specs.Sent.{Sent, Arrival, came, damaged, subframeEnd, event, events, Next, InOrder, groups, CameIn, Readable, In}
+use Rattle.history.specs.Sent.{Sent, Arrival, came, damaged, control, subframeEnd, event, events, Next, InOrder, groups, CameIn, Readable, In}
 use Rattle.history.specs.Missing.{Reached, endings}
-use Rattle.history.proofs.Laws.{group-le, number-same, after-refused}
-use Rattle.history.proofs.Full.{damaged-other, end-other, came-later}
+use Rattle.history.proofs.Laws.{group-le, number-same, after-refused, refused-either}
+use Rattle.history.proofs.Full.{damaged-other, control-other, end-other, came-later}
 use Rattle.history.proofs.Exactness.{exactly}
 use Rattle.history.proofs.Freshness.{Aged, aged-next}
 
@@ -89,9 +89,10 @@ kept-run sent (came j d ∷ l) f n m e q =
     kept-then (f .head) (g .head) (run (events sent l) g .head) n n m (kept-moved mv (f .head) n s) (kept-run sent l g n m e t)
 kept-run sent (damaged j d r ∷ l) f n m e q =
     let g = dropped f in
-    subst (λ (x : Followed). Kept (f .head) (run (events sent l) x .head) n m) (after-refused r f)
-    (kept-then (f .head) (g .head) (run (events sent l) g .head) n n m (kept-dropped (f .head) n)
-    (kept-run sent l g n m e (rw (no-whole r, all-drop r) at q)))
+    refused-either (λ (x : Followed). handedOut (events sent l) x ≡ [] → Kept (f .head) (run (events sent l) x .head) n m) r f
+    (λ t. kept-then (f .head) (g .head) (run (events sent l) g .head) n n m (kept-dropped (f .head) n) (kept-run sent l g n m e t))
+    (kept-run sent l f n m e) (rw (no-whole r) at q)
+kept-run sent (control ∷ l) f n m e q = kept-run sent l f n m e q
 kept-run sent (subframeEnd ∷ l) f n m e q =
     let g = aged f in
     kept-then (f .head) (g .head) (run (events sent l) g .head) n (suc n) m (kept-aged (f .head) n)
@@ -185,19 +186,33 @@ module _ (per most : ℕ) where
       reached (inl y) = absurd (omega (arith, from (ℕ-discrete (per * x .group + x .index) n)))
       reached (inr y) = y
 
-  lost-end : (n : ℕ) (h : List Arrival) → Lost per n h → Lost per n (subframeEnd ∷ h)
-  unfolding Reached CameIn
-  lost-end n h x =
-      record { group = x .group; index = x .index; below = x .below; from = x .from; reached = x .reached; absent = absent }
-    where
-      absent : (subframeEnd ≡ came (x .group) (x .index)) ⊎ CameIn (x .group) (x .index) h → ⊥
-      absent (inl y) = end-other (x .group) (x .index) y
-      absent (inr y) = x .absent y
+  -- an arrival that is no packet of a group
+  module _ (a : Arrival) (n : ℕ) (h : List Arrival) where
+    lost-with : ((j d : ℕ) → a ≡ came j d → ⊥) → ((k : ℕ) → Reached per k h → Reached per k (a ∷ h)) → Lost per n h → Lost per n (a ∷ h)
+    unfolding CameIn
+    lost-with other to x = record {
+      group = x .group;
+      index = x .index;
+      below = x .below;
+      from = x .from;
+      reached = to (per * x .group + x .index) (x .reached);
+      absent = absent;
+    }
+      where
+        absent : (a ≡ came (x .group) (x .index)) ⊎ CameIn (x .group) (x .index) h → ⊥
+        absent (inl y) = other (x .group) (x .index) y
+        absent (inr y) = x .absent y
 
-  lost-ended : (n : ℕ) (h : List Arrival) → Lost per n (subframeEnd ∷ h) → Lost per n h
-  unfolding Reached CameIn
-  lost-ended n h x =
-      record { group = x .group; index = x .index; below = x .below; from = x .from; reached = x .reached; absent = λ y. x .absent (inr y) }
+    lost-without : ((k : ℕ) → Reached per k (a ∷ h) → Reached per k h) → Lost per n (a ∷ h) → Lost per n h
+    unfolding CameIn
+    lost-without from x = record {
+      group = x .group;
+      index = x .index;
+      below = x .below;
+      from = x .from;
+      reached = from (per * x .group + x .index) (x .reached);
+      absent = λ y. x .absent (inr y);
+    }
 
 -- ---- the gap
 
@@ -287,12 +302,18 @@ gapped-run sent q (came j d ∷ l) n f all wide (o, os) t c m e =
     let (s, u) = quiet (eqb (moveNumber mv) 3) (g .last) (handedOut (events sent l) g) t in
     gapped-moved sent q l (λ n f. gapped-run sent q l n f) n f all wide j d o os c m e mv
     (move-row (f .per) (f .needs) (f .head .awaited) d (o .index)) s u
-gapped-run sent q (damaged j d r ∷ l) n f all wide (o, os) t c m e = inl (
-  subst (λ (x : Followed). run (events sent l) x .head .gap ≡ 1) (after-refused r f)
-      (kept-run sent l (dropped f) 0 (endings l) (omega arith) (rw (no-whole r, all-drop r) at t) .gap refl),
+gapped-run sent q (damaged j d r ∷ l) n f all wide (o, k, os) t c m e = inl (
+  subst (λ (x : Followed). run (events sent l) x .head .gap ≡ 1) (after-refused r f k)
+      (kept-run sent l (dropped f) 0 (endings l) (omega arith) (rw (no-whole r, k) at t) .gap refl),
   lost-damaged (f .per) (f .per - 1) n j d r l o os,
 )
+gapped-run sent q (control ∷ l) n f all wide o t c m e =
+    let per = f .per in
+    gapped-same (Lost per n l) (Lost per n (control ∷ l)) (run (events sent l) f .head .gap)
+    (lost-with per (per - 1) control n l control-other (λ k x. x)) (lost-without per (per - 1) control n l (λ k x. x))
+    (gapped-run sent q l n f all wide o t c m e)
 gapped-run sent q (subframeEnd ∷ l) n f all wide o t c m e =
     let per = f .per in
-    gapped-same (Lost per n l) (Lost per n (subframeEnd ∷ l)) (run (events sent l) (aged f) .head .gap) (lost-end per (per - 1) n l)
-    (lost-ended per (per - 1) n l) (gapped-run sent q l n (aged f) all wide o t c m e)
+    gapped-same (Lost per n l) (Lost per n (subframeEnd ∷ l)) (run (events sent l) (aged f) .head .gap)
+    (lost-with per (per - 1) subframeEnd n l end-other (λ k x. x)) (lost-without per (per - 1) subframeEnd n l (λ k x. x))
+    (gapped-run sent q l n (aged f) all wide o t c m e)

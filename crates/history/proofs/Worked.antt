@@ -4,6 +4,8 @@
 --   in-order, broken-recovers   no more than three are lost in a row; group 2 is handed out, and nothing else
 --   midway                      followed in the middle of group 0
 --   midway-in-order, midway-hands-out    that is in order too; group 1 is handed out, the first that is whole
+--   mixed                       group 0, with control packets between its packets and behind them
+--   mixed-in-order, control-between    that is in order; group 0 is handed out, and nothing else
 --   out-of-step-clears          after packet 0, packet 2 is out of step: nothing is held any more
 --   shownAlong h f              what ask shows after each arrival
 --   silence-shows               a whole group, then only ends of subframes: fresh after one, stale after two
@@ -11,7 +13,10 @@
 --   early-start-shows           a group begun before the last was whole: doubtful until it is whole, then fresh
 --   lost-shows                  a lost packet shows when the next one arrives: fresh before, doubtful after
 --   partial-shows               three packets of the next group, and none missing: fresh
+--   control-shows               control packets: fresh as before; a group begun before the last was whole is a gap behind one as well
 --   no-group-shows              nothing yet, though more subframes end than the limit
+--   called-*                    by the transcript alone, newest first: 29 is no gap; a 1 after a 1 is one, with 29 between them as well;
+--                               47 is one; a 1 after a 3 is none
 --   single, singles             an address whose groups are one packet each; packets of it, with runs of more than three lost
 --   singles-in-order            that is in order, whatever was lost
 --   singles-hand-out            each readable packet is handed out by itself
@@ -24,9 +29,10 @@ use mathlib.Core.List.{List, [], _∷_, _++_}
 use Prim.Native.Nat.{ℕ}
 use Rattle.head.specs.Head.{wishOf, askNumber}
 use Rattle.head.specs.Move.{perOf, needsOf, rowOf, moveOf, moveNumber, movedHead}
-use Rattle.faults.specs.Faults.{typeUnreadable, wordUnreadable}
+use Rattle.faults.specs.Faults.{typeUnreadable, wordUnreadable, numberDrops}
 use Rattle.history.specs.Followed.{Followed, begun, joined, lastOf, moved, dropped, aged, after, answer, followed, run, handedOut}
-use Rattle.history.specs.Sent.{Arrival, came, damaged, subframeEnd, event, events, InOrder}
+use Rattle.history.specs.Sent.{Arrival, came, damaged, control, subframeEnd, event, events, InOrder}
+use Rattle.history.specs.Transcript.{answered, isWhole, anyWhole, sinceWhole, ends, before, marks, marked, called}
 use Rattle.history.proofs.Laws.{isNext, ordered, ordered-holds}
 use Rattle.history.proofs.Sharp.{sent}
 
@@ -56,6 +62,17 @@ midway-in-order = ordered-holds 4 3 2 midway refl
 midway-hands-out : handedOut (events sent midway) (followed (wishOf 17 0 2)) ≡ (4 ∷ 5 ∷ 6 ∷ 7 ∷ []) ∷ []
 unfolding midway wholeGroup sent events event followed perOf needsOf handedOut after answer moved begun joined lastOf moveOf rowOf moveNumber movedHead
 midway-hands-out = refl
+
+unfoldable mixed : List Arrival
+mixed = came 0 0 ∷ control ∷ came 0 1 ∷ control ∷ control ∷ came 0 2 ∷ control ∷ came 0 3 ∷ control ∷ []
+
+mixed-in-order : InOrder 4 3 0 mixed
+unfolding mixed ordered isNext
+mixed-in-order = ordered-holds 4 3 0 mixed refl
+
+control-between : handedOut (events sent mixed) (followed (wishOf 17 0 2)) ≡ (0 ∷ 1 ∷ 2 ∷ 3 ∷ []) ∷ []
+unfolding mixed sent events event followed perOf needsOf handedOut after answer moved begun joined lastOf moveOf rowOf moveNumber movedHead
+control-between = refl
 
 -- seen in no group that is handed out, since the next begins anew
 out-of-step-clears : run (events sent (came 0 0 ∷ came 0 2 ∷ [])) (followed (wishOf 17 0 2)) .unfinished ≡ []
@@ -92,9 +109,33 @@ partial-shows : shownAlong (wholeGroup 0 ++ (came 1 0 ∷ came 1 1 ∷ subframeE
 unfolding wholeGroup shownAlong event followed perOf needsOf after moved aged moveOf rowOf movedHead askNumber
 partial-shows = refl
 
+-- an early start behind a control packet is a gap
+control-shows : shownAlong (wholeGroup 0 ++ (control ∷ came 1 0 ∷ control ∷ came 2 0 ∷ [])) (followed (wishOf 17 0 2))
+    ≡ 4 ∷ 4 ∷ 4 ∷ 5 ∷ 5 ∷ 5 ∷ 5 ∷ 6 ∷ []
+unfolding wholeGroup shownAlong event followed perOf needsOf after moved moveOf rowOf movedHead askNumber
+control-shows = refl
+
 no-group-shows : shownAlong (came 0 0 ∷ subframeEnd ∷ subframeEnd ∷ subframeEnd ∷ []) (followed (wishOf 17 0 2)) ≡ 4 ∷ 4 ∷ 4 ∷ 4 ∷ []
 unfolding shownAlong event followed perOf needsOf after moved aged moveOf rowOf movedHead askNumber
 no-group-shows = refl
+
+-- ---- what the transcript calls for
+
+called-control : called 2 (answered 29 ∷ answered 3 ∷ []) ≡ 5
+unfolding called anyWhole isWhole sinceWhole ends marked marks numberDrops before
+called-control = refl
+
+called-early : called 2 (answered 1 ∷ answered 29 ∷ answered 1 ∷ answered 3 ∷ []) ≡ 6
+unfolding called anyWhole isWhole sinceWhole ends marked marks numberDrops before
+called-early = refl
+
+called-reserved : called 2 (answered 47 ∷ answered 3 ∷ []) ≡ 6
+unfolding called anyWhole isWhole sinceWhole ends marked marks numberDrops before
+called-reserved = refl
+
+called-next : called 2 (answered 1 ∷ answered 29 ∷ answered 3 ∷ []) ≡ 5
+unfolding called anyWhole isWhole sinceWhole ends marked marks numberDrops before
+called-next = refl
 
 -- ---- groups of one packet
 

@@ -1,8 +1,9 @@
--- One followed address as sections 4 and 5 of document 01 have it: its head, the bytes of its unfinished group and of its
+-- One followed address as sections 4 and 5 of document 01 and Ask 6 of document 02 have it: its head, the bytes of its unfinished group and of its
 -- last whole one; and two numbers, how many packets a group has and how many of them, from the first on, make it whole. No
 -- place of a byte is told here.
 --
---   Event                 what reaches a followed address: a readable data packet, a refused packet, the end of a subframe
+--   Event                 what reaches a followed address: a readable data packet, a refused packet, a control packet among them, the end
+--                         of a subframe
 --   begun c u             what a packet with place c is joined to: nothing where c is 0, otherwise the unfinished group u
 --   after, answer         what an event changes, and its answer
 --   followed w            as follow leaves it
@@ -57,7 +58,7 @@ moved mv c bytes f = record {
   last = lastOf mv c (f .unfinished) bytes (f .last);
 }
 
--- "Refusals 28 to 32 clear the slot's unfinished group, mark its gap and make it await 0."
+-- 28, 47, 30, 31 and 32 "clear the slot's unfinished group, mark its gap and make it await 0"; nothing moves by a control packet, 29
 unfoldable pub dropped : Followed → Followed
 dropped f = record { per = f .per; needs = f .needs; head = droppedHead (f .head); unfinished = []; last = f .last }
 

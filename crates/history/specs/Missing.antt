@@ -1,11 +1,12 @@
 -- What ask is to say, told by what was sent and what came. "Under the channel's hypotheses, at every moment. Before a group has
 -- been handed out since follow, ask answers 4. From then on: 7 exactly if as many subframes as the limit, or more, have ended
 -- since the last one; otherwise 6 if some packet sent to the address after that group, up to the last one that arrived and that
--- one included, was lost or unreadable; otherwise 5." No answer of the slot is looked at here, no awaited index and no mark.
+-- one included, was lost or unreadable; otherwise 5." The packets are the groups': a control packet that is lost, or the last to
+-- arrive, alters nothing here. No answer of the slot is looked at, no awaited index and no mark.
 -- A group is `per` packets, more than one, and all of them make it whole. This is not so of groups of one: there a lost packet
 -- leaves no mark, since the next to come is whole whatever went before it. Nor where spare packets are sent behind a whole group.
 --
---   Reached per k h          packet k of the address, or a later one, arrived, readable or not
+--   Reached per k h          packet k of the address's groups, or a later one, arrived, readable or not
 --   Missed per i h           some packet sent after group i, up to the last one that arrived, was lost or unreadable
 --   endings h                how many subframes ended
 --   Last per h i l           group i is the last that was handed out in h, and l is what came since
@@ -14,13 +15,14 @@ use mathlib.Core.Path.{_≡_}
 use mathlib.Core.List.{List, [], _∷_, _++_}
 use mathlib.Core.Logic.{_⊎_}
 use Prim.Native.Nat.{ℕ, suc, _+_, _-_, _*_, _≤_, _<_}
-use Rattle.history.specs.Sent.{Arrival, came, damaged, subframeEnd, CameIn, Readable}
+use Rattle.history.specs.Sent.{Arrival, came, damaged, control, subframeEnd, CameIn, Readable}
 
 -- a packet that arrived, readable or not, is packet k of its address or a later one
 unfoldable pub Reached : ℕ → ℕ → List Arrival → Type 0
 Reached per k [] = ⊥
 Reached per k (came j d ∷ h) = (k ≤ per * j + d) ⊎ Reached per k h
 Reached per k (damaged j d r ∷ h) = (k ≤ per * j + d) ⊎ Reached per k h
+Reached per k (control ∷ h) = Reached per k h
 Reached per k (subframeEnd ∷ h) = Reached per k h
 
 -- "some packet sent to the address after that group, up to the last one that arrived and that one included, was lost or unreadable"
@@ -36,6 +38,7 @@ unfoldable pub endings : List Arrival → ℕ
 endings [] = 0
 endings (came j d ∷ h) = endings h
 endings (damaged j d r ∷ h) = endings h
+endings (control ∷ h) = endings h
 endings (subframeEnd ∷ h) = suc (endings h)
 
 -- its last packet came with all of them readable, and no later group is readable

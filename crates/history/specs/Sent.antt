@@ -1,19 +1,22 @@
 -- What is sent to an address, what comes of it, and what demand 3 says is handed out. A group is `per` packets, four of them in
--- 7.4.2.2, and the first `needs` of them make it whole; packet c of group i is packet per * i + c of its address.
+-- 7.4.2.2, and the first `needs` of them make it whole; packet c of group i is packet per * i + c of its address. Control packets may be
+-- sent anywhere between them: such a one is "no group's packet .. or the end of a lost run", so it has no number.
 --
 --   Sent                    the bytes of packet c of group i
---   Arrival                 a sent packet that arrives readable, one that arrives and is refused, the end of a subframe
+--   Arrival                 a group's packet that arrives readable, one that arrives and is refused, a control packet, the end of a subframe
 --   event sent a            what it is to the followed address
---   InOrder per most n h    the packets arrive in order, each at most once, none before packet n, no more than `most` lost in a row;
---                           where a group is one packet, any number may be lost
+--   InOrder per most n h    the groups' packets arrive in order, each at most once, none before packet n, no more than `most` lost in a
+--                           row, whatever control packets come between; where a group is one packet, any number may be lost. None of
+--                           them is taken for a control packet: a refusal of a group's packet drops
 --   group needs sent i      the bytes of group i: of its first `needs` packets, in order
 --   Readable needs h i      these packets all arrived readable
 --   Exactly needs ..        what was handed out: those groups and no others, each once and in order
 use mathlib.Core.Path.{_≡_}
+use mathlib.Core.Bool.{true}
 use mathlib.Core.List.{List, [], _∷_, _++_}
 use mathlib.Core.Logic.{_⊎_}
 use Prim.Native.Nat.{ℕ, zero, suc, _+_, _*_, _≤_, _<_}
-use Rattle.faults.specs.Faults.{Fault}
+use Rattle.faults.specs.Faults.{Fault, typeControl, drops}
 use Rattle.history.specs.Followed.{Event, packet, refused, ended}
 
 abbrev pub Sent : Type 0
@@ -22,11 +25,13 @@ Sent = ℕ → ℕ → List ℕ
 pub data Arrival : Type 0 where
   came : ℕ → ℕ → Arrival
   damaged : ℕ → ℕ → Fault → Arrival
+  control : Arrival
   subframeEnd : Arrival
 
 unfoldable pub event : Sent → Arrival → Event
 event sent (came i c) = packet c (sent i c)
 event sent (damaged i c r) = refused r
+event sent control = refused typeControl
 event sent subframeEnd = ended
 
 unfoldable pub events : Sent → List Arrival → List Event
@@ -42,7 +47,8 @@ pub record Next (per most n i c : ℕ) : Type 0 where
 unfoldable pub InOrder : ℕ → ℕ → ℕ → List Arrival → Type 0
 InOrder per most n [] = Unit {0}
 InOrder per most n (came i c ∷ h) = Next per most n i c × InOrder per most (suc (per * i + c)) h
-InOrder per most n (damaged i c r ∷ h) = Next per most n i c × InOrder per most (suc (per * i + c)) h
+InOrder per most n (damaged i c r ∷ h) = Next per most n i c × (drops r ≡ true) × InOrder per most (suc (per * i + c)) h
+InOrder per most n (control ∷ h) = InOrder per most n h
 InOrder per most n (subframeEnd ∷ h) = InOrder per most n h
 
 unfoldable pub group : ℕ → Sent → ℕ → List ℕ

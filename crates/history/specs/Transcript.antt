@@ -5,13 +5,14 @@
 --   told es f t      the entries of a list of events, the newest first, on top of t
 --   sinceWhole t     the entries since the last answer 3
 --   ends t           how many subframes ended in them
---   marked t         a gap was marked in them: an answer 28 to 32, or a 1 directly after a 1 or 2
+--   before t         the last answer, 29 passed over: a control packet stands between a group's packets and is none of them
+--   marked t         a gap was marked in them: an answer 28, 47, 30, 31 or 32, or a 1 directly after a 1 or 2, 29 passed over
 --   called limit t   4 where there is no 3; otherwise 7, 6 or 5 by the entries since the last one
 use mathlib.Core.Bool.{Bool, false, cond, not, _&&_, _||_}
 use mathlib.Core.List.{List, [], _∷_}
 use Prim.Native.Nat.{ℕ, suc}
 use lib.Dec.{leb, eqb}
-use Rattle.faults.specs.Faults.{numberDrops}
+use Rattle.faults.specs.Faults.{number, typeControl, numberDrops}
 use Rattle.history.specs.Followed.{Followed, Event, packet, refused, ended, after, answer}
 
 pub data Entry : Type 0 where
@@ -44,13 +45,13 @@ ends [] = 0
 ends (answered n ∷ t) = ends t
 ends (subframe ∷ t) = suc (ends t)
 
--- the last answer before, 0 where there is none
+-- the last answer before that is no control packet's, 0 where there is none
 unfoldable pub before : List Entry → ℕ
 before [] = 0
-before (answered n ∷ t) = n
+before (answered n ∷ t) = cond (eqb n (number typeControl)) (before t) n
 before (subframe ∷ t) = before t
 
--- "a gap is marked by this table and by refusals 28 to 32, and by nothing else"
+-- "a gap is marked by this table and by refusals" 28, 47, 30, 31 and 32, "and by nothing else"
 unfoldable pub marks : Entry → ℕ → Bool
 marks (answered n) m = numberDrops n || (eqb n 1 && (eqb m 1 || eqb m 2))
 marks subframe m = false

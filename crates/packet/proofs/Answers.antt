@@ -1,16 +1,17 @@
 -- What an image is received as, case by case.
 --
 --   answer-length      20: not 94 bytes
---   typeNumber s       28, 29, 29, 30 by the type, otherwise 0; number-unreadable .. number-data: each of these
+--   typeNumber s       28, 29, 47, 30 by the type, otherwise 0; number-unreadable .. number-data: each of these
 --   answer-type        refused with this number, whatever the protection
 --   IsData, isData     this number is 0; by-type: otherwise the packet is refused
 --   answer-plain, answer-protected    a data packet: its 90 bytes; its 45, or 31
 --   data-short, data-whole            which of the two, by the place
+--   word-place                        31 is given where a word fails, and the place is below 30
 --   type-found, type-missed           what the type reader's answer says of the type
 --   useful-read, useful-length        the 90 useful bytes
 --   filled-begins                     a room that is filled begins with what was put into it
 --   received-length                   whatever is received, there are 90 bytes
---   received-either                   94 bytes are read, or refused with 28 to 31
+--   received-either                   94 bytes are read, or refused with 28, 29, 47, 30 or 31
 --
 -- Assumes nothing.
 use mathlib.Core.Path.{_≡_, refl, sym, ap, _∙_, subst}
@@ -18,7 +19,7 @@ use mathlib.Core.Bool.{Bool, true, false, cond, not}
 use mathlib.Core.List.{List, [], _∷_}
 use mathlib.Core.Logic.{_⊎_, inl, inr}
 use Prim.Native.Nat.{ℕ, zero, suc, _-_, _≤_, _<_}
-use borrow.Author.Tests.{le-leb, lt-leb, lt-ltb, le-ltb, eq-eqb, ne-eqb}
+use borrow.Author.Tests.{le-leb, lt-leb, lt-ltb, le-ltb, ltb-true, eq-eqb, ne-eqb}
 use lib.Dec.{leb, eqb, ltb}
 use native.Mathlib.Decide.{ℕ-discrete}
 use native.Mathlib.Omega.{arith}
@@ -181,6 +182,30 @@ answer-protected s d = go (ltb (dataRead (usefulOf s) .place) 30) refl
     go : (b : Bool) → ltb (dataRead (usefulOf s) .place) 30 ≡ b → received true s ≡ dataAs (indexOf s) (dataRead (usefulOf s))
     go true e = received-as true s (number wordUnreadable) (short-number s d true e) ∙ sym (ap either e)
     go false e = received-as true s 0 (short-number s d false e) ∙ sym (ap either e)
+
+-- 31 is no number of a type
+types-below : (a b c d : Bool) → typeRows a b c d [] ≡ 31 → ⊥
+unfolding refusal
+types-below true b c d e = omega (arith, e)
+types-below false true c d e = omega (arith, e)
+types-below false false true d e = omega (arith, e)
+types-below false false false true e = omega (arith, e)
+types-below false false false false e = omega (arith, e)
+
+pub word-place : (p : Bool) (s : List ℕ) → length s ≡ 94 → receivedNumber p s ≡ 31 → dataRead (usefulOf s) .place < 30
+unfolding refusal unreadable
+word-place p s l e = go (ℕ-discrete (typeNumber s) 0)
+  where
+    rows : (q b : Bool) → unreadable q (usefulOf s) ≡ b → refusal (row b 31 ∷ []) ≡ 31 → dataRead (usefulOf s) .place < 30
+    rows true true t n = ltb-true (dataRead (usefulOf s) .place) 30 t
+    rows false true t n = absurd (omega (arith, ap (λ (x : Bool). cond {A = ℕ} x 1 0) t))
+    rows q false t n = absurd (omega (arith, n))
+
+    go : Dec (typeNumber s ≡ 0) → dataRead (usefulOf s) .place < 30
+    go (yes z) = rows p (unreadable p (usefulOf s)) refl (sym (data-number p s l z) ∙ e)
+    go (no n) =
+        absurd (types-below (leb 256 (typeOf s)) (eqb (typeOf s) 0x3F) (eqb (typeOf s) 0xC7) (eqb (typeOf s) 0xF8)
+        (sym (typed p s l ∙ further-refused (typeNumber s) _ n) ∙ e))
 
 pub data-short : (i : ℕ) (d : Data) → d .place < 30 → dataAs i d ≡ refusedAs (number wordUnreadable) (d .place)
 data-short i d h = ap (λ (b : Bool). cond b (refusedAs (number wordUnreadable) (d .place)) (readableAs i (d .bytes))) (lt-ltb (d .place) 30 h)

@@ -1,8 +1,11 @@
--- A packet under damage: what was sent is read, or it is refused with 28 to 31; never other bytes.
+-- A packet under damage: what was sent is read, or it is refused with 31; never other bytes. A control packet is 29.
 --
---   sent-header, sent-useful, sent-spare     what a sent image holds
---   header-came                  its address and index are read from what came; header-flipped-by: with the flips that there are
---   received-came                damage of at most four bits a word: what was sent, or a refusal
+--   written-header .. written-spare          what an image that is written holds; sent-header .. sent-spare: that of a data packet
+--   written-came                 its address and index are read from what came; written-flipped-by: with the flips that there are;
+--                                header-came, header-flipped-by: those of a data packet
+--   carried-length, carried-below    its useful bytes
+--   received-control             a control packet: 29
+--   received-came                damage of at most four bits a word: what was sent, or 31
 --   received-corrected           damage that the codes correct: what was sent
 --   sent-corrected, corrected-came     no damage is such damage, and such damage is among what may come
 --   received-sent                no damage: what was sent
@@ -35,50 +38,44 @@ use Rattle.words.specs.Protected.{protected, wordsOf, informations, failed, dat
 use Rattle.words.specs.declared.Words.{Words}
 use Rattle.words.proofs.Each.{failed-pass, failed-le, words-whole, failed-whole}
 use Rattle.words.proofs.Packing.{words-protected, words-length, data-segments, segments-below, segments-length, protected-length, protected-below}
-use Rattle.packet.specs.Received.{typeOf, usefulOf, received, written, readableAs}
-use Rattle.packet.specs.Damage.{dataSize, carried, sentImage, Kept, Came, Corrected, Refused}
+use Rattle.faults.specs.Faults.{number, typeControl, wordUnreadable}
+use Rattle.packet.specs.Received.{typeOf, usefulOf, received, written, refusedAs, readableAs}
+use Rattle.packet.specs.Damage.{dataSize, carried, sentImage, controlImage, Kept, CameBy, Came, Corrected, ControlCame}
 use Rattle.packet.specs.declared.Reading.{Reading}
-use Rattle.packet.proofs.Answers.{indexOf, answer-plain, answer-protected, IsData, isData, by-type, data-short, data-whole}
+use Rattle.packet.proofs.Answers.{indexOf, number-control, answer-type, answer-plain, answer-protected, IsData, isData, data-short, data-whole}
 
 -- ---- what a sent image holds
 
-carried-length : (p : Bool) (d : List ℕ) → length d ≡ dataSize p → length (carried p d) ≡ 90
+pub carried-length : (p : Bool) (d : List ℕ) → length d ≡ dataSize p → length (carried p d) ≡ 90
 carried-length false d l = l
 carried-length true d l = protected-length d
 
-carried-below : (p : Bool) (d : List ℕ) → Below 256 d → Below 256 (carried p d)
+pub carried-below : (p : Bool) (d : List ℕ) → Below 256 d → Below 256 (carried p d)
 carried-below false d h = h
 carried-below true d h = protected-below d
 
--- a byte in front
-module _ (p : Bool) (a i : ℕ) (d : List ℕ) (ha : a ≤ 1023) (hi : i ≤ 3) (l : length d ≡ dataSize p) (b : Below 256 d) where
+-- any packet that is written, by its type byte and useful bytes
+module _ (a i ty : ℕ) (u : List ℕ) (ha : a ≤ 1023) (hi : i ≤ 3) (ht : ty < 256) (l : length u ≡ 90) (b : Below 256 u) where
   small : a + 1024 * i < 4096
   small = omega arith
 
-  pub sent-header : headerOf (sentImage p a i d) ≡ word23 (a + 1024 * i)
+  pub written-header : headerOf (written a i ty u) ≡ word23 (a + 1024 * i)
   unfolding written
-  sent-header =
-      header-image (word23 (a + 1024 * i)) (0x00 ∷ carried p d) (ap suc (carried-length p d l)) (word23-lt (a + 1024 * i) small)
+  written-header = header-image (word23 (a + 1024 * i)) (ty ∷ u) (ap suc l) (word23-lt (a + 1024 * i) small)
 
-  sent-bytes : bytesOf (sentImage p a i d) ≡ 0x00 ∷ carried p d
+  pub written-bytes : bytesOf (written a i ty u) ≡ ty ∷ u
   unfolding written
-  sent-bytes =
-      bytes-image (word23 (a + 1024 * i)) (0x00 ∷ carried p d) (ap suc (carried-length p d l))
-      (below-cons 0x00 (carried p d) (omega arith) (carried-below p d b))
+  written-bytes = bytes-image (word23 (a + 1024 * i)) (ty ∷ u) (ap suc l) (below-cons ty u ht b)
 
-  pub sent-useful : usefulOf (sentImage p a i d) ≡ carried p d
-  unfolding usefulOf
-  sent-useful = ap (drop 1) sent-bytes
-
-  pub sent-spare : spareOf (sentImage p a i d) ≡ 0
+  pub written-spare : spareOf (written a i ty u) ≡ 0
   unfolding written
-  sent-spare = spare-image (word23 (a + 1024 * i)) (0x00 ∷ carried p d) (ap suc (carried-length p d l))
+  written-spare = spare-image (word23 (a + 1024 * i)) (ty ∷ u) (ap suc l)
 
   -- its address and index are read from a header with at most three flips
-  pub header-came : (t : List ℕ) → flips (headerOf (sentImage p a i d)) (headerOf t) ≤ 3
+  pub written-came : (t : List ℕ) → flips (headerOf (written a i ty u)) (headerOf t) ≤ 3
       → (headerRead (headerOf t) .address ≡ a) × (headerRead (headerOf t) .index ≡ i)
-  header-came t f =
-      let near : flips (word23 (a + 1024 * i)) (headerOf t) ≤ 3 = subst (λ (x : ℕ). flips x (headerOf t) ≤ 3) sent-header f in
+  written-came t f =
+      let near : flips (word23 (a + 1024 * i)) (headerOf t) ≤ 3 = subst (λ (x : ℕ). flips x (headerOf t) ≤ 3) written-header f in
       let r = header-reads (headerOf t) (a + 1024 * i) (header-lt t) (nearest-is word23 word23-apart (headerOf t) (a + 1024 * i) small near) in
       (ap (λ (h : Header). h .address) r ∙ address, ap (λ (h : Header). h .index) r ∙ index)
     where
@@ -88,13 +85,56 @@ module _ (p : Bool) (a i : ℕ) (d : List ℕ) (ha : a ≤ 1023) (hi : i ≤ 3) 
       index : (a + 1024 * i) / 1024 ≡ i
       index = omega arith
 
-  pub header-flipped-by : (t : List ℕ) → flips (headerOf (sentImage p a i d)) (headerOf t) ≤ 3
-      → headerRead (headerOf t) .flips ≡ flips (headerOf (sentImage p a i d)) (headerOf t)
-  header-flipped-by t f =
-      let near : flips (word23 (a + 1024 * i)) (headerOf t) ≤ 3 = subst (λ (x : ℕ). flips x (headerOf t) ≤ 3) sent-header f in
+  pub written-flipped-by : (t : List ℕ) → flips (headerOf (written a i ty u)) (headerOf t) ≤ 3
+      → headerRead (headerOf t) .flips ≡ flips (headerOf (written a i ty u)) (headerOf t)
+  written-flipped-by t f =
+      let near : flips (word23 (a + 1024 * i)) (headerOf t) ≤ 3 = subst (λ (x : ℕ). flips x (headerOf t) ≤ 3) written-header f in
       ap (λ (h : Header). h .flips)
       (header-reads (headerOf t) (a + 1024 * i) (header-lt t) (nearest-is word23 word23-apart (headerOf t) (a + 1024 * i) small near))
-      ∙ ap (λ (x : ℕ). flips x (headerOf t)) (sym sent-header)
+      ∙ ap (λ (x : ℕ). flips x (headerOf t)) (sym written-header)
+
+  -- a type byte with at most two flips is near the one that was sent
+  type-came : (t : List ℕ) → flips (getD (bytesOf (written a i ty u)) 0 0) (getD (bytesOf t) 0 0) ≤ 2 → flips ty (getD (bytesOf t) 0 0) ≤ 2
+  type-came t f = subst (λ (bs : List ℕ). flips (getD bs 0 0) (getD (bytesOf t) 0 0) ≤ 2) written-bytes f
+
+-- a data packet
+module _ (p : Bool) (a i : ℕ) (d : List ℕ) (ha : a ≤ 1023) (hi : i ≤ 3) (l : length d ≡ dataSize p) (b : Below 256 d) where
+  pub sent-header : headerOf (sentImage p a i d) ≡ word23 (a + 1024 * i)
+  sent-header = written-header a i 0x00 (carried p d) ha hi (omega arith) (carried-length p d l) (carried-below p d b)
+
+  pub sent-bytes : bytesOf (sentImage p a i d) ≡ 0x00 ∷ carried p d
+  sent-bytes = written-bytes a i 0x00 (carried p d) ha hi (omega arith) (carried-length p d l) (carried-below p d b)
+
+  pub sent-useful : usefulOf (sentImage p a i d) ≡ carried p d
+  unfolding usefulOf
+  sent-useful = ap (drop 1) sent-bytes
+
+  pub sent-spare : spareOf (sentImage p a i d) ≡ 0
+  sent-spare = written-spare a i 0x00 (carried p d) ha hi (omega arith) (carried-length p d l) (carried-below p d b)
+
+  pub header-came : (t : List ℕ) → flips (headerOf (sentImage p a i d)) (headerOf t) ≤ 3
+      → (headerRead (headerOf t) .address ≡ a) × (headerRead (headerOf t) .index ≡ i)
+  header-came = written-came a i 0x00 (carried p d) ha hi (omega arith) (carried-length p d l) (carried-below p d b)
+
+  pub header-flipped-by : (t : List ℕ) → flips (headerOf (sentImage p a i d)) (headerOf t) ≤ 3
+      → headerRead (headerOf t) .flips ≡ flips (headerOf (sentImage p a i d)) (headerOf t)
+  header-flipped-by = written-flipped-by a i 0x00 (carried p d) ha hi (omega arith) (carried-length p d l) (carried-below p d b)
+
+  -- with at most two flips in its type byte it is a data packet still
+  sent-is-data : (kept : List ℕ → List ℕ → Type 0) (most : ℕ) (t : List ℕ) → CameBy kept most (sentImage p a i d) t → IsData t
+  unfolding typeOf
+  sent-is-data kept most t came =
+      let f = type-came a i 0x00 (carried p d) ha hi (omega arith) (carried-length p d l) (carried-below p d b) t (came .type) in
+      isData t (came .size) (within-near 0 (getD (bytesOf t) 0 0) (omega arith) (bytes-lt t 0) f)
+
+-- a control packet, whatever the address is followed with
+pub received-control : (p : Bool) (most a i : ℕ) (u t : List ℕ) → a ≤ 1023 → i ≤ 3 → length u ≡ 90 → Below 256 u
+    → ControlCame most (controlImage a i u) t → received p t ≡ refusedAs (number typeControl) 0
+unfolding typeOf
+received-control p most a i u t ha hi l b came =
+    let f = type-came a i 0x3F u ha hi (omega arith) l b t (came .type) in
+    let e : typeOf t ≡ 0x3F = within-near 1 (getD (bytesOf t) 0 0) (omega arith) (bytes-lt t 0) f in
+    answer-type p t (came .size) (number typeControl) (number-control t e) (λ z. omega (arith, z))
 
 -- ---- protected data
 
@@ -167,34 +207,24 @@ whole-of u h =
 
 -- a data packet whose useful bytes came with at most four flips a word
 data-came : (p : Bool) (t d : List ℕ) (i : ℕ) → IsData t → indexOf t ≡ i → length d ≡ dataSize p → Below 256 d
-    → Kept 4 p (carried p d) (usefulOf t) → (received p t ≡ readableAs i d) ⊎ Refused (received p t)
+    → Kept 4 p (carried p d) (usefulOf t) → (received p t ≡ readableAs i d) ⊎ (received p t .number ≡ number wordUnreadable)
 data-came false t d i is e l b kept =
     inl (answer-plain t is ∙ ap₂ readableAs e kept)
 data-came true t d i is e l b kept = go (decLt (dataRead (usefulOf t) .place) 30)
   where
-    go : Dec (dataRead (usefulOf t) .place < 30) → (received true t ≡ readableAs i d) ⊎ Refused (received true t)
-    go (yes h) = inr (inr (inr (inr (inr (inl (ap (λ (x : Reading). x .number) (answer-protected t is ∙ data-short (indexOf t) (dataRead (usefulOf t)) h)))))))
+    go : Dec (dataRead (usefulOf t) .place < 30) → (received true t ≡ readableAs i d) ⊎ (received true t .number ≡ number wordUnreadable)
+    go (yes h) = inr (ap (λ (x : Reading). x .number) (answer-protected t is ∙ data-short (indexOf t) (dataRead (usefulOf t)) h))
     go (no h) =
         let whole : failed (informations (wordsOf (usefulOf t))) ≡ 30 = whole-of (usefulOf t) (omega (arith, h)) in
         inl (answer-protected t is ∙ data-whole (indexOf t) (dataRead (usefulOf t)) (omega arith)
         ∙ ap₂ readableAs e (data-back d (usefulOf t) 4 (omega arith) l b kept whole))
 
 pub received-came : (p : Bool) (most a i : ℕ) (d t : List ℕ) → most ≤ 3 → a ≤ 1023 → i ≤ 3 → length d ≡ dataSize p → Below 256 d
-    → Came p most (sentImage p a i d) t → (received p t ≡ readableAs i d) ⊎ Refused (received p t)
-received-came p most a i d t hm ha hi l b came = go (by-type p t (came .size))
-  where
-    go : Refused (received p t) ⊎ IsData t → (received p t ≡ readableAs i d) ⊎ Refused (received p t)
-    go (inl r) = inr r
-    go (inr is) =
-        data-came p t d i is (header-came p a i d ha hi l b t (le-trans (came .header) hm) .1) l b
-        (subst (λ (u : List ℕ). Kept 4 p u (usefulOf t)) (sent-useful p a i d ha hi l b) (came .useful))
-
--- a data packet, by a type byte with at most two flips
-type-kept : (t : List ℕ) → length t ≡ 94 → flips 0x00 (getD (bytesOf t) 0 0) ≤ 2 → IsData t
-unfolding typeOf
-type-kept t l f =
-    let e : typeOf t ≡ 0x00 = within-near 0 (getD (bytesOf t) 0 0) (omega arith) (bytes-lt t 0) f in
-    isData t l e
+    → Came p most (sentImage p a i d) t → (received p t ≡ readableAs i d) ⊎ (received p t .number ≡ number wordUnreadable)
+received-came p most a i d t hm ha hi l b came =
+    data-came p t d i (sent-is-data p a i d ha hi l b (Kept 4 p) most t came)
+    (header-came p a i d ha hi l b t (le-trans (came .header) hm) .1) l b
+    (subst (λ (u : List ℕ). Kept 4 p u (usefulOf t)) (sent-useful p a i d ha hi l b) (came .useful))
 
 data-corrected : (p : Bool) (t d : List ℕ) (i : ℕ) → IsData t → indexOf t ≡ i → length d ≡ dataSize p → Below 256 d
     → Kept 3 p (carried p d) (usefulOf t) → received p t ≡ readableAs i d
@@ -211,8 +241,7 @@ data-corrected true t d i is e l b kept =
 pub received-corrected : (p : Bool) (most a i : ℕ) (d t : List ℕ) → most ≤ 3 → a ≤ 1023 → i ≤ 3 → length d ≡ dataSize p → Below 256 d
     → Corrected p most (sentImage p a i d) t → received p t ≡ readableAs i d
 received-corrected p most a i d t hm ha hi l b came =
-    data-corrected p t d i
-    (type-kept t (came .size) (subst (λ (bs : List ℕ). flips (getD bs 0 0) (getD (bytesOf t) 0 0) ≤ 2) (sent-bytes p a i d ha hi l b) (came .type)))
+    data-corrected p t d i (sent-is-data p a i d ha hi l b (Kept 3 p) most t came)
     (header-came p a i d ha hi l b t (le-trans (came .header) hm) .1) l b
     (subst (λ (u : List ℕ). Kept 3 p u (usefulOf t)) (sent-useful p a i d ha hi l b) (came .useful))
 
@@ -238,7 +267,8 @@ kept-more false u v k = k
 kept-more true u v k = λ w h. omega (arith, k w h)
 
 pub corrected-came : (p : Bool) (most : ℕ) (s t : List ℕ) → Corrected p most s t → Came p most s t
-corrected-came p most s t c = record { size = c .size; header = c .header; useful = kept-more p (usefulOf s) (usefulOf t) (c .useful) }
+corrected-came p most s t c =
+    record { size = c .size; header = c .header; type = c .type; useful = kept-more p (usefulOf s) (usefulOf t) (c .useful) }
 
 -- "reading a written image gives what went in"
 pub received-sent : (p : Bool) (a i : ℕ) (d : List ℕ) → a ≤ 1023 → i ≤ 3 → length d ≡ dataSize p → Below 256 d

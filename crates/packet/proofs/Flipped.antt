@@ -5,10 +5,13 @@
 --   flipped-size, flipped-spare  94 bytes, spare bit 0
 --   wordFlips s t w              how many flips there are in word w of t, which came of s
 --   flipped-header, flipped-type, flipped-word, flipped-other     how many flips there are, and where
---   flipped-came                 no more than are let pass in the header, four in a word, and any type byte, may come of what was sent
+--   flipped-came                 no more than are let pass in the header, two in the type byte and four in a word may come of what was
+--                                sent
 --   flipped-read                 three, three and two in the type byte are corrected
 --   flipped-short                four in a word: 31
 --   flipped-control              a type byte that is read as 3F: 29
+--   control-came                 no more than are let pass in the header, and two in the type byte, may come of a control packet, whatever
+--                                becomes of its useful bytes
 --   spareSet s                   the image with its spare bit 1
 --   spareSet-spare, spareSet-header
 --
@@ -41,10 +44,10 @@ use Rattle.words.specs.Protected.{protected, wordsOf, informations, failed, dat
 use Rattle.words.proofs.Each.{failed-whole}
 use Rattle.words.proofs.Packing.{words-protected, words-length, segments-below, segments-length, protected-length, protected-below, word24s-below}
 use Rattle.packet.specs.Received.{typeOf, usefulOf, received, written, readableAs}
-use Rattle.packet.specs.Damage.{sentImage, Kept, Came}
+use Rattle.packet.specs.Damage.{sentImage, controlImage, Kept, CameBy, Came, ControlCame}
 use Rattle.packet.specs.declared.Reading.{Reading}
 use Rattle.packet.proofs.Answers.{indexOf, number-control, answer-type, answer-protected, isData, data-short}
-use Rattle.packet.proofs.Damages.{sent-header, sent-useful, received-corrected}
+use Rattle.packet.proofs.Damages.{written-header, written-bytes, sent-header, sent-useful, received-corrected}
 
 -- ---- the image
 
@@ -193,23 +196,24 @@ module _ (a c : ℕ) (d : List ℕ) (x : Flipping) (z : Fits a c d x) where
       go (yes e) = subst (λ (k : ℕ). wordFlips (sentImage true a c d) (flipped a c d x) k ≤ most) (sym e) (omega (arith, few, flipped-word))
       go (no e) = omega (arith, flipped-other w e)
 
-  pub flipped-came : (most : ℕ) → ones (x .header) ≤ most → ones (x .word) ≤ 4 → Came true most (sentImage true a c d) (flipped a c d x)
-  flipped-came most few four = record {
+  flipped-by : (words most : ℕ) → ones (x .header) ≤ most → flips 0x00 (x .type) ≤ 2 → ones (x .word) ≤ words
+      → CameBy (Kept words true) most (sentImage true a c d) (flipped a c d x)
+  flipped-by words most few two four = record {
     size = flipped-size;
     header = omega (arith, few, flipped-header);
-    useful = flipped-kept 4 four;
+    type = omega (arith, two, flipped-type);
+    useful = flipped-kept words four;
   }
+
+  pub flipped-came : (most : ℕ) → ones (x .header) ≤ most → flips 0x00 (x .type) ≤ 2 → ones (x .word) ≤ 4
+      → Came true most (sentImage true a c d) (flipped a c d x)
+  flipped-came most few two four = flipped-by 4 most few two four
 
   -- ---- what it is received as
 
   pub flipped-read : ones (x .header) ≤ 3 → flips 0x00 (x .type) ≤ 2 → ones (x .word) ≤ 3 → received true (flipped a c d x) ≡ readableAs c d
   flipped-read few two three =
-      received-corrected true 3 a c d (flipped a c d x) (omega arith) (z .address) (z .index) (z .size) (z .bytes) (record {
-        size = flipped-size;
-        header = omega (arith, few, flipped-header);
-        type = omega (arith, two, flipped-type);
-        useful = flipped-kept 3 three;
-      })
+      received-corrected true 3 a c d (flipped a c d x) (omega arith) (z .address) (z .index) (z .size) (z .bytes) (flipped-by 3 3 few two three)
 
   type-with : typeOf (flipped a c d x) ≡ typeNear types (x .type)
   unfolding typeOf
@@ -252,6 +256,22 @@ module _ (a c : ℕ) (d : List ℕ) (x : Flipping) (z : Fits a c d x) where
       let is = isData (flipped a c d x) flipped-size t in
       ap (λ (r : Reading). r .number) (answer-protected (flipped a c d x) is
       ∙ data-short (indexOf (flipped a c d x)) (dataRead (usefulOf (flipped a c d x))) (short four))
+
+  pub control-came : (most : ℕ) (u : List ℕ) → length u ≡ 90 → Below 256 u → ones (x .header) ≤ most → flips 0x3F (x .type) ≤ 2
+      → ControlCame most (controlImage a c u) (flipped a c d x)
+  control-came most u l b few two = record {
+    size = flipped-size;
+    header = omega (
+      arith,
+      few,
+      ap₂ flips (written-header a c 0x3F u (z .address) (z .index) (lit< tt) l b) header-with,
+      flips-of (word23 (a + 1024 * c)) (x .header),
+    );
+    type = subst (λ (n : ℕ). n ≤ 2)
+        (sym (ap₂ (λ (ss ts : List ℕ). flips (getD ss 0 0) (getD ts 0 0))
+        (written-bytes a c 0x3F u (z .address) (z .index) (lit< tt) l b) bytes-with)) two;
+    useful = tt;
+  }
 
   pub flipped-control : typeNear types (x .type) ≡ 0x3F → received true (flipped a c d x) .number ≡ 29
   flipped-control control =

@@ -6,7 +6,8 @@
 --   shielded            the protected image, 94 bytes
 --   shielded-sent       it is what is sent
 --   typed t             a packet with that type byte
---   types-answered      00 and 03 are data; 55 is 28, 3F and C7 are 29, F8 is 30, each also with two flips
+--   types-answered      00 and 03 are data; 55 is 28, 3F is 29, C7 is 47, F8 is 30, each also with two flips. Beyond two: 0F, four
+--                       flips of 00, is 29; 2A and 38, three of 3F, are 28 and 30
 --   lengths-answered    no bytes, 93 and 95 bytes are 20
 --   word-answered       a word with four flips is 31
 --
@@ -55,8 +56,8 @@ shielded-sent = ap (written 17 0 0x00) words.counting-useful
 abbrev typed : ℕ → List ℕ
 typed t = written 17 0 t image.counting
 
-pub types-answered : map (λ (t : ℕ). receivedNumber false (typed t)) (0x00 ∷ 0x03 ∷ 0x55 ∷ 0x3F ∷ 0xFF ∷ 0xC7 ∷ 0x07 ∷ 0xF8 ∷ 0xFB ∷ [])
-    ≡ (0 ∷ 0 ∷ 28 ∷ 29 ∷ 29 ∷ 29 ∷ 29 ∷ 30 ∷ 30 ∷ [])
+pub types-answered : map (λ (t : ℕ). receivedNumber false (typed t)) (0x00 ∷ 0x03 ∷ 0x55 ∷ 0x3F ∷ 0xFF ∷ 0xC7 ∷ 0x07 ∷ 0xF8 ∷ 0xFB ∷ 0x0F ∷ 0x2A ∷ 0x38 ∷ [])
+    ≡ (0 ∷ 0 ∷ 28 ∷ 29 ∷ 29 ∷ 47 ∷ 47 ∷ 30 ∷ 30 ∷ 29 ∷ 28 ∷ 30 ∷ [])
 unfolding receivedNumber refusal unreadable typeOf typeNear flips ones onesIn bytesOf written imageOf numbersIn number bitsOf sent word23 remainder divide line less
 types-answered = refl
 

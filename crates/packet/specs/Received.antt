@@ -1,9 +1,9 @@
--- What a packet's type byte and data are read as, knowing no state (document 01, sections 1, 2 and 6), and the image that is
--- written.
+-- What a packet's type byte and data are read as, knowing no state (document 01, sections 1, 2 and 6; document 02, Ask 6), and the
+-- image that is written.
 --
 --   typeOf s, usefulOf s           the type that the first of the 91 bytes is read as, 256 where none; the 90 others
 --   hasFault protected s f         which of the faults it has
---   receivedNumber protected s     20, 28, 29, 30, 31 in this order, otherwise 0
+--   receivedNumber protected s     20, 28, 29, 47, 30, 31 in this order, otherwise 0
 --   receivedBytes protected s      the 90 useful bytes, or the 45 of protected data
 --   received protected s           number, place of the word that made it 31, index, bytes with 0 behind them
 --   written address index type useful     the image of a packet

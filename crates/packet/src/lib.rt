@@ -23,8 +23,8 @@ pub struct Reading {
     pub bytes: [u8; Packet::USEFUL],
 }
 
-// What an image is read as. 20: not 94 bytes; 28: type unreadable; 29: type 3F or C7; 30: type F8; 31: a protected word
-// can't be read.
+// What an image is read as. 20: not 94 bytes; 28: type unreadable; 29: type 3F, a control packet; 47: type C7; 30: type F8;
+// 31: a protected word can't be read.
 pub fn received(protected: bool, image: &[u8]) -> Reading
     ensures { λ r. ⌜ r ≡ received protected (now (image .entry)) ⌝ }
 {
@@ -44,7 +44,7 @@ pub fn received(protected: bool, image: &[u8]) -> Reading
     }
 }
 
-// What the type byte refuses: 28, 29 or 30, otherwise 0.
+// What the type byte refuses: 28, 29, 47 or 30, otherwise 0.
 pub fn type_refusal(image: &[u8]) -> u8
     requires { ⌜ length (now image) ≡ 94 ⌝ }
     ensures { λ r. ⌜ r ≡ refusal (rowsBy (hasFault false (now (image .entry))) (typeUnreadable ∷ typeControl ∷ typeReserved ∷ typeScrambled ∷ [])) ⌝ }

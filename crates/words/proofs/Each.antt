@@ -2,6 +2,7 @@
 --
 --   failed-pass, failed-stop, failed-le      the place of the first that cannot be read
 --   failed-whole   where none fails, each is below 4,096
+--   failed-first   where one fails, it is that at this place, and each before it is below 4,096; first-word: of thirty words
 --   Read, one-read, one-unread    one word, by its number
 --   Reached        what is known when the first w words have been read; reached-none, reached-more, reached-stop, reached-end
 --   words-short, words-whole, words-small    what is read of thirty words, by the place of the first that fails
@@ -20,13 +21,14 @@ use lib.Dec.{ltb}
 use lib.ListN.{length, getD, drop, length-map}
 use lib.Seq.{drop-cons, drop-length}
 use Rattle.bits.specs.Bits.{flips, blank}
+use Rattle.bits.proofs.Storing.{getD-map}
 use Rattle.golay.specs.Code.{word24, nearest}
 use Rattle.bare.specs.Bare.{wordRead, Judged}
 use Rattle.bare.specs.declared.Word.{Word}
 use Rattle.bare.proofs.Theorems.{word-readable, word-unreadable}
 use Rattle.words.specs.Protected.{wordsOf, informations, failed, turned, wordsRead, dataRead}
 use Rattle.words.specs.declared.Words.{Words}
-use Rattle.words.proofs.Packing.{data-length}
+use Rattle.words.proofs.Packing.{data-length, words-length}
 
 pub failed-pass : (i : ℕ) (is : List ℕ) → i < 4096 → failed (i ∷ is) ≡ suc (failed is)
 unfolding failed
@@ -137,6 +139,38 @@ failed-whole (i ∷ is) e k = go (decLt i 4096) (failed-whole is) k
     go (yes h) rest zero = h
     go (yes h) rest (suc j) = rest (omega (arith, failed-pass i is h)) j
     go (no h) rest j = absurd (omega (arith, failed-stop i is (omega arith)))
+
+-- the first that cannot be read, and none before it
+pub failed-first : (is : List ℕ) → failed is < length is → (4096 ≤ getD is (failed is) 0) × ((v : ℕ) → v < failed is → getD is v 0 < 4096)
+failed-first [] h = absurd (omega (arith, h))
+failed-first (i ∷ is) h = go (decLt i 4096) (failed-first is)
+  where
+    go : Dec (i < 4096) → (failed is < length is → (4096 ≤ getD is (failed is) 0) × ((v : ℕ) → v < failed is → getD is v 0 < 4096))
+        → (4096 ≤ getD (i ∷ is) (failed (i ∷ is)) 0) × ((v : ℕ) → v < failed (i ∷ is) → getD (i ∷ is) v 0 < 4096)
+    go (yes k) rest =
+        let e = failed-pass i is k in
+        let r = rest (omega (arith, h, e)) in
+        (subst (λ (n : ℕ). 4096 ≤ getD (i ∷ is) n 0) (sym e) (r .0), below e (r .1))
+      where
+        below : failed (i ∷ is) ≡ suc (failed is) → ((v : ℕ) → v < failed is → getD is v 0 < 4096) → (v : ℕ) → v < failed (i ∷ is)
+            → getD (i ∷ is) v 0 < 4096
+        below e before zero l = k
+        below e before (suc v) l = before v (omega (arith, l, e))
+    go (no k) rest =
+        let e = failed-stop i is (omega arith) in
+        (subst (λ (n : ℕ). 4096 ≤ getD (i ∷ is) n 0) (sym e) (omega arith), λ v l. absurd (omega (arith, l, e)))
+
+pub first-word : (u : List ℕ) → dataRead u .place < 30
+    → (4096 ≤ nearest word24 (getD (wordsOf u) (dataRead u .place) 0))
+    × ((v : ℕ) → v < dataRead u .place → nearest word24 (getD (wordsOf u) v 0) < 4096)
+unfolding dataRead wordsRead informations
+first-word u h =
+    let ns = wordsOf u in
+    let long = length-map ns (nearest word24) in
+    let first = failed-first (informations ns) (omega (arith, h, long, words-length u)) in (
+      subst (λ (i : ℕ). 4096 ≤ i) (getD-map (nearest word24) ns (failed (informations ns)) (omega (arith, h, words-length u))) (first .0),
+      λ v l. subst (λ (i : ℕ). i < 4096) (getD-map (nearest word24) ns v (omega (arith, l, h, words-length u))) (first .1 v l),
+    )
 
 pub words-small : (ns : List ℕ) → length ns ≡ 30 → (k : ℕ) → getD (wordsRead ns .informations) k 0 < 4096
 unfolding blank informations

@@ -2,6 +2,7 @@
 
 use crate::calls;
 use crate::MARK;
+use second::group::Detailed;
 use second::samples::calls::{Answer, Call};
 use second::samples::difference;
 
@@ -58,10 +59,20 @@ fn make(call: &Call, state: &mut [u8]) -> Answer {
             calls::follow(state, address, protection, limit).into()
         }
         &Call::Leave(address) => calls::leave(state, address).into(),
-        Call::Packet(image) => calls::packet(state, image).into(),
+        Call::Packet(image) => packet(state, image).into(),
         Call::SubframeEnd => calls::subframe_end(state).into(),
         &Call::SetHeaderFlips(most) => calls::set_header_flips(state, most).into(),
         &Call::Ask(address) => calls::ask(state, address).into(),
         Call::BoardText(address, notice) => calls::board_text(state, *address, notice).into(),
     }
+}
+
+/// Takes an image in by the call that tells what its number carries. The call that does not has to do the same to a copy.
+fn packet(state: &mut [u8], image: &[u8]) -> Detailed {
+    let mut copy = state.to_vec();
+    let number = calls::packet(&mut copy, image);
+    let answer = calls::packet_detail(state, image);
+    assert_eq!(answer.number, number, "{image:02x?}");
+    assert_eq!(difference(state, &copy), None, "{image:02x?}");
+    answer
 }

@@ -2,6 +2,7 @@
 //! right about a length is the library's to say.
 
 use crate::{MARK, MARK_SIZE};
+use second::group::Detailed;
 use second::table::Lent;
 
 extern "C" {
@@ -15,6 +16,14 @@ extern "C" {
     ) -> u8;
     fn feed_leave(state: *mut u8, state_len: usize, address: u32) -> u8;
     fn feed_packet(state: *mut u8, state_len: usize, image: *const u8, image_len: usize) -> u8;
+    fn feed_packet_detail(
+        state: *mut u8,
+        state_len: usize,
+        image: *const u8,
+        image_len: usize,
+        awaited_or_place: *mut u8,
+        came: *mut u8,
+    ) -> u8;
     fn feed_subframe_end(state: *mut u8, state_len: usize) -> u8;
     fn feed_set_header_flips(state: *mut u8, state_len: usize, most: u32) -> u8;
     fn feed_ask(
@@ -66,6 +75,28 @@ pub fn packet(state: &mut [u8], image: &[u8]) -> u8 {
     // SAFETY: the call reads the image and reads and writes the state, each within its length. The state is borrowed
     // alone, so the two do not overlap.
     unsafe { feed_packet(start, length, image.as_ptr(), image.len()) }
+}
+
+/// The same with what the number carries.
+pub fn packet_detail(state: &mut [u8], image: &[u8]) -> Detailed {
+    let (mut awaited_or_place, mut came) = (MARK, MARK);
+    // SAFETY: the call reads the image and reads and writes the state, each within its length, and writes these two values. The
+    // state is borrowed alone, so nothing overlaps.
+    let number = unsafe {
+        feed_packet_detail(
+            state.as_mut_ptr(),
+            state.len(),
+            image.as_ptr(),
+            image.len(),
+            &mut awaited_or_place,
+            &mut came,
+        )
+    };
+    Detailed {
+        number,
+        awaited_or_place,
+        came,
+    }
 }
 
 pub fn subframe_end(state: &mut [u8]) -> u8 {

@@ -1,4 +1,4 @@
-//! Headers: the library against both other implementations.
+//! Headers: the library against both other implementations. Seeds are odd: a seed's lowest bit makes no other one.
 
 use against::{read_header, read_header_within, write_header};
 use second::golay::SETTINGS;
@@ -59,7 +59,7 @@ fn some_numbers_read_as_second_reads_them() {
 
 #[test]
 fn too_large_to_read() {
-    let mut random = Xorshift::new(12);
+    let mut random = Xorshift::new(13);
     let edges = [1 << 23, (1 << 23) + 1, 1 << 24, 1 << 31, u32::MAX];
     let others = (0..10_000).map(|_| random.number() | 1 << 23);
     for n in edges.into_iter().chain(others) {
@@ -70,7 +70,7 @@ fn too_large_to_read() {
 /// Both sides of each edge: noise alone has three flips mostly.
 #[test]
 fn settings_as_second_reads_them() {
-    let mut random = Xorshift::new(13);
+    let mut random = Xorshift::new(15);
     for round in 0..8_000 {
         let n = samples::header(&mut random, round % 4);
         for most in SETTINGS.chain(NO_SETTINGS) {
@@ -82,7 +82,7 @@ fn settings_as_second_reads_them() {
 
 #[test]
 fn no_such_setting() {
-    let mut random = Xorshift::new(14);
+    let mut random = Xorshift::new(17);
     for round in 0..10_000 {
         let n = random.number() >> random.below(12);
         let refused = if n >> 23 == 0 { 48 } else { 33 };
@@ -103,7 +103,7 @@ fn no_such_setting() {
 
 #[test]
 fn too_large_to_read_at_any_setting() {
-    let mut random = Xorshift::new(15);
+    let mut random = Xorshift::new(19);
     for n in [1 << 23, (1 << 23) + 1, 1 << 24, 1 << 31, u32::MAX] {
         for most in SETTINGS.chain(NO_SETTINGS).chain([random.number()]) {
             assert_eq!(read_header_within(n, most), (33, 0, 0, 0), "{n:08x} {most}");

@@ -27,7 +27,7 @@ fn history(seed: u64, length: usize, other: Other) -> Counts {
 
 /// A history is only worth something if it reaches every answer. 34 is reached by no call of it.
 fn all_reached(counts: &Counts) {
-    for number in (0..=7).chain(20..=32).chain([48, 49]) {
+    for number in (0..=7).chain(20..=32).chain(47..=49) {
         assert!(counts[number] > 10, "{number}: {:?}", &counts[..50]);
     }
 }

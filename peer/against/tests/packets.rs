@@ -1,4 +1,5 @@
-//! The packet call with damage counted out: so many flips in the header, in the type byte and in a word.
+//! The packet call with damage counted out: so many flips in the header, in the type byte and in a word. What a number carries
+//! is compared with every packet; tests/details.rs has what it has to be.
 
 use against::both::Both;
 use second::golay::SETTINGS;

@@ -1,11 +1,13 @@
-//! Groups of four packets (section 4 of the paper; 7.4.2.2 of the standard): taken in packet by packet, and written.
+//! Groups of four packets (section 4 of the paper; document 02, Ask 6; 7.4.2.2 of the standard): taken in packet by packet,
+//! and written.
 
 use crate::bits;
 use crate::golay;
-use crate::image::{self, HEADER_AT, IMAGE, PROTECTED, USEFUL, USEFUL_AT};
+use crate::image::{self, Received, HEADER_AT, IMAGE, PROTECTED, USEFUL, USEFUL_AT};
 use crate::numbers::{
     done, refuse_unless, ADDRESS, DONE, HELD, LENGTH, NOT_FOLLOWED, OUT_OF_STEP, PROTECTION,
-    SPARE_BIT, STARTED, WHOLE,
+    SPARE_BIT, STARTED, TYPE_CONTROL, TYPE_RESERVED, TYPE_SCRAMBLED, TYPE_UNREADABLE, WHOLE,
+    WORD_UNREADABLE,
 };
 use crate::slot::{group_length, packet_length, Slot, ADDRESSES, PACKETS, ROOM};
 use crate::table::{self, Table};
@@ -22,50 +24,104 @@ const ANSWERS: [[u8; 4]; 4] = [
     [STARTED, OUT_OF_STEP, OUT_OF_STEP, WHOLE],
 ];
 
-/// Takes an image in. Of the two lengths it does not matter which is looked at first: both are refused alike.
+/// The refusals that end the group under way. A control packet, 29, is not one of them: "a control packet no longer drops a
+/// group or marks a gap".
+const DROPPING: [u8; 5] = [
+    TYPE_UNREADABLE,
+    TYPE_RESERVED,
+    TYPE_SCRAMBLED,
+    WORD_UNREADABLE,
+    OUT_OF_STEP,
+];
+
+/// What a packet is answered: the number, and what goes with two of them.
+#[derive(Clone, Copy, Debug, PartialEq, Eq)]
+pub struct Detailed {
+    pub number: u8,
+    /// With 32 the index that was awaited, with 31 the place of the first word that cannot be read; otherwise 0.
+    pub awaited_or_place: u8,
+    /// With 32 the index that came; otherwise 0.
+    pub came: u8,
+}
+
+/// A number that carries nothing.
+impl From<u8> for Detailed {
+    fn from(number: u8) -> Detailed {
+        Detailed {
+            number,
+            awaited_or_place: 0,
+            came: 0,
+        }
+    }
+}
+
+/// Takes an image in, and tells only the number.
 pub fn packet(state: &mut [u8], image: &[u8]) -> u8 {
+    packet_detail(state, image).number
+}
+
+/// Takes an image in. Of the two lengths it does not matter which is looked at first: both are refused alike.
+pub fn packet_detail(state: &mut [u8], image: &[u8]) -> Detailed {
     if image.len() != IMAGE {
-        return LENGTH;
+        return LENGTH.into();
     }
     table::change(state, |table| arrive(table, image))
 }
 
-fn arrive(table: &mut Table, image: &[u8]) -> u8 {
+fn arrive(table: &mut Table, image: &[u8]) -> Detailed {
     let row = bits::of_bytes(image);
     let spare = row[USEFUL_AT.end];
     if spare {
-        return SPARE_BIT;
+        return SPARE_BIT.into();
     }
     let header = bits::to_number(&row[HEADER_AT]);
     let (number, address, _, _) = golay::read_header_within(header, table.setting);
     // "A header refused so belongs to no slot and changes nothing."
     if number != DONE {
-        return number;
+        return number.into();
     }
     match table.find(address.into()) {
         Some(slot) => slot.arrive(image),
-        None => NOT_FOLLOWED,
+        None => NOT_FOLLOWED.into(),
     }
 }
 
 impl Slot {
-    /// What an image with this slot's address does to it.
-    fn arrive(&mut self, image: &[u8]) -> u8 {
+    /// What an image with this slot's address is answered, and what it does to the slot.
+    fn arrive(&mut self, image: &[u8]) -> Detailed {
         let received = image::received(self.protected, image);
-        if received.number != DONE {
-            self.drop_unfinished();
-            return received.number;
-        }
+        let answer = self.answer(&received);
         let data = &received.bytes[..self.packet_length()];
-        let (awaited, index) = (usize::from(self.awaited), usize::from(received.index));
-        let answer = ANSWERS[awaited][index];
-        match answer {
+        match answer.number {
             STARTED => self.start(data),
-            HELD => self.hold(index, data),
+            HELD => self.hold(received.index.into(), data),
             WHOLE => self.finish(data),
-            _ => self.drop_unfinished(),
+            TYPE_CONTROL => {}
+            number => {
+                assert!(DROPPING.contains(&number), "{number} is no answer");
+                self.drop_unfinished();
+            }
         }
         answer
+    }
+
+    /// "32 carries the index awaited and the index that came; 31 carries the word's place, 0 to 29, the first that failed."
+    /// Awaited is what was awaited before the packet came.
+    fn answer(&self, received: &Received) -> Detailed {
+        let number = match received.number {
+            DONE => ANSWERS[usize::from(self.awaited)][usize::from(received.index)],
+            refused => refused,
+        };
+        let (awaited_or_place, came) = match number {
+            OUT_OF_STEP => (self.awaited, received.index),
+            WORD_UNREADABLE => (received.place, 0),
+            _ => (0, 0),
+        };
+        Detailed {
+            number,
+            awaited_or_place,
+            came,
+        }
     }
 
     /// A group begins. If another was under way, the rest of that is missing.

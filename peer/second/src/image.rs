@@ -2,7 +2,7 @@
 
 use crate::bits;
 use crate::golay;
-use crate::numbers::{DONE, LENGTH, TYPE_RESERVED, TYPE_SCRAMBLED};
+use crate::numbers::{DONE, LENGTH, TYPE_CONTROL, TYPE_RESERVED, TYPE_SCRAMBLED};
 use crate::types;
 use std::ops::Range;
 
@@ -108,8 +108,10 @@ fn check_type(byte: u8) -> Result<(), Refusal> {
     match value {
         _ if number != DONE => Err((number, 0)),
         types::DATA => Ok(()),
+        types::CONTROL => Err((TYPE_CONTROL, 0)),
+        types::RESERVED => Err((TYPE_RESERVED, 0)),
         types::SCRAMBLED => Err((TYPE_SCRAMBLED, 0)),
-        _ => Err((TYPE_RESERVED, 0)),
+        _ => unreachable!("a byte is read as one of four types"),
     }
 }
 

@@ -32,8 +32,8 @@ pub const FULL: u8 = 26;
 pub const NOT_FOLLOWED: u8 = 27;
 /// The type byte is not within two flips of a type.
 pub const TYPE_UNREADABLE: u8 = 28;
-/// The type is 3F or C7.
-pub const TYPE_RESERVED: u8 = 29;
+/// The type is 3F: a control packet.
+pub const TYPE_CONTROL: u8 = 29;
 /// The type is F8.
 pub const TYPE_SCRAMBLED: u8 = 30;
 /// A (24,12) word has no code word within three flips.
@@ -52,6 +52,8 @@ pub const BAD_PAIR: u8 = 44;
 pub const TOO_MANY: u8 = 45;
 /// Of the structure asked for, only a part is known.
 pub const UNFINISHED: u8 = 46;
+/// The type is C7.
+pub const TYPE_RESERVED: u8 = 47;
 /// A setting is above 3.
 pub const SETTING: u8 = 48;
 /// A header is beyond the setting: the nearest word needs more flips than that allows.

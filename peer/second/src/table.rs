@@ -69,15 +69,15 @@ pub fn board_text(state: &[u8], address: u32, notice: &[u8]) -> (u8, Lent, usize
 }
 
 /// Lets a call work on the slots of a state and on its setting, if its length is right and it is good. What it leaves
-/// alone goes back to the bytes that it came from.
-pub(crate) fn change(state: &mut [u8], call: impl FnOnce(&mut Table) -> u8) -> u8 {
+/// alone goes back to the bytes that it came from. An answer is a number, or can be made of one.
+pub(crate) fn change<A: From<u8>>(state: &mut [u8], call: impl FnOnce(&mut Table) -> A) -> A {
     let mut table = match Table::decode(state) {
         Ok(table) => table,
-        Err(number) => return number,
+        Err(number) => return number.into(),
     };
-    let number = call(&mut table);
+    let answer = call(&mut table);
     state.copy_from_slice(&table.encode());
-    number
+    answer
 }
 
 /// The slots of a good state, of which a free one holds nothing, and its setting.

@@ -4,7 +4,9 @@ use crate::bits;
 use crate::numbers::{DONE, TYPE_UNREADABLE};
 
 pub const DATA: u8 = 0x00;
+/// Of a control packet, which is no group's.
 pub const CONTROL: u8 = 0x3F;
+/// Of no use yet.
 pub const RESERVED: u8 = 0xC7;
 pub const SCRAMBLED: u8 = 0xF8;
 pub const TYPES: [u8; 4] = [DATA, CONTROL, RESERVED, SCRAMBLED];

@@ -1,11 +1,13 @@
-//! Section 10: errors that look reasonable. Each test fails for an adapter that makes its error.
+//! Section 10: errors that look reasonable; and readings of document 02, Ask 6, that do. Each test fails for an adapter that
+//! makes its error.
 
 use second::golay::read_word;
-use second::group::{packet, write_group};
-use second::image::{HEADER_AT, TYPE_AT};
+use second::group::{packet, packet_detail, write_group, Detailed};
+use second::image::{write_image, HEADER_AT, TYPE_AT};
 use second::samples::states::started;
-use second::samples::{flip, word_at};
+use second::samples::{difference, flip, word_at};
 use second::table::{ask, follow, subframe_end};
+use second::types::{CONTROL, RESERVED};
 
 type Images = Vec<Vec<u8>>;
 
@@ -134,4 +136,186 @@ fn a_stale_group_with_a_gap_is_stale() {
     assert_eq!(asked(&state), (6, Some(1)));
     subframe_end(&mut state);
     assert_eq!(asked(&state), (7, Some(1)));
+}
+
+/// A packet of a type that is no data's, with useful bytes that are no words.
+fn of_type(kind: u8, index: u32) -> Vec<u8> {
+    write_image(17, index, kind, &[0x5A; 90]).to_vec()
+}
+
+/// Every byte that is read as a type: with no flip, with one and with two.
+fn near(kind: u8) -> impl Iterator<Item = u8> {
+    (0..=255).filter(move |byte: &u8| (byte ^ kind).count_ones() <= 2)
+}
+
+/// A control packet, of which nothing may come.
+fn control(state: &mut [u8], image: &[u8]) {
+    let before = state.to_vec();
+    assert_eq!(packet_detail(state, image), Detailed::from(29));
+    assert_eq!(difference(state, &before), None);
+}
+
+/// Four flips in a word.
+fn spoil(image: &mut [u8], place: usize) {
+    for bit in [0, 9, 18, 23] {
+        flip(image, word_at(place).start + bit);
+    }
+}
+
+fn told(number: u8, awaited_or_place: u8, came: u8) -> Detailed {
+    Detailed {
+        number,
+        awaited_or_place,
+        came,
+    }
+}
+
+/// Wrong: 29 clears the awaited index, as a refusal. The group goes on behind it, wherever it comes and whatever its index.
+#[test]
+fn a_group_goes_on_behind_a_control_packet() {
+    for byte in near(CONTROL) {
+        for index in 0..4 {
+            let mut state = following();
+            for (next, answer) in [(0, 1), (1, 2), (2, 2), (3, 3)] {
+                control(&mut state, &of_type(byte, index));
+                assert_eq!(send(&mut state, &group(1), &[next]), [answer]);
+            }
+            assert_eq!(asked(&state), (5, Some(1)));
+        }
+    }
+}
+
+/// Wrong: 29 marks a gap, as every refusal once its address was found. What is fresh stays fresh.
+#[test]
+fn a_control_packet_marks_no_gap() {
+    let mut state = following();
+    control(&mut state, &of_type(CONTROL, 0));
+    assert_eq!(asked(&state), (4, None));
+    assert_eq!(send(&mut state, &group(1), &[0, 1, 2, 3]), [1, 2, 2, 3]);
+    for index in 0..4 {
+        control(&mut state, &of_type(CONTROL, index));
+        assert_eq!(asked(&state), (5, Some(1)));
+    }
+    // Nor does it take a gap away.
+    assert_eq!(send(&mut state, &group(2), &[1]), [32]);
+    control(&mut state, &of_type(CONTROL, 0));
+    assert_eq!(asked(&state), (6, Some(1)));
+}
+
+/// Wrong: a control packet shows that the address lives, so its group is as good as new.
+#[test]
+fn a_control_packet_keeps_no_group_fresh() {
+    let mut state = following();
+    assert_eq!(send(&mut state, &group(1), &[0, 1, 2, 3]), [1, 2, 2, 3]);
+    for number in [5, 7] {
+        assert_eq!(subframe_end(&mut state), 0);
+        control(&mut state, &of_type(CONTROL, 0));
+        assert_eq!(asked(&state), (number, Some(1)));
+    }
+}
+
+/// Wrong: "directly after a start" no longer holds, as 29 stands between: 3, 1, 29, 1 would be fresh. The rest of a group is missing
+/// all the same.
+#[test]
+fn an_early_start_behind_a_control_packet_is_a_gap() {
+    for begun in [&[0][..], &[0, 1], &[0, 1, 2]] {
+        let mut state = following();
+        assert_eq!(send(&mut state, &group(1), &[0, 1, 2, 3]), [1, 2, 2, 3]);
+        send(&mut state, &group(2), begun);
+        control(&mut state, &of_type(CONTROL, 0));
+        assert_eq!(asked(&state), (5, Some(1)));
+        assert_eq!(send(&mut state, &group(3), &[0]), [1]);
+        assert_eq!(asked(&state), (6, Some(1)));
+    }
+}
+
+/// Wrong the other way: 3, 29, 1 is no gap, as nothing was under way.
+#[test]
+fn a_start_behind_a_whole_group_and_a_control_packet_is_no_gap() {
+    let mut state = following();
+    assert_eq!(send(&mut state, &group(1), &[0, 1, 2, 3]), [1, 2, 2, 3]);
+    control(&mut state, &of_type(CONTROL, 3));
+    assert_eq!(send(&mut state, &group(2), &[0]), [1]);
+    assert_eq!(asked(&state), (5, Some(1)));
+}
+
+/// Wrong: C7 is 29 still; or it has its own number, and what 29 no longer does it does not do either.
+#[test]
+fn type_c7_ends_the_group() {
+    for byte in near(RESERVED) {
+        for begun in [&[][..], &[0], &[0, 1], &[0, 1, 2]] {
+            let mut state = following();
+            assert_eq!(send(&mut state, &group(1), &[0, 1, 2, 3]), [1, 2, 2, 3]);
+            send(&mut state, &group(2), begun);
+            // Also where it has the index that is awaited.
+            let image = of_type(byte, begun.len() as u32);
+            assert_eq!(packet_detail(&mut state, &image), Detailed::from(47));
+            assert!(state[..360].iter().all(|&byte| byte == 0));
+            assert_eq!(asked(&state), (6, Some(1)));
+            assert_eq!(send(&mut state, &group(2), &[1, 2, 3]), [32, 32, 32]);
+        }
+    }
+}
+
+/// Wrong: the two indices of 32 exchanged; or the one that is awaited behind the call, which is always 0.
+#[test]
+fn the_awaited_index_is_told_first() {
+    for awaited in 0..4 {
+        for came in (1..4).filter(|&came| came != awaited) {
+            let mut state = following();
+            let images = group(1);
+            send(&mut state, &images, &[0, 1, 2][..awaited]);
+            let answer = packet_detail(&mut state, &images[came]);
+            assert_eq!(answer, told(32, awaited as u8, came as u8));
+            // It was dropped: what is awaited now is 0.
+            let answer = packet_detail(&mut state, &images[came]);
+            assert_eq!(answer, told(32, 0, came as u8));
+        }
+    }
+}
+
+/// Wrong: the place of the last word that failed, or how many did; or the packet's index beside it.
+#[test]
+fn the_first_word_that_failed_is_told() {
+    for first in 0..30 {
+        for last in first..30 {
+            let mut state = following();
+            let mut images = group(1);
+            spoil(&mut images[1], first);
+            if last != first {
+                spoil(&mut images[1], last);
+            }
+            assert_eq!(send(&mut state, &images, &[0]), [1]);
+            let answer = packet_detail(&mut state, &images[1]);
+            assert_eq!(answer, told(31, first as u8, 0));
+        }
+    }
+}
+
+/// Wrong: what a call carried before is there still. Only 31 and 32 carry anything.
+#[test]
+fn nothing_is_left_over_from_the_call_before() {
+    let images = group(1);
+    let mut bad_word = images[1].clone();
+    spoil(&mut bad_word, 17);
+    let mut spare = images[0].clone();
+    spare[93] |= 128;
+    let elsewhere = write_image(18, 2, 0, &[7; 90]).to_vec();
+    let others = [
+        (&images[0], 1),
+        (&spare, 21),
+        (&elsewhere, 27),
+        (&of_type(0x55, 2), 28),
+        (&of_type(CONTROL, 2), 29),
+        (&of_type(RESERVED, 2), 47),
+        (&of_type(0xF8, 2), 30),
+    ];
+    for (image, number) in others {
+        for (before, answer) in [(&images[3], told(32, 0, 3)), (&bad_word, told(31, 17, 0))] {
+            let mut state = following();
+            assert_eq!(packet_detail(&mut state, before), answer);
+            assert_eq!(packet_detail(&mut state, image), Detailed::from(number));
+            assert_eq!(packet_detail(&mut state, &image[1..]), Detailed::from(20));
+        }
+    }
 }

@@ -2,8 +2,8 @@
 
 mod sha256;
 
-use second::group::{packet, write_group};
-use second::image::{protect, write_image};
+use second::group::{packet, packet_detail, write_group, Detailed};
+use second::image::{protect, write_image, TYPE_AT};
 use second::samples::{difference, flip, flip_some, states, word_at};
 use second::slot::SLOT as SIZE;
 use second::table::{ask, follow, set_header_flips};
@@ -139,11 +139,28 @@ fn the_table_of_section_4() {
             let data = random.bytes::<90>()[..size].to_vec();
             let mut state = dirty(&mut random, protected, awaited);
             let mut after = state.clone();
-            let answer = taken(&mut after[SLOT..SLOT + SIZE], index, &data);
+            let number = taken(&mut after[SLOT..SLOT + SIZE], index, &data);
             let image = image_of(protected, index, DATA, &data);
-            assert_eq!(packet(&mut state, &image), answer);
+            let mut other = state.clone();
+            let carried = if number == 32 {
+                (awaited, index)
+            } else {
+                (0, 0)
+            };
+            assert_eq!(packet_detail(&mut state, &image), told(number, carried));
             assert_eq!(difference(&state, &after), None, "{awaited} {index}");
+            // The call that tells only the number does the same.
+            assert_eq!(packet(&mut other, &image), number);
+            assert_eq!(difference(&other, &after), None, "{awaited} {index}");
         }
+    }
+}
+
+fn told(number: u8, (awaited_or_place, came): (u8, u8)) -> Detailed {
+    Detailed {
+        number,
+        awaited_or_place,
+        came,
     }
 }
 
@@ -185,40 +202,54 @@ fn dropped(slot: &mut [u8]) {
     slot[GAP] = 1;
 }
 
-/// 28 to 31 come before 32, and do the same, whatever is awaited and whatever comes.
+/// 28, 47, 30 and 31 come before 32, and do the same, whatever is awaited and whatever comes. 29 comes before it too, and does
+/// nothing, not even to dirt.
 #[test]
 fn what_cannot_be_read_ends_the_group() {
     let mut random = Xorshift::new(63);
     for (awaited, index) in pairs() {
-        for (kind, number) in [(0x55, 28), (0x3F, 29), (0xC7, 29), (0xF8, 30), (DATA, 31)] {
+        for (kind, number) in [(0x55, 28), (0x3F, 29), (0xC7, 47), (0xF8, 30), (DATA, 31)] {
             let mut state = dirty(&mut random, true, awaited);
             let mut after = state.clone();
-            dropped(&mut after[SLOT..SLOT + SIZE]);
+            if number != 29 {
+                dropped(&mut after[SLOT..SLOT + SIZE]);
+            }
             let mut image = image_of(true, index, kind, &random.bytes::<45>());
             // Four flips in a word, also where the type is refused before.
-            let place = word_at(random.below(30));
-            flip_some(&mut random, &mut image, place, 4);
-            assert_eq!(packet(&mut state, &image), number);
+            let place = random.below(30);
+            flip_some(&mut random, &mut image, word_at(place), 4);
+            let carried = if number == 31 { place as u8 } else { 0 };
+            let answer = packet_detail(&mut state, &image);
+            assert_eq!(answer, told(number, (carried, 0)));
             assert_eq!(difference(&state, &after), None, "{number}");
         }
     }
 }
 
+/// Packets of the slot under test that are out of step; each but the first has a word that cannot be read, too.
+fn out_of_step() -> [[u8; 94]; 6] {
+    let step = image_of(true, 1, DATA, &[7; 45]);
+    let mut word = step;
+    for bit in [0, 9, 18, 23] {
+        flip(&mut word, word_at(29).start + bit);
+    }
+    // A type is one of four, or none: which of these refusals comes first cannot be seen.
+    let [none, control, reserved, scrambled] = [0x15, 0x3F, 0xC7, 0xF8].map(|kind| {
+        let mut image = word;
+        (0..8).for_each(|bit| set(&mut image, TYPE_AT.start + bit, kind >> bit & 1 == 1));
+        image
+    });
+    [step, word, none, control, reserved, scrambled]
+}
+
 /// Each of these has the faults of those below it too, so that only the order can decide.
 #[test]
 fn the_order_of_a_packet() {
-    let mut random = Xorshift::new(64);
-    let mut good = dirty(&mut random, true, 0);
+    let mut good = dirty(&mut Xorshift::new(64), true, 0);
     assert_eq!(set_header_flips(&mut good, 2), 0);
     let mut bad = good.clone();
     bad[SLOT + GAP] = 2;
-    let step = image_of(true, 1, DATA, &[7; 45]);
-    let mut word = step;
-    flip_some(&mut random, &mut word, word_at(29), 4);
-    let mut kind = word;
-    for bit in [23, 25, 27] {
-        flip(&mut kind, bit);
-    }
+    let [step, word, none, control, reserved, scrambled] = out_of_step();
     let other = write_image(ADDRESS + 100, 1, 0x15, &[7; 90]);
     let mut far = other;
     for bit in [0, 9, 20] {
@@ -226,19 +257,29 @@ fn the_order_of_a_packet() {
     }
     let mut spare = far;
     spare[93] |= 128;
-    let rows: [(&[u8], &[u8], u8); 10] = [
-        (&bad[1..], &spare[1..], 20),
-        (&bad, &spare[1..], 20),
-        (&bad[1..], &spare, 20),
-        (&bad, &spare, 34),
-        (&good, &spare, 21),
-        (&good, &far, 49),
-        (&good, &other, 27),
-        (&good, &kind, 28),
-        (&good, &word, 31),
-        (&good, &step, 32),
+    let rows: [(&[u8], &[u8], u8, (u8, u8)); 13] = [
+        (&bad[1..], &spare[1..], 20, (0, 0)),
+        (&bad, &spare[1..], 20, (0, 0)),
+        (&bad[1..], &spare, 20, (0, 0)),
+        (&bad, &spare, 34, (0, 0)),
+        (&good, &spare, 21, (0, 0)),
+        (&good, &far, 49, (0, 0)),
+        (&good, &other, 27, (0, 0)),
+        (&good, &none, 28, (0, 0)),
+        (&good, &control, 29, (0, 0)),
+        (&good, &reserved, 47, (0, 0)),
+        (&good, &scrambled, 30, (0, 0)),
+        (&good, &word, 31, (29, 0)),
+        (&good, &step, 32, (0, 1)),
     ];
-    for (state, image, number) in rows {
-        assert_eq!(packet(&mut state.to_vec(), image), number);
+    for (state, image, number, carried) in rows {
+        let answer = packet_detail(&mut state.to_vec(), image);
+        assert_eq!(answer, told(number, carried));
+    }
+}
+
+fn set(bytes: &mut [u8], bit: usize, one: bool) {
+    if (bytes[bit / 8] >> (bit % 8) & 1 == 1) != one {
+        flip(bytes, bit);
     }
 }

@@ -37,7 +37,7 @@ fn protected_bytes_have_zeros_behind_them() {
 #[test]
 fn types_are_answered_by_their_numbers() {
     let numbers = TYPES.map(|kind| received(false, &write_image(1, 0, kind, &[7; 90])).number);
-    assert_eq!(numbers, [0, 29, 29, 30]);
+    assert_eq!(numbers, [0, 29, 47, 30]);
     let unreadable = write_image(1, 2, 0x55, &[7; 90]);
     assert_eq!(received(false, &unreadable), refused(28, 0));
     assert_eq!(received(true, &unreadable), refused(28, 0));
@@ -86,7 +86,7 @@ fn the_type_comes_before_the_words() {
     useful[0] = 0x0F;
     let numbers = [0x00, 0x3F, 0xC7, 0xF8, 0x55]
         .map(|kind| received(true, &write_image(1, 1, kind, &useful)).number);
-    assert_eq!(numbers, [31, 29, 29, 30, 28]);
+    assert_eq!(numbers, [31, 29, 47, 30, 28]);
 }
 
 #[test]

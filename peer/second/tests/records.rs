@@ -1,7 +1,8 @@
 //! The record program: the paper's sample, bad records of every sort, and a whole group by way of records.
 
 use second::group::write_group;
-use second::records::answers;
+use second::image::write_image;
+use second::records::{answers, answers_by};
 
 /// A record of version 1.
 fn record(kind: u8, body: &[u8]) -> Vec<u8> {
@@ -84,6 +85,43 @@ fn three_flips_in_a_header_are_put_right() {
         input.extend(record(1, image));
     }
     assert_eq!(numbers(&input), [0, 1, 2, 2, 3]);
+}
+
+/// A line has the bare number, whatever it carries: a control packet in mid-group, of which nothing comes; type C7, which ends
+/// the group; and with 31 and 32 neither place nor index.
+#[test]
+fn numbers_stand_alone() {
+    let mut images = [0; 376];
+    assert_eq!(write_group(17, 1, &[7; 180], &mut images), 0);
+    let mut parts: Vec<Vec<u8>> = images.chunks(94).map(|image| record(1, image)).collect();
+    let [control, reserved] =
+        [0x3F, 0xC7].map(|kind| record(1, &write_image(17, 2, kind, &[7; 90])));
+    images[20] ^= 0x0F;
+    parts.push(record(1, &images[..94]));
+    let [p0, p1, p2, p3, hurt] = &parts[..] else {
+        panic!("five packets");
+    };
+    let input = [
+        &follow(17, 1, 2),
+        p0,
+        p1,
+        &control,
+        p2,
+        &control,
+        p3,
+        &ask(17),
+        &control,
+        &ask(17),
+        p0,
+        &reserved,
+        p1,
+        &ask(17),
+        hurt,
+    ];
+    let input: Vec<u8> = input.into_iter().flatten().copied().collect();
+    let expected = [0, 1, 2, 29, 2, 29, 3, 5, 29, 5, 1, 47, 32, 6, 31];
+    assert_eq!(numbers(&input), expected);
+    assert_eq!(answers_by(second::fast::packet, &input), answers(&input));
 }
 
 /// Refused calls print their number, and the program goes on.

@@ -66,7 +66,7 @@ fn an_address_that_nobody_follows_is_no_address() {
     }
 }
 
-/// Wrong: 49 is a packet of the address that could not be read, so it drops the group and marks a gap, as 28 to 32 do.
+/// Wrong: 49 is a packet of the address that could not be read, so it drops the group and marks a gap, as 28 does.
 #[test]
 fn a_group_goes_on_behind_it() {
     let mut state = following(1);
@@ -129,14 +129,15 @@ fn every_other_call_keeps_it() {
             assert_eq!(follow(&mut state, address, 0, 1), 0);
         }
         let mut answers = vec![follow(&mut state, 117, 0, 1), leave(&mut state, 116)];
-        for (index, kind) in [(0, 0), (1, 0), (3, 0), (0, 0x3F), (0, 0xF8), (0, 0x55)] {
+        let kinds = [0x3F, 0xC7, 0xF8, 0x55].map(|kind| (0, kind));
+        for (index, kind) in [(0, 0), (1, 0), (3, 0)].into_iter().chain(kinds) {
             answers.push(packet(&mut state, &write_image(101, index, kind, &[7; 90])));
         }
         for address in (101..=115).rev() {
             assert_eq!(subframe_end(&mut state), 0);
             assert_eq!(leave(&mut state, address), 0);
         }
-        assert_eq!(answers, [26, 0, 1, 2, 32, 29, 30, 28]);
+        assert_eq!(answers, [26, 0, 1, 2, 32, 29, 47, 30, 28]);
         // Nothing else is left.
         let mut expected = vec![0; STATE];
         expected[SETTING_AT] = most as u8;

@@ -1,4 +1,4 @@
--- `group::told` meets its contract: both indices with 32, otherwise neither. Assumes nothing.
+-- `group::told` meets its contract: both indices with 32, otherwise the place. Assumes nothing.
 use mathlib.Core.Path.{_≡_, sym, ap}
 use mathlib.Core.Bool.{Bool, true, false, cond}
 use Prim.Native.Nat.{ℕ}
@@ -11,7 +11,7 @@ use Rattle.group.proofs.told.Tie as tie
 
 -- the answer by the code's test
 abbrev answerBy : Bool → ℕ → ℕ → ℕ → ℕ → Answer
-answerBy t n p a i = record { number = n; place = p; awaited = cond t a 0; came = cond t i 0 }
+answerBy t n p a i = record { number = n; detail = cond t a p; came = cond t i 0 }
 
 told-by : (n p a i : ℕ) (t : Bool) → eqb n 32 ≡ t → answerBy t n p a i ≡ answerOf n p a i
 told-by n p a i t e = ap (λ (x : Bool). answerBy x n p a i) (sym e)

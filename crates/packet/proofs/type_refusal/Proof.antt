@@ -1,4 +1,4 @@
--- `packet::type_refusal` meets its contract: the rows 28, 29, 29, 30.
+-- `packet::type_refusal` meets its contract: the rows 28, 29, 47, 30.
 -- Assumes nothing.
 use mathlib.Core.Path.{_≡_, sym, _∙_}
 use mathlib.Core.List.{List}

@@ -1,6 +1,7 @@
-//! What the calls answer: enums in place of the numbers 1 to 7, and refusals with their reasons.
+//! What the calls answer: enums in place of the numbers 1 to 7.
 
-use std::fmt;
+use super::refusal::Refusal;
+use second::group::Detailed;
 
 /// How the packets of an address carry their data.
 #[derive(Clone, Copy, Debug, PartialEq, Eq)]
@@ -34,14 +35,19 @@ pub enum Worth {
     Stale,
 }
 
-/// Why a call was refused: the number that the library gave.
-#[derive(Clone, Copy, Debug, PartialEq, Eq)]
-pub struct Refusal(pub u8);
-
 pub(super) fn accepted(number: u8) -> Result<(), Refusal> {
     match number {
         0 => Ok(()),
-        number => Err(Refusal(number)),
+        number => Err(Refusal::of(number)),
+    }
+}
+
+pub(super) fn taken(answer: Detailed) -> Result<Taken, Refusal> {
+    match answer.number {
+        1 => Ok(Taken::Started),
+        2 => Ok(Taken::Held),
+        3 => Ok(Taken::Whole),
+        _ => Err(Refusal::of_packet(answer)),
     }
 }
 
@@ -51,37 +57,6 @@ pub(super) fn worth(number: u8) -> Result<Worth, Refusal> {
         5 => Ok(Worth::Fresh),
         6 => Ok(Worth::Doubtful),
         7 => Ok(Worth::Stale),
-        number => Err(Refusal(number)),
+        number => Err(Refusal::of(number)),
     }
 }
-
-impl fmt::Display for Refusal {
-    fn fmt(&self, text: &mut fmt::Formatter) -> fmt::Result {
-        let reason = match self.0 {
-            20 => "a length is wrong",
-            21 => "the spare bit is set",
-            22 => "the address is not 1 to 1,022",
-            23 => "the protection is not 0 or 1",
-            24 => "the limit is not 1 to 1,500",
-            25 => "the address is followed already",
-            26 => "no slot is free",
-            27 => "the address is not followed",
-            28 => "the type cannot be read",
-            29 => "the type is reserved",
-            30 => "the data is scrambled",
-            31 => "a protected word cannot be read",
-            32 => "the packet is out of step",
-            33 => "a number has too many bits",
-            34 => "the state is not good",
-            44 => "a pair of lines or clock periods is bad",
-            45 => "there are too many components",
-            46 => "the structure is not known to be whole",
-            48 => "the setting is above 3",
-            49 => "the header is beyond the setting",
-            _ => "a number that no call gives",
-        };
-        write!(text, "{reason} ({})", self.0)
-    }
-}
-
-impl std::error::Error for Refusal {}

@@ -1,6 +1,7 @@
 //! Bare headers, read without a state: by the table, and by the plain reader that names none.
 
-use super::answers::{accepted, Refusal};
+use super::answers::accepted;
+use super::refusal::Refusal;
 
 /// What 23 bits are read as, and how many of them were flipped.
 #[derive(Clone, Copy, Debug, PartialEq, Eq)]

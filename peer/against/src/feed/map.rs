@@ -1,6 +1,7 @@
 //! The multiplex's map as a program in Rust would use it.
 
-use super::answers::{accepted, Refusal};
+use super::answers::accepted;
+use super::refusal::Refusal;
 use crate::map;
 use second::map::{IDS, MAP};
 
@@ -47,7 +48,7 @@ impl Map {
             (0 | 46, ..) => Ok(Map {
                 bytes: Box::new(*bytes),
             }),
-            (number, ..) => Err(Refusal(number)),
+            (number, ..) => Err(Refusal::of(number)),
         }
     }
 

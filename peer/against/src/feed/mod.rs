@@ -7,13 +7,15 @@
 mod answers;
 mod header;
 mod map;
+mod refusal;
 
-pub use answers::{Protection, Refusal, Taken, Worth};
+pub use answers::{Protection, Taken, Worth};
 pub use header::{read_header, read_header_plain, Header};
 pub use map::{Map, Reach, Structure};
+pub use refusal::Refusal;
 
 use crate::calls;
-use answers::{accepted, worth};
+use answers::{accepted, taken, worth};
 use second::group::IMAGES;
 use second::table::{Lent, STATE};
 
@@ -38,7 +40,7 @@ impl Feed {
             (22, _, _) => Ok(Feed {
                 state: Box::new(*bytes),
             }),
-            (number, _, _) => Err(Refusal(number)),
+            (number, _, _) => Err(Refusal::of(number)),
         }
     }
 
@@ -71,15 +73,11 @@ impl Feed {
     }
 
     /// Takes a packet's image in. Refused, and nothing is changed: 20 for its length, 21 for its spare bit, 49 if its
-    /// header has more flips than the setting says, 27 if its address is not followed. Refused, and the group under way is
-    /// given up: 28 to 30 for its type, 31 for a word that cannot be read, 32 for its index.
+    /// header has more flips than the setting says, 27 if its address is not followed, 29 if it is a control packet. Refused,
+    /// and the group under way is given up: 28, 47 and 30 for its type, 31 for a word that cannot be read, with its place, 32
+    /// for its index, with the one that was awaited.
     pub fn packet(&mut self, image: &[u8]) -> Result<Taken, Refusal> {
-        match calls::packet(&mut self.state[..], image) {
-            1 => Ok(Taken::Started),
-            2 => Ok(Taken::Held),
-            3 => Ok(Taken::Whole),
-            number => Err(Refusal(number)),
-        }
+        taken(calls::packet_detail(&mut self.state[..], image))
     }
 
     /// A subframe has ended: every whole group is older by one.

@@ -33,17 +33,17 @@ fn reach(row: u8, unbroken: bool, components: usize) -> Reach {
 #[test]
 fn annex_c() {
     let mut map = annex_c_heard();
-    assert_eq!(map.take(&STRUCTURE[1..]), Err(Refusal(20)));
+    assert_eq!(map.take(&STRUCTURE[1..]), Err(Refusal::Length));
     assert_eq!(map.change_in(0x20), Some(12));
     assert_eq!(map.change_in(0x22), None);
     // Of what is in force nothing was heard yet; of what comes, a part.
     assert_eq!(map.component(0x20, 118), Ok(None));
-    assert_eq!(map.component(0x20, 130), Err(Refusal(46)));
+    assert_eq!(map.component(0x20, 130), Err(Refusal::Unfinished));
     assert_eq!(map.heard(0x20, 130), Ok((vec![EXPECTED], false)));
     assert_eq!(map.reach(118), reach(2, false, 0));
     assert_eq!(map.reach(130), reach(2, false, 1));
     assert_eq!(
-        Refusal(46).to_string(),
+        Refusal::Unfinished.to_string(),
         "the structure is not known to be whole (46)"
     );
 }
@@ -69,7 +69,7 @@ fn annex_c_to_the_change() {
     let mut kept = *map.bytes();
     assert!(Map::from_bytes(&kept).is_ok());
     kept[MAP - 2] = 2;
-    assert_eq!(Map::from_bytes(&kept).err(), Some(Refusal(34)));
+    assert_eq!(Map::from_bytes(&kept).err(), Some(Refusal::NotGood));
 }
 
 /// It says what the calls under it say.

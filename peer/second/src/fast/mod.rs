@@ -4,7 +4,7 @@ mod group;
 mod state;
 mod tables;
 
-pub use group::{packet, write_group};
+pub use group::{packet, packet_detail, write_group};
 
 use crate::image::{IMAGE, PROTECTED, USEFUL};
 use crate::numbers::{DONE, HEADER_BEYOND, LENGTH, SETTING, TOO_LARGE, WORD_UNREADABLE};

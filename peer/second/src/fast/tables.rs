@@ -3,7 +3,7 @@
 //! Bit k of a number is the k-th bit sent and stands for x^(22-k). Remainders are kept the same way round: bit j of a
 //! remainder stands for x^(10-j).
 
-use crate::numbers::{DONE, TYPE_RESERVED, TYPE_SCRAMBLED, TYPE_UNREADABLE};
+use crate::numbers::{DONE, TYPE_CONTROL, TYPE_RESERVED, TYPE_SCRAMBLED, TYPE_UNREADABLE};
 
 /// G(x) without x^11, turned round like the remainders: x^10, x^6, x^5, x^4, x^2, 1.
 const GENERATOR: u32 = 1 << 0 | 1 << 4 | 1 << 5 | 1 << 6 | 1 << 8 | 1 << 10;
@@ -93,7 +93,9 @@ const fn type_numbers() -> [u8; 256] {
     while byte < 256 {
         if near(byte, 0x00) {
             table[byte] = DONE;
-        } else if near(byte, 0x3F) || near(byte, 0xC7) {
+        } else if near(byte, 0x3F) {
+            table[byte] = TYPE_CONTROL;
+        } else if near(byte, 0xC7) {
             table[byte] = TYPE_RESERVED;
         } else if near(byte, 0xF8) {
             table[byte] = TYPE_SCRAMBLED;

@@ -1,12 +1,13 @@
 //! Calls on a state as values, so that two implementations can be given the same ones; and histories of them.
 
 use super::{damage, flip, flip_some, word_at, WORDS};
+use crate::fast;
+use crate::group::{self, Detailed};
 use crate::image::{self, USEFUL_AT};
 use crate::slot::Slot;
 use crate::table::{self, Lent, Table};
 use crate::types::{DATA, TYPES};
 use crate::xorshift::Xorshift;
-use crate::{fast, group};
 
 #[derive(Clone, Debug, PartialEq, Eq)]
 pub enum Call {
@@ -23,23 +24,43 @@ pub enum Call {
     BoardText(u32, Vec<u8>),
 }
 
-/// A call's number, and the part that ask and board text hand back: of which buffer, from where, how long.
+/// A call's number; what a packet's carries; and the part that ask and board text hand back: of which buffer, from where, how
+/// long.
 #[derive(Debug, PartialEq, Eq)]
 pub struct Answer {
     pub number: u8,
+    /// The whole answer of a packet, of which the number is a part. Other calls have none.
+    pub packet: Option<Detailed>,
     pub part: Option<(Lent, usize, usize)>,
 }
 
 impl From<u8> for Answer {
     fn from(number: u8) -> Answer {
-        Answer { number, part: None }
+        Answer {
+            number,
+            packet: None,
+            part: None,
+        }
+    }
+}
+
+impl From<Detailed> for Answer {
+    fn from(answer: Detailed) -> Answer {
+        Answer {
+            number: answer.number,
+            packet: Some(answer),
+            part: None,
+        }
     }
 }
 
 impl From<(u8, Lent, usize, usize)> for Answer {
     fn from((number, lent, at, length): (u8, Lent, usize, usize)) -> Answer {
-        let part = Some((lent, at, length));
-        Answer { number, part }
+        Answer {
+            number,
+            packet: None,
+            part: Some((lent, at, length)),
+        }
     }
 }
 
@@ -58,7 +79,7 @@ impl Call {
                 table::follow(state, address, protection, limit).into()
             }
             &Call::Leave(address) => table::leave(state, address).into(),
-            Call::Packet(image) => group::packet(state, image).into(),
+            Call::Packet(image) => group::packet_detail(state, image).into(),
             Call::SubframeEnd => table::subframe_end(state).into(),
             &Call::SetHeaderFlips(most) => table::set_header_flips(state, most).into(),
             &Call::Ask(address) => table::ask(state, address).into(),
@@ -69,7 +90,7 @@ impl Call {
     /// The same with the fast packet call.
     pub fn make_fast(&self, state: &mut [u8]) -> Answer {
         match self {
-            Call::Packet(image) => fast::packet(state, image).into(),
+            Call::Packet(image) => fast::packet_detail(state, image).into(),
             _ => self.make(state),
         }
     }

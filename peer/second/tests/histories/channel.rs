@@ -1,10 +1,10 @@
-//! What becomes of packets on their way.
+//! What becomes of packets on their way. No type byte has more than two flips (document 02, Ask 6), so that data stays data and
+//! a control packet a control packet.
 
 use second::fast;
 use second::golay::MOST_FLIPS;
 use second::image::{HEADER_AT, TYPE_AT, USEFUL_AT};
 use second::samples::{flip, flip_some, word_at, WORDS};
-use second::types::read_type;
 use second::xorshift::Xorshift;
 
 /// What was done to a packet, as far as the bookkeeping has to know it.
@@ -13,7 +13,7 @@ pub enum Fate {
     /// It does not come, or is refused with 20 or 21, or with 49 by the setting in force, or is read as an address that
     /// nobody follows.
     Lost,
-    /// It comes, and its type or a word of it cannot be read as data.
+    /// It comes, and a word of it cannot be read. Plain data has no words.
     Unreadable,
     /// It comes, with no more flips than can be put right; in its header, than are put right at the setting in force.
     Readable,
@@ -34,11 +34,11 @@ impl Channel {
     }
 
     /// A packet's fate, before it is sent. Whether one more may be lost is the line's to say.
-    pub fn fate(&self, random: &mut Xorshift, may_be_lost: bool) -> Fate {
+    pub fn fate(&self, random: &mut Xorshift, may_be_lost: bool, protected: bool) -> Fate {
         let number = random.below(16);
         if number < self.lost && may_be_lost {
             Fate::Lost
-        } else if (6..6 + self.unreadable).contains(&number) {
+        } else if protected && (6..6 + self.unreadable).contains(&number) {
             Fate::Unreadable
         } else {
             Fate::Readable
@@ -59,7 +59,7 @@ pub fn carried(
         Fate::Lost => return lose(random, setting, image),
         Fate::Unreadable => {
             harm(random, setting, protected, &mut image);
-            spoil(random, protected, &mut image);
+            spoil(random, &mut image);
         }
         Fate::Readable => harm(random, setting, protected, &mut image),
     }
@@ -94,11 +94,16 @@ pub fn go_beyond(random: &mut Xorshift, setting: u32, image: &mut [u8]) {
     flip_some(random, image, HEADER_AT, setting as usize + more);
 }
 
-/// Flips that can be put right. In plain data none can.
-fn harm(random: &mut Xorshift, setting: u32, protected: bool, image: &mut [u8]) {
+/// Flips that can be put right in the header and in the type byte.
+pub fn harm_front(random: &mut Xorshift, setting: u32, image: &mut [u8]) {
     let (header, kind) = (random.below(1 + setting as usize), random.below(3));
     flip_some(random, image, HEADER_AT, header);
     flip_some(random, image, TYPE_AT, kind);
+}
+
+/// Flips that can be put right. In plain data none can.
+fn harm(random: &mut Xorshift, setting: u32, protected: bool, image: &mut [u8]) {
+    harm_front(random, setting, image);
     for place in 0..WORDS {
         if protected {
             let count = random.below(4);
@@ -107,17 +112,11 @@ fn harm(random: &mut Xorshift, setting: u32, protected: bool, image: &mut [u8]) 
     }
 }
 
-/// More flips in a word or in the type byte, until it cannot be read as data.
-fn spoil(random: &mut Xorshift, protected: bool, image: &mut [u8]) {
-    if protected && random.chance() {
-        let place = word_at(random.below(WORDS));
-        while fast::read_word(word(image, place.start)).0 == 0 {
-            flip_some(random, image, place.clone(), 1);
-        }
-        return;
-    }
-    while let (0, 0, _) = read_type(image[2] >> 7 | image[3] << 1) {
-        flip_some(random, image, TYPE_AT, 3);
+/// More flips in a word, until it cannot be read.
+fn spoil(random: &mut Xorshift, image: &mut [u8]) {
+    let place = word_at(random.below(WORDS));
+    while fast::read_word(word(image, place.start)).0 == 0 {
+        flip_some(random, image, place.clone(), 1);
     }
 }
 

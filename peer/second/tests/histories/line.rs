@@ -1,10 +1,11 @@
 //! One address: what was sent to it, what was answered, and what that must have led to.
 
-use crate::channel::{carried, go_beyond, Channel, Fate};
+use crate::channel::{carried, go_beyond, harm_front, Channel, Fate};
 use second::group::{packet, write_group};
 use second::image::write_image;
 use second::samples::difference;
 use second::table::{ask, board_text, follow, leave, Lent};
+use second::types::{CONTROL, RESERVED, SCRAMBLED};
 use second::xorshift::Xorshift;
 
 const NOTICE: &[u8] = b"no platform known";
@@ -82,7 +83,7 @@ impl Line {
         if self.next == 0 {
             self.compose(random);
         }
-        self.fate = channel.fate(random, self.lost < MOST_LOST);
+        self.fate = channel.fate(random, self.lost < MOST_LOST, self.protected);
         self.lost = match self.fate {
             Fate::Lost => self.lost + 1,
             _ => 0,
@@ -112,7 +113,7 @@ impl Line {
         match self.fate {
             Fate::Lost => assert!([20, 21, 27, 49].contains(&number), "{number}"),
             _ if !self.followed => assert_eq!(number, 27),
-            Fate::Unreadable => assert!((28..=31).contains(&number), "{number}"),
+            Fate::Unreadable => assert_eq!(number, 31),
             Fate::Readable => assert!([1, 2, 3, 32].contains(&number), "{number}"),
         }
         if self.fate != Fate::Lost && self.followed {
@@ -123,6 +124,46 @@ impl Line {
             assert!(state[at..at + length] == self.message, "the group sent");
             self.shown = Some(self.message.clone());
         }
+    }
+
+    /// A packet at its address that is none of its groups', a control packet mostly. Gives the number.
+    pub fn send_other(&mut self, random: &mut Xorshift, state: &mut [u8], setting: u32) -> u8 {
+        match random.below(7) {
+            0 => self.foreign(random, state),
+            _ => self.control(random, state, setting),
+        }
+    }
+
+    /// A control packet, with any index and any useful bytes, anywhere between the packets of the groups: it is no group's
+    /// packet, so nothing comes of it; and it is not the end of a lost run, so those lost are not counted anew.
+    fn control(&mut self, random: &mut Xorshift, state: &mut [u8], setting: u32) -> u8 {
+        let index = random.below(4) as u32;
+        let mut image = write_image(self.address, index, CONTROL, &random.bytes());
+        harm_front(random, setting, &mut image);
+        let before = state.to_vec();
+        let number = packet(state, &image);
+        assert_eq!(number, if self.followed { 29 } else { 27 });
+        assert_eq!(difference(state, &before), None);
+        if self.followed {
+            self.transcript.push(Event::Answered(number));
+        }
+        number
+    }
+
+    /// A packet of a type that the address does not carry: C7, F8 or none. Demand 3 does not speak of these. Each ends the group
+    /// under way, whatever came of it, and marks a gap.
+    fn foreign(&mut self, random: &mut Xorshift, state: &mut [u8]) -> u8 {
+        let (kind, number) = [(0x55, 28), (RESERVED, 47), (SCRAMBLED, 30)][random.below(3)];
+        let index = random.below(4) as u32;
+        let image = write_image(self.address, index, kind, &random.bytes());
+        let answer = packet(state, &image);
+        assert_eq!(answer, if self.followed { number } else { 27 });
+        if self.followed {
+            self.transcript.push(Event::Answered(number));
+            // Between two groups there is nothing to end. The next one is composed when its first packet is sent.
+            self.complete = false;
+        }
+        answer
     }
 
     /// What is none of its packets and only looks like one, further off than the setting allows: nothing comes of it,
@@ -182,17 +223,17 @@ impl Line {
     }
 }
 
-/// A refusal, or a start directly after a start or a packet held.
+/// A refusal that marks, or a start directly after a start or a packet held. A control packet's 29 is passed over, before a start
+/// too: 3, 1, 29, 1 has a gap, and 3, 29, 1 has none.
 fn gap(events: &[Event]) -> bool {
     let mut before = 3;
     for event in events {
-        let Event::Answered(number) = *event else {
-            continue;
-        };
-        if number >= 28 || number == 1 && before != 3 {
-            return true;
+        match *event {
+            Event::SubframeEnded | Event::Answered(29) => {}
+            Event::Answered(28 | 47 | 30 | 31 | 32) => return true,
+            Event::Answered(1) if before != 3 => return true,
+            Event::Answered(number) => before = number,
         }
-        before = number;
     }
     false
 }

@@ -9,7 +9,7 @@ returns : tie.Need-returns
 unfolding numberDrops
 returns c =
     let n = c .args .number in
-    by-tests (eqb n 28) (eqb n 29) (eqb n 29) (eqb n 30) (eqb n 31) (eqb n 32)
+    by-tests (eqb n 28) (eqb n 29) (eqb n 47) (eqb n 30) (eqb n 31) (eqb n 32)
 
 pub drop-spec : {M : Type 1} → statement M
 drop-spec = tie.close (tie.spec returns)

@@ -3,7 +3,7 @@
 use crate::row::{byte, digest, fill, front, put, turn, wide};
 use crate::Machine;
 use second::golay::{read_header, read_header_within, read_word, write_header, write_word};
-use second::group::{packet, write_group};
+use second::group::{packet, packet_detail, write_group};
 use second::image::{protect, received, write_image, IMAGE, PROTECTED, USEFUL};
 use second::plain::read_header_plain;
 use second::table::{ask, board_text, follow, leave, set_header_flips, start, subframe_end, Lent, STATE};
@@ -66,8 +66,14 @@ impl Calls {
             ("end", []) => self.changed(subframe_end),
             ("set-header-flips", &[most]) => self.changed(|state| set_header_flips(state, wide(most))),
             ("packet", &[image, len]) => {
-                let image = front(self.images.get(IMAGE * image as usize..)?, len).to_vec();
+                let image = self.image(image, len)?;
                 self.changed(|state| packet(state, &image))
+            }
+            ("detail", &[image, len]) => {
+                let image = self.image(image, len)?;
+                let it = packet_detail(self.state(), &image);
+                let carried = [it.number, it.awaited_or_place, it.came].map(u64::from);
+                Some([&carried[..], &[digest(self.state())]].concat())
             }
             ("ask", &[address]) => {
                 let (number, at, len) = ask(self.state(), wide(address));
@@ -82,6 +88,12 @@ impl Calls {
             }
             _ => None,
         }
+    }
+
+    /// The image that a row names, and as many of its bytes as it lends.
+    fn image(&self, image: u64, len: u64) -> Option<Vec<u8>> {
+        let images = self.images.get(IMAGE * image as usize..)?;
+        Some(front(images, len).to_vec())
     }
 
     fn board(&self, address: u64, len: u64) -> Vec<u64> {
