@@ -1,4 +1,5 @@
 pub mod Coming
+pub mod Control
 pub mod Exactness
 pub mod Freshness
 pub mod Full
