@@ -1,6 +1,6 @@
 -- What is sent to an address, what comes of it, and what demand 3 says is handed out. A group is `per` packets, four of them in
 -- 7.4.2.2, and the first `needs` of them make it whole; packet c of group i is packet per * i + c of its address. Control packets may be
--- sent anywhere between them: such a one is "no group's packet .. or the end of a lost run", so it has no number.
+-- sent anywhere between them: such a one is not "a group's packet in demand 3 or the end of a lost run there", so it has no number.
 --
 --   Sent                    the bytes of packet c of group i
 --   Arrival                 a group's packet that arrives readable, one that arrives and is refused, a control packet, the end of a subframe
