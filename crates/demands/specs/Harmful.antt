@@ -95,6 +95,21 @@ showing shown board =
       values = ours .values;
     }
 
+-- another telling of what a packet's number carries, another writer, other bare calls
+abbrev speaking : (List ℕ → List ℕ → Details) → (ℕ → ℕ → List ℕ → List ℕ → List ℕ) → (Bare → ℕ) → (Bare → List ℕ) → Machine
+speaking details written bare values =
+    record {
+      answer = ourAnswer;
+      after = ourAfter;
+      details = details;
+      shown = ours .shown;
+      board = ours .board;
+      writes = ours .writes;
+      written = written;
+      bare = bare;
+      values = values;
+    }
+
 -- the slot of an address
 abbrev slotOf : List ℕ → ℕ → List ℕ
 slotOf s a = slotAt (find s a) s
@@ -238,18 +253,7 @@ indulgent = but ourAnswer (leaving startAfter followed left (λ image s. cond (e
 -- ---- what a packet's answer carries
 
 abbrev telling : (List ℕ → List ℕ → Details) → Machine
-telling details =
-    record {
-      answer = ourAnswer;
-      after = ourAfter;
-      details = details;
-      shown = ours .shown;
-      board = ours .board;
-      writes = ours .writes;
-      written = ours .written;
-      bare = ours .bare;
-      values = ours .values;
-    }
+telling details = speaking details (ours .written) (ours .bare) (ours .values)
 
 abbrev pub swapping : Machine
 swapping = telling (λ image s. record { detail = ourDetails image s .came; came = ourDetails image s .detail })
@@ -260,18 +264,7 @@ lingering = telling (λ image s. record { detail = headOf (slotOf s (addressOf i
 -- ---- the bare calls, and the writer
 
 abbrev pub mute : Machine
-mute =
-    record {
-      answer = ourAnswer;
-      after = ourAfter;
-      details = ours .details;
-      shown = ours .shown;
-      board = ours .board;
-      writes = ours .writes;
-      written = ours .written;
-      bare = λ x. 33;
-      values = λ x. 0 ∷ [];
-    }
+mute = speaking (ours .details) (ours .written) (λ x. 33) (λ x. 0 ∷ [])
 
 unfoldable pub atMostTwo : Bare → Bare
 atMostTwo (readHeader n) = readHeader n
@@ -284,29 +277,8 @@ atMostTwo (readType b) = readType b
 atMostTwo (writeType b) = writeType b
 
 abbrev pub timid : Machine
-timid =
-    record {
-      answer = ourAnswer;
-      after = ourAfter;
-      details = ours .details;
-      shown = ours .shown;
-      board = ours .board;
-      writes = ours .writes;
-      written = ours .written;
-      bare = λ x. bareNumber (atMostTwo x);
-      values = λ x. bareValues (atMostTwo x);
-    }
+timid = speaking (ours .details) (ours .written) (λ x. bareNumber (atMostTwo x)) (λ x. bareValues (atMostTwo x))
 
 abbrev pub sparing : Machine
 sparing =
-    record {
-      answer = ourAnswer;
-      after = ourAfter;
-      details = ours .details;
-      shown = ours .shown;
-      board = ours .board;
-      writes = ours .writes;
-      written = λ a p m o. let w = writeAfter a p m o in set w 93 (getD w 93 0 + 128);
-      bare = ours .bare;
-      values = ours .values;
-    }
+    speaking (ours .details) (λ a p m o. let w = writeAfter a p m o in set w 93 (getD w 93 0 + 128)) (ours .bare) (ours .values)

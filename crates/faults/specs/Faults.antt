@@ -19,7 +19,8 @@ use Prim.Native.Nat.{ℕ}
 use lib.Dec.{eqb}
 use Rattle.bits.specs.Rows.{Row, row}
 
--- "type unreadable", "the control type 3F", "type C7", "type F8", "a protected word can't be read", "out of step"
+-- "type unreadable", "the control type 3F", "type C7", "type F8", "a protected word can't be read", "out of step". In the standard
+-- (7.4.2.3) 3F is "reserved for potential use with control or interpretation packets", C7 "reserved", F8 "with conditional access scrambling"
 pub data Fault : Type 0 where
   typeUnreadable : Fault
   typeControl : Fault

@@ -35,6 +35,7 @@ carried true bytes = protected bytes
 abbrev pub sentImage : Bool → ℕ → ℕ → List ℕ → List ℕ
 sentImage p address index bytes = written address index 0x00 (carried p bytes)
 
+-- 7.4.2.3: type byte 3F, "control or interpretation packets"
 abbrev pub controlImage : ℕ → ℕ → List ℕ → List ℕ
 controlImage address index useful = written address index 0x3F useful
 
