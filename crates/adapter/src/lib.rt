@@ -1,6 +1,8 @@
 // The packet call and the group writer. No call has a `requires`: every slice and every number is answered.
 //
 // write    the four images of a group
+#![tactic(auto)]
+
 ghost use Rattle.std.specs.Prelude.{◌≡◌, [], length};
 ghost use Rattle.bits.specs.Rows.{refusal, done};
 ghost use Rattle.bare.specs.Bare.{header_read};

@@ -3,6 +3,8 @@
 //
 // chunk    what it does with what a read gave
 // text     lines, put into a buffer
+#![tactic(auto)]
+
 ghost use Rattle.std.specs.Prelude.{◌≡◌, true, ◌+◌, ◌≤◌, ◌<◌, length};
 ghost use Rattle.answers.specs.Said.{held, Reached, Offered};
 

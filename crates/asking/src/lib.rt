@@ -1,5 +1,7 @@
 // What the state says of an address: ask, and the text for a board. No call has a `requires`: every slice and every
 // number is answered.
+#![tactic(auto)]
+
 ghost use Rattle.std.specs.Prelude.{◌≡◌, ◌<◌};
 ghost use Rattle.head.specs.Head.{ask_number};
 ghost use Rattle.table.specs.State.{slots};

@@ -1,6 +1,8 @@
 // The codes of ETS 300 352 as bare calls: numbers in, a number and values out. Every number is answered.
 //
 // code    what the calls are made of: words, remainder, the nearest word by the table
+#![tactic(auto)]
+
 ghost use Rattle.std.specs.Prelude.{◌≡◌, ◌%◌, ◌^◌, ◌<◌, ◌≤◌};
 ghost use Rattle.bits.specs.Bits.{flips};
 ghost use Rattle.golay.specs.Code.{word23, remainder, nearest};

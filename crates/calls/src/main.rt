@@ -5,6 +5,8 @@
 // state    the calls on a state
 //
 // Rows that know no state are answered by the crate coderows.
+#![tactic(auto)]
+
 use libc::{STDIN_FILENO, STDOUT_FILENO};
 use rows::tell;
 use rows::tell::Progress;

@@ -2,5 +2,7 @@
 //
 // images   images made of a message, and what they are received as
 // codes    the bare calls, one by one and as the digest of many
+#![tactic(auto)]
+
 pub mod codes;
 pub mod images;

@@ -1,5 +1,7 @@
 // Why a packet whose address is found is refused: the numbers of section 6's rows 28 to 32 and 47, written once, and which of them
 // drop the unfinished group.
+#![tactic(auto)]
+
 ghost use Rattle.std.specs.Prelude.{◌≡◌};
 ghost use Rattle.faults.specs.Faults.{number_drops};
 

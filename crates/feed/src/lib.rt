@@ -2,6 +2,8 @@
 // lent to it. Every call is answered, whatever it is given.
 //
 // calls    the calls on a state, and the group writer
+#![tactic(auto)]
+
 ghost use Rattle.std.specs.Prelude.{◌≡◌};
 ghost use Rattle.bare.specs.Bare.{header_read, header_within, header_written, word_read, word_written, type_read, type_written};
 ghost use Rattle.plain.specs.Plain.{header_plain};

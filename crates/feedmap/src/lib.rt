@@ -1,5 +1,7 @@
 // The map's calls that C and Rust link, beside those of `feed`. Each gives back a number, 0 or a refusal's, and hands its values over
 // through what is lent to it. Every call is answered, whatever it is given.
+#![tactic(auto)]
+
 ghost use Rattle.std.specs.Prelude.{◌≡◌};
 ghost use Rattle.field.specs.Field.{read_number, read_field, write_number, written_after, pack_number, packed, unpack_number, unpacked};
 ghost use Rattle.map.specs.Calls.{start_answer, start_after, take_answer, take_after, shown, list_answer, list_after, heard, known};

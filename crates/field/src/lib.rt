@@ -1,5 +1,7 @@
 // One field of TDM control (4.5.4), 10 bytes: read and written, its structure taken apart, and what is wrong with it. The calls
 // `read`, `write`, `pack` and `unpack` have no `requires`; the rest is for the map.
+#![tactic(auto)]
+
 ghost use Rattle.std.specs.Prelude.{◌≡◌, ◌+◌, ◌≤◌, length};
 ghost use Rattle.runs.specs.Part.{put};
 ghost use Rattle.runs.specs.Numbers.{four, four_at, eight, eight_at};

@@ -2,6 +2,8 @@
 // has the table as one constant.
 //
 // rows    the rows
+#![tactic(auto)]
+
 ghost use Rattle.std.specs.Prelude.{◌≡◌, ◌<◌, get_or};
 ghost use Rattle.golay.proofs.Fours.{four, entry_of};
 ghost use Rattle.golay.proofs.Rule.{patterns};

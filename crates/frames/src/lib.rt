@@ -1,4 +1,6 @@
 // The frames that were heard, by their counts: distances, changes, and whether one was missed. Every count is answered.
+#![tactic(auto)]
+
 ghost use Rattle.std.specs.Prelude.{◌≡◌};
 ghost use Rattle.frames.specs.Counts.{ahead, since, until, good_frames, changing, again, skips, row_after, frames_after, enough, all_heard};
 

@@ -1,5 +1,7 @@
 // One packet at the slot of its address: section 4's table on the slot's bytes. It knows no other slot. The answer passes `refused`
 // or `taken` and no other place; all gap marks are made by `dropped` and by a start.
+#![tactic(auto)]
+
 ghost use Rattle.std.specs.Prelude.{◌≡◌, ◌<◌, ◌≤◌, length};
 ghost use Rattle.slot.specs.Slot.{slot_size, room_size, head_of, with_head};
 ghost use Rattle.head.specs.Head.{whole_head};

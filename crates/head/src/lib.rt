@@ -1,5 +1,7 @@
 // What a slot says of its address, as values: what is wished of follow, and the head, changed by operations that hand the new
 // head back. No byte place is known here.
+#![tactic(auto)]
+
 ghost use Rattle.std.specs.Prelude.{◌≡◌, ◌<◌};
 ghost use Rattle.head.specs.Head.{wish_of, good_wish, wish_answer, free_head, new_head, started_head, held_head, whole_head, dropped_head, aged_head, good_head};
 ghost use Rattle.head.specs.Move.{per_of, needs_of};

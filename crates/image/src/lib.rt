@@ -1,5 +1,7 @@
 // The packet image (document 01, section 1; ETS 300 352, 4.3.6): its header number, its type byte, its 90 useful bytes, its spare bit, and
 // an image made of the first three. It knows no code and no state.
+#![tactic(auto)]
+
 ghost use Rattle.std.specs.Prelude.{◌≡◌, ◌∷◌, ◌^◌, ◌<◌, length, get_or, drop};
 ghost use Rattle.image.specs.Image.{header_of, bytes_of, spare_of, image_of};
 

@@ -3,6 +3,8 @@
 // table (the crate `fours` has it in rows), and the check bits are rows.
 //
 // checks    the check bits
+#![tactic(auto)]
+
 ghost use Rattle.std.specs.Prelude.{◌≡◌, ◌<◌};
 ghost use Rattle.golay.specs.Code.{check, Patterns};
 

@@ -2,6 +2,8 @@
 // seen when it is announced. No call has a `requires`: every slice and every number is answered.
 //
 // look          what the map is asked before a change
+#![tactic(auto)]
+
 ghost use Rattle.std.specs.Prelude.{◌≡◌, ◌<◌, length};
 ghost use Rattle.runs.specs.Part.{part, put};
 ghost use Rattle.structure.specs.Structure.{structure_size};

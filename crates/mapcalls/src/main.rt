@@ -5,6 +5,8 @@
 // taking   the calls that may change the map
 //
 // Rows that change no map are answered by the crate maprows.
+#![tactic(auto)]
+
 use field::Field;
 use libc::{STDIN_FILENO, STDOUT_FILENO};
 use map::Map;

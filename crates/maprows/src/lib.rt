@@ -3,5 +3,7 @@
 //
 // asking   the calls that only read the map
 // fields   a field and its six numbers, read and written
+#![tactic(auto)]
+
 pub mod asking;
 pub mod fields;

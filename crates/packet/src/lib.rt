@@ -1,4 +1,6 @@
 // A packet: what its type byte and data are read as, and the image that is written. It knows no state.
+#![tactic(auto)]
+
 ghost use Rattle.std.specs.Prelude.{◌≡◌, false, [], ◌∷◌, ◌<◌, ◌≤◌, length};
 ghost use Rattle.bits.specs.Rows.{refusal};
 ghost use Rattle.faults.specs.Faults.{type_unreadable, type_control, type_reserved, type_scrambled, rows_by};

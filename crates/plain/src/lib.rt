@@ -5,6 +5,8 @@
 // protection suffix. A pattern is a number too: its ones are the bits that are flipped. Nothing outside this page is called; from the
 // table reader it has the struct `Header`, four numbers, with its bounds. docs/APPROVAL.md says what is proved of it. It assumes nothing of
 // what it is given.
+#![tactic(auto)]
+
 ghost use Rattle.std.specs.Prelude.{◌≡◌, ◌/◌, ◌%◌, ◌≤◌, ◌<◌};
 ghost use Rattle.golay.specs.Code.{remainder};
 ghost use Rattle.plain.specs.Plain.{error_patterns, leaving, header_plain};

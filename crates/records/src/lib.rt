@@ -1,4 +1,6 @@
 // Records: the format of their bytes, and a place by value that moves forward over them.
+#![tactic(auto)]
+
 ghost use Rattle.std.specs.Prelude.{◌≡◌, ◌+◌, ◌≤◌, length};
 ghost use Rattle.runs.specs.Numbers.{two_at};
 ghost use Rattle.records.specs.Format.{body_size, good_head, step_at};

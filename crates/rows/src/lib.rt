@@ -9,6 +9,8 @@
 // read     a row, byte by byte
 // bytes    what a row does to bytes, and their digest
 // tell     a row's answer against what it awaits, what is printed, and how many rows there were
+#![tactic(auto)]
+
 pub mod bytes;
 pub mod read;
 pub mod tell;

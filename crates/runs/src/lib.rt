@@ -1,5 +1,7 @@
 // Runs of bytes: set to 0, copied, and numbers of two, four and eight bytes in them. Each function touches the bytes that it
 // names and no others.
+#![tactic(auto)]
+
 ghost use Rattle.std.specs.Prelude.{◌≡◌, ◌+◌, ◌≤◌, length};
 ghost use Rattle.bits.specs.Bits.{blank};
 ghost use Rattle.runs.specs.Part.{put};

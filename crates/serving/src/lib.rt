@@ -1,4 +1,6 @@
 // Serving: each record is one call on a state, and a pass serves those that are whole.
+#![tactic(auto)]
+
 ghost use Rattle.std.specs.Prelude.{◌≡◌, ◌≤◌, length, take};
 ghost use Rattle.records.specs.Format.{body_size};
 ghost use Rattle.serving.specs.Served.{served_answer, served_after, pass};

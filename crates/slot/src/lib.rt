@@ -2,6 +2,8 @@
 // in the constants below, and nowhere else.
 //
 // room     the two rooms of a slot
+#![tactic(auto)]
+
 ghost use Rattle.std.specs.Prelude.{◌≡◌, eqb, length};
 ghost use Rattle.slot.specs.Slot.{slot_size, head_of, with_head, free, good_slot};
 

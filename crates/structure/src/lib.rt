@@ -1,5 +1,7 @@
 // One component's structure, 71 bytes, gathered field by field. Byte places stand in specs/Structure.antt and in the constants below,
 // and nowhere else.
+#![tactic(auto)]
+
 ghost use Rattle.std.specs.Prelude.{◌≡◌, ◌&&◌, ◌+◌, ◌<◌, eqb, length};
 ghost use Rattle.bits.specs.Bits.{blank};
 ghost use Rattle.structure.specs.Structure.{structure_size, head_of, with_head, nth, with_nth, stored, place_of, next_place, is_next, goes_on, turn_of, gathering_head, completed_head, marked_head, late_of, beginning, gathered, spoiled, none_head, deletion, absence, said, certainly, good_head, complete, settled_head};

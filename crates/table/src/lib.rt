@@ -2,6 +2,8 @@
 // every number is answered.
 //
 // look     what the state is asked before a change: heads, the slot of an address, whether it is good
+#![tactic(auto)]
+
 ghost use Rattle.std.specs.Prelude.{◌≡◌, length};
 ghost use Rattle.table.specs.State.{slots, state_size};
 ghost use Rattle.table.specs.Calls.{start_answer, start_after, follow_answer, follow_after, leave_answer, leave_after, end_answer, end_after, ages, set_answer, set_after};

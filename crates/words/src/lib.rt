@@ -1,4 +1,6 @@
 // Protected data (7.4.2.1, 8.3.2): 90 bytes are thirty words, 45 bytes are thirty informations of twelve bits.
+#![tactic(auto)]
+
 ghost use Rattle.std.specs.Prelude.{◌≡◌, map, ℕ, ◌<◌, length, get_or};
 ghost use Rattle.bits.specs.Bits.{sent, numbers_in};
 ghost use Rattle.golay.specs.Code.{word24};
