@@ -9,7 +9,7 @@ use records::Step;
 
 // How far the program has come: the number of the next record, how many bytes are kept at the buffer's front, whether it goes on; and
 // how many bytes of the output are to be printed.
-#[derive(Drop)]
+#[derive(Clone, Copy)]
 pub struct Progress {
     pub number: u64,
     pub kept: usize,
@@ -18,7 +18,7 @@ pub struct Progress {
 }
 
 // How many answers there are for a buffer, the place behind its last whole record, and whether no bad record stands there.
-#[derive(Drop)]
+#[derive(Clone, Copy)]
 struct Spoken {
     count: usize,
     at: usize,

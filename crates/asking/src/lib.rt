@@ -12,7 +12,7 @@ use slot::Slot;
 use table::look;
 
 // What ask answers: 4 to 7 or a refusal; with 5 to 7 the place and the length of the group in the state.
-#[derive(Drop)]
+#[derive(Clone, Copy)]
 pub struct Asked {
     pub number: u8,
     pub at: usize,

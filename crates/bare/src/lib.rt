@@ -11,7 +11,7 @@ ghost use Rattle.bare.specs.Bare.{header_read, header_within, header_refused, he
 pub mod code;
 
 // A header of 23 bits as it is read: number 0, 33, 48 or 49, address, index, and how many bits were flipped.
-#[derive(Drop)]
+#[derive(Clone, Copy)]
 pub struct Header {
     pub number: u8,
     pub address: u16,
@@ -20,7 +20,7 @@ pub struct Header {
 }
 
 // A word of 24 bits as it is read: number 0, 31 or 33, its twelve bits of information, its flips.
-#[derive(Drop)]
+#[derive(Clone, Copy)]
 pub struct Word {
     pub number: u8,
     pub information: u16,
@@ -28,7 +28,7 @@ pub struct Word {
 }
 
 // A type byte as it is read: number 0 or 28, one of the four values, its flips.
-#[derive(Drop)]
+#[derive(Clone, Copy)]
 pub struct TypeByte {
     pub number: u8,
     pub value: u8,
@@ -36,7 +36,7 @@ pub struct TypeByte {
 }
 
 // What a bare writing gives: its number and the header, word or type.
-#[derive(Drop)]
+#[derive(Clone, Copy)]
 pub struct Written {
     pub number: u8,
     pub value: u32,

@@ -5,7 +5,7 @@
 ghost use Rattle.std.specs.Prelude.{◌≡◌};
 ghost use Rattle.faults.specs.Faults.{number_drops};
 
-#[derive(Drop)]
+#[derive(Clone, Copy)]
 pub struct Faults {}
 
 impl Faults {

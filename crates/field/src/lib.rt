@@ -8,7 +8,7 @@ ghost use Rattle.runs.specs.Numbers.{four, four_at, eight, eight_at};
 ghost use Rattle.field.specs.Field.{field_of, field_bytes, bad_pair, bad_tdms, deletes, key, bad_field, read_number, read_field, write_number, written_after, pack_number, packed, numbers_of, unpack_number, unpacked};
 
 // Frame count, update flag, component, the 62 bits of TDMS as one number, LINKS.
-#[derive(Drop)]
+#[derive(Clone, Copy)]
 pub struct Field {
     pub count: u8,
     pub flag: u8,
@@ -18,7 +18,7 @@ pub struct Field {
 }
 
 // The six numbers of TDMS, as they are coded: line 1 and clock period 1 are 0.
-#[derive(Drop)]
+#[derive(Clone, Copy)]
 pub struct Tdms {
     pub fln1: u32,
     pub lln1: u32,

@@ -6,7 +6,7 @@ ghost use Rattle.frames.specs.Counts.{ahead, since, until, good_frames, changing
 
 // The last frame count, whether there is one, whether every frame of the running configuration was heard so far, and how many were heard
 // in a row since the start or the last missed one, up to 255.
-#[derive(Drop)]
+#[derive(Clone, Copy)]
 pub struct Frames {
     pub last: u8,
     pub heard: u8,

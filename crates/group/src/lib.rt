@@ -15,7 +15,7 @@ use image::Packet;
 use slot::{Slot, room};
 
 // A group is four packets (7.4.2.2); each brings a fourth of what its slot has room for.
-#[derive(Drop)]
+#[derive(Clone, Copy)]
 pub struct Group {}
 
 impl Group {
@@ -30,7 +30,7 @@ impl Group {
 
 // What a packet is answered: its number, and what it carries. With 32 the detail is the index that was awaited, beside the one that
 // came; with 31 it is the place of the first word that cannot be read. What a number does not carry is 0.
-#[derive(Drop)]
+#[derive(Clone, Copy)]
 pub struct Answer {
     pub number: u8,
     pub detail: u8,

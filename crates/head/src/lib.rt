@@ -7,7 +7,7 @@ ghost use Rattle.head.specs.Head.{wish_of, good_wish, wish_answer, free_head, ne
 ghost use Rattle.head.specs.Move.{per_of, needs_of};
 
 // What follow is asked: further wishes get their defaults in `new`.
-#[derive(Drop)]
+#[derive(Clone, Copy)]
 pub struct Wish {
     pub address: u32,
     pub limit: u32,
@@ -56,7 +56,7 @@ impl Wish {
 }
 
 // The group mark says that there is a whole group.
-#[derive(Drop)]
+#[derive(Clone, Copy)]
 pub struct Head {
     pub wish: Wish,
     pub age: u32,

@@ -6,7 +6,7 @@ ghost use Rattle.std.specs.Prelude.{◌≡◌, ◌∷◌, ◌^◌, ◌<◌, leng
 ghost use Rattle.image.specs.Image.{header_of, bytes_of, spare_of, image_of};
 
 // Sizes of a packet (4.3.6): its image, and the useful bytes.
-#[derive(Drop)]
+#[derive(Clone, Copy)]
 pub struct Packet {}
 
 impl Packet {

@@ -16,7 +16,7 @@ use structure::Structure;
 
 pub mod look;
 
-#[derive(Drop)]
+#[derive(Clone, Copy)]
 pub struct Map {}
 
 impl Map {
@@ -34,7 +34,7 @@ impl Map {
 
 // What is known of a component: 0 with its fields' place and length in the map, or a refusal; whether a change is announced, and in how
 // many frames behind the last one it comes; and whether not enough was heard to hold that there is none.
-#[derive(Drop)]
+#[derive(Clone, Copy)]
 pub struct Shown {
     pub number: u8,
     pub at: usize,
@@ -45,7 +45,7 @@ pub struct Shown {
 }
 
 // What was heard of a component: its fields so far, and whether they are known to be all.
-#[derive(Drop)]
+#[derive(Clone, Copy)]
 pub struct Gathered {
     pub number: u8,
     pub at: usize,
@@ -55,7 +55,7 @@ pub struct Gathered {
 
 // How far what was heard reaches: frames in a row, whether every frame of the running configuration was heard, and how many components
 // are in force.
-#[derive(Drop)]
+#[derive(Clone, Copy)]
 pub struct Reach {
     pub number: u8,
     pub row: u8,
@@ -65,7 +65,7 @@ pub struct Reach {
 
 // What befalls every component at once: a change, behind which a list that is not whole may lack fields unless it is sure; frames that were
 // missed.
-#[derive(Drop)]
+#[derive(Clone, Copy)]
 pub enum Rule {
     Change(bool),
     Missed,

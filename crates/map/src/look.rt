@@ -127,7 +127,7 @@ pub fn take_answer(map: &[u8], field: &[u8]) -> u8
 }
 
 // The structure of a component that is in force in the frame with a count: the announced one behind the change.
-#[derive(Drop)]
+#[derive(Clone, Copy)]
 struct Then {
     which: usize,
     head: Structure,

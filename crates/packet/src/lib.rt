@@ -14,7 +14,7 @@ use words::Data;
 
 // What a packet is read as: its number, 0 or a refusal; with 31 the place of the first word that cannot be read; the
 // index; the 90 useful bytes, or the 45 of protected data with 0 behind them. A refused packet has 0 for the others.
-#[derive(Drop)]
+#[derive(Clone, Copy)]
 pub struct Reading {
     pub number: u8,
     pub place: u8,

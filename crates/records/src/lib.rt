@@ -10,7 +10,7 @@ use image::Packet;
 pub mod reading;
 
 // What stands at a place: a record, with its kind and where its body begins; the end; too few bytes yet; a bad record.
-#[derive(Drop)]
+#[derive(Clone, Copy)]
 pub enum Step {
     Record(u8, usize),
     End,
@@ -19,7 +19,7 @@ pub enum Step {
 }
 
 // Sizes and kinds of records (section 7).
-#[derive(Drop)]
+#[derive(Clone, Copy)]
 pub struct Format {}
 
 impl Format {

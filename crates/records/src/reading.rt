@@ -4,7 +4,7 @@ ghost use Rattle.records.specs.Format.{step_at, record_size};
 
 use crate::{Format, Step, body_size};
 
-#[derive(Drop)]
+#[derive(Clone, Copy)]
 pub struct Reader<'a> {
     pub src: &'a [u8],
     pub at: usize,

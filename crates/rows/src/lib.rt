@@ -18,7 +18,7 @@ pub mod tell;
 // A line after some of its bytes: its number in the text, what its last byte stands in, the word that is open, the digest of its name,
 // or 0 where none came yet; how many arguments it has, known from `=` on, and where its next number goes. Arguments stand from 0 on,
 // what is awaited from WANTED on.
-#[derive(Drop)]
+#[derive(Clone, Copy)]
 pub struct Row {
     pub line: u64,
     pub within: u8,
@@ -30,7 +30,7 @@ pub struct Row {
 }
 
 // What a row's call answers: how many arguments it takes, how many numbers it gives, and these, with 0 behind them.
-#[derive(Drop)]
+#[derive(Clone, Copy)]
 pub struct Answer {
     pub args: usize,
     pub len: usize,

@@ -7,7 +7,7 @@ use libc::STDOUT_FILENO;
 
 // How far a program has come: the line that it reads, how many rows were run and passed, and how many bytes of its state, or map, are
 // lent.
-#[derive(Drop)]
+#[derive(Clone, Copy)]
 pub struct Progress {
     pub row: Row,
     pub run: u64,
@@ -16,7 +16,7 @@ pub struct Progress {
 }
 
 // A name that is looked for in a list: the digest of the word so far, its place, and the place where it was found.
-#[derive(Drop)]
+#[derive(Clone, Copy)]
 struct Search {
     hash: u64,
     at: u8,

@@ -11,7 +11,7 @@ use head::{Head, Wish};
 
 pub mod room;
 
-#[derive(Drop)]
+#[derive(Clone, Copy)]
 pub struct Slot {}
 
 impl Slot {

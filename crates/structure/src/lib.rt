@@ -9,7 +9,7 @@ ghost use Rattle.structure.specs.Structure.{structure_size, head_of, with_head, 
 use field::Tdms;
 
 // What is known of a structure beside its fields.
-#[derive(Drop)]
+#[derive(Clone, Copy)]
 pub struct Structure {
     pub fields: u8,
     pub whole: u8,
@@ -21,7 +21,7 @@ pub struct Structure {
 }
 
 // What one more field does: it begins the structure anew, goes on with it, is one too many, shows that it is whole, or is known.
-#[derive(Drop)]
+#[derive(Clone, Copy)]
 pub enum Turn {
     Begins,
     Joins,

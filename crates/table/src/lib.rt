@@ -14,7 +14,7 @@ use slot::Slot;
 
 pub mod look;
 
-#[derive(Drop)]
+#[derive(Clone, Copy)]
 pub struct Table {}
 
 impl Table {

@@ -10,7 +10,7 @@ use bare::Word;
 
 // What 90 protected bytes are read as: the place of the first word that cannot be read, 30 where all can; the flips of
 // all words; the 45 bytes. Flips and bytes are 0 where a word cannot be read.
-#[derive(Drop)]
+#[derive(Clone, Copy)]
 pub struct Data {
     pub place: u8,
     pub flips: u8,
@@ -19,7 +19,7 @@ pub struct Data {
 
 // What the words are read as: the place of the first that cannot be read, 30 where all can; the flips of all; their
 // informations. Flips and informations are 0 where one cannot be read.
-#[derive(Drop)]
+#[derive(Clone, Copy)]
 pub struct Words {
     pub place: u8,
     pub flips: u8,

@@ -12,4 +12,7 @@ returns c =
     by_tests (eqb n 28) (eqb n 29) (eqb n 47) (eqb n 30) (eqb n 31) (eqb n 32)
 
 pub drop_spec : {M : Type 1} → statement M
-drop_spec = tie.close (tie.spec returns)
+drop_spec =
+    tie.close
+    (tie.spec
+    returns)

@@ -9,4 +9,7 @@ unfolding again
 returns c = refl
 
 pub again_spec : {M : Type 1} → statement M
-again_spec = tie.close (tie.spec returns)
+again_spec =
+    tie.close
+    (tie.spec
+    returns)

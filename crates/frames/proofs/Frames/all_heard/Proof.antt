@@ -11,5 +11,9 @@ returns : tie.Need-returns
 unfolding all_heard
 returns c = ap (λ (n : ℕ). eqb c.before.before.args.self.unbroken 1 && eqb n 1) c.until.ensures
 
-pub all-heard-spec : {M : Type 1} → statement M
-all-heard-spec = tie.close (tie.spec until-requires returns)
+pub all_heard_spec : {M : Type 1} → statement M
+all_heard_spec =
+    tie.close
+    (tie.spec
+    until-requires
+    returns)

@@ -16,5 +16,10 @@ returns c =
     let h = c.before.before.before.args.self in
     ap₂ (λ (d e : ℕ). eqb h.heard 1 && ltb d e) c.before.ahead.ensures c.since.ensures
 
-pub changing-spec : {M : Type 1} → statement M
-changing-spec = tie.close (tie.spec ahead-requires since-requires returns)
+pub changing_spec : {M : Type 1} → statement M
+changing_spec =
+    tie.close
+    (tie.spec
+    ahead-requires
+    since-requires
+    returns)

@@ -8,5 +8,8 @@ returns : tie.Need-returns
 unfolding enough
 returns c = refl
 
-pub enough-spec : {M : Type 1} → statement M
-enough-spec = tie.close (tie.spec returns)
+pub enough_spec : {M : Type 1} → statement M
+enough_spec =
+    tie.close
+    (tie.spec
+    returns)

@@ -11,5 +11,9 @@ returns : tie.Need-returns
 unfolding skips
 returns c = ap (λ (d : ℕ). eqb c.before.before.args.self.heard 1 && ltb 1 d) c.since.ensures
 
-pub skips-spec : {M : Type 1} → statement M
-skips-spec = tie.close (tie.spec since-requires returns)
+pub skips_spec : {M : Type 1} → statement M
+skips_spec =
+    tie.close
+    (tie.spec
+    since-requires
+    returns)

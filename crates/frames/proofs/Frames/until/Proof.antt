@@ -8,12 +8,17 @@ use Rattle.frames.proofs.Frames.until.Tie as tie
 ahead-requires : tie.Need-ahead-requires
 ahead-requires c κs = search rules
 
-add-result : tie.Need-overflow-add-result
+add-result : tie.Need-overflow_add-result
 add-result c = omega (arith, c.ahead.ensures, ahead-lt c.before.args.self.last 1)
 
 returns : tie.Need-returns
 unfolding until
 returns c = cc
 
-pub until-spec : {M : Type 1} → statement M
-until-spec = tie.close (tie.spec ahead-requires add-result returns)
+pub until_spec : {M : Type 1} → statement M
+until_spec =
+    tie.close
+    (tie.spec
+    ahead-requires
+    add-result
+    returns)
