@@ -5,70 +5,70 @@ use Rattle.field.proofs.pack.Statement.{statement}
 use Rattle.field.proofs.pack.Tie as tie
 
 -- the six numbers, as they are handed in
-abbrev given : tie.After-struct-known6 → Tdms
+abbrev given : tie.After-struct_known-6-1 → Tdms
 given c = c.before.before.before.before.before.before.args.s
 
-fit : (c : tie.Else1) → Packs (given c.before)
-fit c = packs (given c.before) c.if1.false
+fit : (c : tie.Else-lines-clock) → Packs (given c.before)
+fit c = packs (given c.before) c.if-lines-clock.false
 
-returns : tie.Need-returns
-returns c = pack-wide (given c.before) c.if1.true
+returns : tie.Need-returns-then-lines-clock
+returns c = pack-wide (given c.before) c.if-lines-clock.true
 
-cast-one : tie.Need-overflow-cast-one
+cast-one : tie.Need-overflow_cast-one
 cast-one c = (fit c.before).fln1
 
-cast-one-2 : tie.Need-overflow-cast-one-2
+cast-one-2 : tie.Need-overflow_cast-one-2
 cast-one-2 c = (fit c.before.before).lln1
 
-mul-one : tie.Need-overflow-mul-one
+mul-one : tie.Need-overflow_mul-one
 mul-one c = (fit c.before.before).lln1-at
 
-add-one : tie.Need-overflow-add-one
+add-one : tie.Need-overflow_add-one
 add-one c = (fit c.before.before).one
 
-cast-two : tie.Need-overflow-cast-two
+cast-two : tie.Need-overflow_cast-two
 cast-two c = (fit c.before.before.before).fln2
 
-cast-two-2 : tie.Need-overflow-cast-two-2
+cast-two-2 : tie.Need-overflow_cast-two-2
 cast-two-2 c = (fit c.before.before.before.before).lln2
 
-mul-two : tie.Need-overflow-mul-two
+mul-two : tie.Need-overflow_mul-two
 mul-two c = (fit c.before.before.before.before).lln2-at
 
-add-two : tie.Need-overflow-add-two
+add-two : tie.Need-overflow_add-two
 add-two c = (fit c.before.before.before.before).two
 
-cast-three : tie.Need-overflow-cast-three
+cast-three : tie.Need-overflow_cast-three
 cast-three c = (fit c.before.before.before.before.before).fcp
 
-cast-three-2 : tie.Need-overflow-cast-three-2
+cast-three-2 : tie.Need-overflow_cast-three-2
 cast-three-2 c = (fit c.before.before.before.before.before.before).lcp
 
-mul-three : tie.Need-overflow-mul-three
+mul-three : tie.Need-overflow_mul-three
 mul-three c = (fit c.before.before.before.before.before.before).lcp-at
 
-add-three : tie.Need-overflow-add-three
+add-three : tie.Need-overflow_add-three
 add-three c = (fit c.before.before.before.before.before.before).three
 
-mul-result : tie.Need-overflow-mul-result
+mul-result : tie.Need-overflow_mul-result
 mul-result c = (fit c.before.before.before.before.before.before).two_at
 
-add-result : tie.Need-overflow-add-result
+add-result : tie.Need-overflow_add-result
 add-result c = (fit c.before.before.before.before.before.before).both
 
-mul-result-2 : tie.Need-overflow-mul-result-2
+mul-result-2 : tie.Need-overflow_mul-result-2
 mul-result-2 c = (fit c.before.before.before.before.before.before).three-at
 
-add-result-2 : tie.Need-overflow-add-result-2
+add-result-2 : tie.Need-overflow_add-result-2
 add-result-2 c = (fit c.before.before.before.before.before.before).sum
 
-returns-2 : tie.Need-returns-2
+returns-2 : tie.Need-returns
 returns-2 c =
     let test = c.before.before.before.before.before.before in
-    pack-passed (given test.before) test.if1.false
+    pack-passed (given test.before) test.if-lines-clock.false
 
-pub pack-spec : {M : Type 1} → statement M
-pack-spec =
+pub pack_spec : {M : Type 1} → statement M
+pack_spec =
     tie.close
     (tie.spec
     returns

@@ -7,78 +7,78 @@ use Rattle.field.proofs.Bytes.{Within}
 use Rattle.field.proofs.write.Statement.{statement}
 use Rattle.field.proofs.write.Tie as tie
 
-returns : tie.Need-returns
+returns : tie.Need-returns-then-out-ne-SIZE
 returns c =
     let a = c.before.before.args in
-    write-short a.field a.out.now c.if1.true
+    write-short a.field a.out.now c.if-out-ne-SIZE.true
 
-returns-2 : tie.Need-returns-2
+returns-2 : tie.Need-returns-then-field
 returns-2 c =
     let one = c.before.before.before.before in
     let a = one.before.before.args in
-    write-wide a.field a.out.now one.if1.false c.if2.true
+    write-wide a.field a.out.now one.if-out-ne-SIZE.false c.if-field.true
 
 bad-requires : tie.Need-bad-requires
 bad-requires c κs = search rules
 
-returns-3 : tie.Need-returns-3
+returns-3 : tie.Need-returns-then-bad
 returns-3 c =
     let one = c.before.before.before.before.before.before in
     let a = one.before.before.args in
-    write-bad a.field a.out.now one.if1.false c.before.before.if2.false c.before.bad.result
-    c.before.bad.ensures c.if3.true
+    write-bad a.field a.out.now one.if-out-ne-SIZE.false c.before.before.if-field.false c.before.bad.result
+    c.before.bad.ensures c.if-bad.true
 
-slice-write-out : tie.Need-slice-write-out
+slice-write-out : tie.Need-bounds-out-0
 slice-write-out c = search rules
 
-mul-out : tie.Need-overflow-mul-out
+mul-out : tie.Need-overflow_mul-out
 mul-out c = search rules
 
-add-out : tie.Need-overflow-add-out
+add-out : tie.Need-overflow_add-out
 add-out c =
     let two = c.before.before.before.before in
-    omega (arith, narrow two.before.before.before.before.before.before.args.field two.if2.false)
+    omega (arith, narrow two.before.before.before.before.before.before.args.field two.if-field.false)
 
-slice-write-out-2 : tie.Need-slice-write-out-2
+slice-write-out-2 : tie.Need-bounds-out-1
 slice-write-out-2 c = search rules
 
-cast-rest : tie.Need-overflow-cast-rest
+cast-rest : tie.Need-overflow_cast-rest
 cast-rest c = search rules
 
-mul-rest : tie.Need-overflow-mul-rest
+mul-rest : tie.Need-overflow_mul-rest
 mul-rest c =
     let two = c.before.before.before.before.before.before in
-    omega (arith, narrow two.before.before.before.before.before.before.args.field two.if2.false)
+    omega (arith, narrow two.before.before.before.before.before.before.args.field two.if-field.false)
 
-add-rest : tie.Need-overflow-add-rest
+add-rest : tie.Need-overflow_add-rest
 add-rest c =
     let two = c.before.before.before.before.before.before in
-    omega (arith, narrow two.before.before.before.before.before.before.args.field two.if2.false)
+    omega (arith, narrow two.before.before.before.before.before.before.args.field two.if-field.false)
 
-cast-rest-2 : tie.Need-overflow-cast-rest-2
+cast-rest-2 : tie.Need-overflow_cast-rest-2
 cast-rest-2 c = search rules
 
-mul-rest-2 : tie.Need-overflow-mul-rest-2
+mul-rest-2 : tie.Need-overflow_mul-rest-2
 mul-rest-2 c =
     let two = c.before.before.before.before.before.before.before in
-    omega (arith, narrow two.before.before.before.before.before.before.args.field two.if2.false)
+    omega (arith, narrow two.before.before.before.before.before.before.args.field two.if-field.false)
 
-add-rest-2 : tie.Need-overflow-add-rest-2
+add-rest-2 : tie.Need-overflow_add-rest-2
 add-rest-2 c =
     let two = c.before.before.before.before.before.before.before in
-    omega (arith, narrow two.before.before.before.before.before.before.args.field two.if2.false)
+    omega (arith, narrow two.before.before.before.before.before.before.args.field two.if-field.false)
 
-put-eight-requires : tie.Need-put-eight-requires
+put-eight-requires : tie.Need-put_eight-requires
 put-eight-requires c κs =
     let one = c.before.before.before.before.before.before.before.before.before.before.before.before in
-    simp length-set (omega (arith, one.if1.false))
+    simp length-set (omega (arith, one.if-out-ne-SIZE.false))
 
-same_length : tie.Need-same-length
+same_length : tie.Need-shape_of-out
 same_length c =
     let one = c.before.before.before.before.before.before.before.before.before.before.before.before.before.before.before in
-    stores-length _ _ _ one.before.before.args.out.now _ one.if1.false c.before.before.put-eight.ensures
+    stores-length _ _ _ one.before.before.args.out.now _ one.if-out-ne-SIZE.false c.before.before.put_eight.ensures
 
-returns-4 : tie.Need-returns-4
+returns-4 : tie.Need-returns
 returns-4 c =
     let count = c.before.before.before.before.before.before.before.before in
     let three = count.before in
@@ -86,16 +86,16 @@ returns-4 c =
     let one = two.before.before.before.before in
     let r = one.before.before.args.field in
     let out = one.before.before.args.out.now in
-    let h = narrow r two.if2.false in
+    let h = narrow r two.if-field.false in
     let small : Within r = record {
-      count = count.struct-known4.given.0.fits;
+      count = count.struct_known-4-1.given.0.fits;
       flag = h.0;
-      id = count.struct-known4.given.1.1.0.fits;
+      id = count.struct_known-4-1.given.1.1.0.fits;
       tdms = h.2;
       links = h.1;
     } in
-    write-passed r out one.if1.false two.if2.false three.before.bad.result three.before.bad.ensures
-    three.if3.false _ (write-stores r small out _ one.if1.false c.before.before.put-eight.ensures)
+    write-passed r out one.if-out-ne-SIZE.false two.if-field.false three.before.bad.result three.before.bad.ensures
+    three.if-bad.false _ (write-stores r small out _ one.if-out-ne-SIZE.false c.before.before.put_eight.ensures)
 
 pub write_spec : {M : Type 1} → statement M
 write_spec =

@@ -10,16 +10,16 @@ use Rattle.fours.proofs.entry.Tie as tie
 four-requires : tie.Need-four-requires
 four-requires c κs = omega arith
 
-mul-result : tie.Need-overflow-mul-result
+mul-result : tie.Need-overflow_mul-result
 mul-result c = omega arith
 
-cast-result : tie.Need-overflow-cast-result
+cast-result : tie.Need-overflow_cast-result
 cast-result c = omega arith
 
-shr-result : tie.Need-overflow-shr-result
+shr-result : tie.Need-overflow_shr-result
 shr-result c = omega arith
 
-cast-result-2 : tie.Need-overflow-cast-result-2
+cast-result-2 : tie.Need-overflow_cast-result-2
 cast-result-2 c = omega arith
 
 returns : tie.Need-returns
@@ -29,4 +29,11 @@ returns c =
 
 pub entry_spec : {M : Type 1} → statement M
 entry_spec =
-    tie.close (tie.spec four-requires mul-result cast-result shr-result cast-result-2 returns)
+    tie.close
+    (tie.spec
+    four-requires
+    mul-result
+    cast-result
+    shr-result
+    cast-result-2
+    returns)

@@ -17,8 +17,8 @@ row k j r e h = h ∙ ap (λ (x : ℕ). get_or (fours x) (k % 64) 0) (sym e)
 others : (k : ℕ) → k < 512 → 7 ≤ k / 64 → k / 64 ≡ 7
 others k h l = omega arith
 
-pub four-spec : {M : Type 1} → statement M
-four-spec =
+pub four_spec : {M : Type 1} → statement M
+four_spec =
     tie.close
     (tie.spec
     (λ c κs. search rules)
@@ -29,11 +29,11 @@ four-spec =
     (λ c κs. search rules)
     (λ c κs. search rules)
     (λ c κs. search rules)
-    (λ c. row c.before.before.args.k 0 c.row-0.result c.before.match.keys1 c.row-0.ensures)
-    (λ c. row c.before.before.args.k 1 c.row-1.result c.before.match.keys2 c.row-1.ensures)
-    (λ c. row c.before.before.args.k 2 c.row-2.result c.before.match.keys3 c.row-2.ensures)
-    (λ c. row c.before.before.args.k 3 c.row-3.result c.before.match.keys4 c.row-3.ensures)
-    (λ c. row c.before.before.args.k 4 c.row-4.result c.before.match.keys5 c.row-4.ensures)
-    (λ c. row c.before.before.args.k 5 c.row-5.result c.before.match.keys6 c.row-5.ensures)
-    (λ c. row c.before.before.args.k 6 c.row-6.result c.before.match.keys7 c.row-6.ensures)
-    (λ c. row c.before.before.args.k 7 c.row-7.result (others c.before.before.args.k c.before.before.requires (beyond 7 (c.before.before.args.k / 64) c.before.match.rest)) c.row-7.ensures))
+    (λ c. row c.before.before.args.k 0 c.row_0.result c.before.in-0.keys1 c.row_0.ensures)
+    (λ c. row c.before.before.args.k 1 c.row_1.result c.before.in-1.keys2 c.row_1.ensures)
+    (λ c. row c.before.before.args.k 2 c.row_2.result c.before.in-2.keys3 c.row_2.ensures)
+    (λ c. row c.before.before.args.k 3 c.row_3.result c.before.in-3.keys4 c.row_3.ensures)
+    (λ c. row c.before.before.args.k 4 c.row_4.result c.before.in-4.keys5 c.row_4.ensures)
+    (λ c. row c.before.before.args.k 5 c.row_5.result c.before.in-5.keys6 c.row_5.ensures)
+    (λ c. row c.before.before.args.k 6 c.row_6.result c.before.in-6.keys7 c.row_6.ensures)
+    (λ c. row c.before.before.args.k 7 c.row_7.result (others c.before.before.args.k c.before.before.requires (beyond 7 (c.before.before.args.k / 64) c.before.in_default.rest)) c.row_7.ensures))

@@ -29,5 +29,10 @@ high-requires c κs = search rules
 returns : tie.Need-returns
 returns c = both c.before.before.args.i c.before.low.result c.high.result c.before.before.requires c.before.low.ensures c.high.ensures
 
-pub check-spec : {M : Type 1} → statement M
-check-spec = tie.close (tie.spec low-requires high-requires returns)
+pub check_spec : {M : Type 1} → statement M
+check_spec =
+    tie.close
+    (tie.spec
+    low-requires
+    high-requires
+    returns)

@@ -8,5 +8,8 @@ returns : tie.Need-returns
 unfolding patterns
 returns c = patterns-right
 
-pub patterns-spec : {M : Type 1} → statement M
-patterns-spec = tie.close (tie.spec returns)
+pub patterns_spec : {M : Type 1} → statement M
+patterns_spec =
+    tie.close
+    (tie.spec
+    returns)

@@ -14,5 +14,9 @@ returns : tie.Need-returns
 unfolding bad_field
 returns c = ap (λ (x : Bool). not (eqb c.before.before.args.self.id panning) && x) c.bad.ensures
 
-pub bad-spec : {M : Type 1} → statement M
-bad-spec = tie.close (tie.spec bad-requires returns)
+pub bad_spec : {M : Type 1} → statement M
+bad_spec =
+    tie.close
+    (tie.spec
+    bad-requires
+    returns)

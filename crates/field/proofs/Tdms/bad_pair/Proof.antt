@@ -8,5 +8,8 @@ returns : tie.Need-returns
 unfolding bad_pair
 returns c = refl
 
-pub bad-pair-spec : {M : Type 1} → statement M
-bad-pair-spec = tie.close (tie.spec returns)
+pub bad_pair_spec : {M : Type 1} → statement M
+bad_pair_spec =
+    tie.close
+    (tie.spec
+    returns)

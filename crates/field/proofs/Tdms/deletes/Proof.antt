@@ -8,5 +8,8 @@ returns : tie.Need-returns
 unfolding deletes
 returns c = refl
 
-pub deletes-spec : {M : Type 1} → statement M
-deletes-spec = tie.close (tie.spec returns)
+pub deletes_spec : {M : Type 1} → statement M
+deletes_spec =
+    tie.close
+    (tie.spec
+    returns)

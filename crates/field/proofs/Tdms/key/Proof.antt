@@ -5,10 +5,10 @@ use Rattle.field.specs.Field.{fln1, fcp, key}
 use Rattle.field.proofs.Tdms.key.Statement.{statement}
 use Rattle.field.proofs.Tdms.key.Tie as tie
 
-mul-result : tie.Need-overflow-mul-result
+mul-result : tie.Need-overflow_mul-result
 mul-result c = search rules
 
-add-result : tie.Need-overflow-add-result
+add-result : tie.Need-overflow_add-result
 add-result c = search rules
 
 returns : tie.Need-returns
@@ -16,4 +16,9 @@ unfolding fln1 fcp key
 returns c = refl
 
 pub key_spec : {M : Type 1} → statement M
-key_spec = tie.close (tie.spec mul-result add-result returns)
+key_spec =
+    tie.close
+    (tie.spec
+    mul-result
+    add-result
+    returns)

@@ -7,16 +7,21 @@ use Rattle.head.proofs.Bounds.{aged-counts, aged-stays}
 use Rattle.head.proofs.Head.aged.Statement.{statement}
 use Rattle.head.proofs.Head.aged.Tie as tie
 
-add-self : tie.Need-overflow-add-self
+add-self : tie.Need-overflow_add-self
 add-self c =
     let h = c.before.before.before.before.args.self in
-    omega (arith, ltb-true h.age 1500 (and_right (eqb h.group 1) (ltb h.age 1500) c.before.if1.true))
+    omega (arith, ltb-true h.age 1500 (and_right (eqb h.group 1) (ltb h.age 1500) c.before.if-self.true))
 
-returns : tie.Need-returns
-returns c = aged-counts c.before.before.before.before.args.self c.before.if1.true
+returns : tie.Need-returns-then-self
+returns c = aged-counts c.before.before.before.before.args.self c.before.if-self.true
 
-returns-2 : tie.Need-returns-2
-returns-2 c = aged-stays c.before.before.before.args.self c.if1.false
+returns-2 : tie.Need-returns-else-self
+returns-2 c = aged-stays c.before.before.before.args.self c.if-self.false
 
-pub aged-spec : {M : Type 1} → statement M
-aged-spec = tie.close (tie.spec add-self returns returns-2)
+pub aged_spec : {M : Type 1} → statement M
+aged_spec =
+    tie.close
+    (tie.spec
+    add-self
+    returns
+    returns-2)

@@ -14,7 +14,11 @@ returns : tie.Need-returns
 unfolding good_head
 returns c =
     let h = c.before.before.before.before.before.before.args.self in
-    ap (λ (b : Bool). b && (leb h.awaited 3 && (leb h.group 1 && (leb h.gap 1 && leb h.age 1500)))) c.good2.ensures
+    ap (λ (b : Bool). b && (leb h.awaited 3 && (leb h.group 1 && (leb h.gap 1 && leb h.age 1500)))) c.good.ensures
 
-pub good-spec : {M : Type 1} → statement M
-good-spec = tie.close (tie.spec good-requires returns)
+pub good_spec : {M : Type 1} → statement M
+good_spec =
+    tie.close
+    (tie.spec
+    good-requires
+    returns)

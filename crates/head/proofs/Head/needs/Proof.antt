@@ -11,5 +11,9 @@ returns : tie.Need-returns
 unfolding needs_of
 returns c = c.per.ensures
 
-pub needs-spec : {M : Type 1} → statement M
-needs-spec = tie.close (tie.spec per-requires returns)
+pub needs_spec : {M : Type 1} → statement M
+needs_spec =
+    tie.close
+    (tie.spec
+    per-requires
+    returns)

@@ -8,5 +8,8 @@ returns : tie.Need-returns
 unfolding per_of
 returns c = refl
 
-pub per-spec : {M : Type 1} → statement M
-per-spec = tie.close (tie.spec returns)
+pub per_spec : {M : Type 1} → statement M
+per_spec =
+    tie.close
+    (tie.spec
+    returns)

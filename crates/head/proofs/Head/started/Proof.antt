@@ -3,11 +3,15 @@ use borrow.Author.Tests.{lt-ltb, le-ltb}
 use Rattle.head.proofs.Head.started.Statement.{statement}
 use Rattle.head.proofs.Head.started.Tie as tie
 
-returns : tie.Need-returns
-returns c = rw (lt-ltb 0 c.before.before.args.self.awaited c.if1.true)
+returns : tie.Need-returns-then-self-gt0
+returns c = rw (lt-ltb 0 c.before.before.args.self.awaited c.if-self-gt0.true)
 
-returns-2 : tie.Need-returns-2
-returns-2 c = rw (le-ltb 0 c.before.before.args.self.awaited c.if1.false)
+returns-2 : tie.Need-returns-else-self-gt0
+returns-2 c = rw (le-ltb 0 c.before.before.args.self.awaited c.if-self-gt0.false)
 
-pub started-spec : {M : Type 1} → statement M
-started-spec = tie.close (tie.spec returns returns-2)
+pub started_spec : {M : Type 1} → statement M
+started_spec =
+    tie.close
+    (tie.spec
+    returns
+    returns-2)

@@ -8,5 +8,8 @@ returns : tie.Need-returns
 unfolding good_wish
 returns c = refl
 
-pub good-spec : {M : Type 1} → statement M
-good-spec = tie.close (tie.spec returns)
+pub good_spec : {M : Type 1} → statement M
+good_spec =
+    tie.close
+    (tie.spec
+    returns)
