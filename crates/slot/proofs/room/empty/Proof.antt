@@ -8,10 +8,10 @@ use Rattle.slot.proofs.room.empty.Tie as tie
 sub-clear : tie.Need-slice_bounds-clear-count
 sub-clear c = search rules
 
-part-clear-start : tie.Need-slice-bounds-clear-start
+part-clear-start : tie.Need-slice_bounds-clear-start
 part-clear-start c = search rules
 
-part-clear-end : tie.Need-slice-bounds-clear-end
+part-clear-end : tie.Need-slice_bounds-clear-end
 part-clear-end c = omega arith
 
 clear-requires : tie.Need-clear-requires
@@ -23,19 +23,13 @@ same_length c = search rules
 returns : tie.Need-returns
 returns c = empty-lent c.before.before.before.before.before.args.slot.now _ c.before.before.before.before.before.requires c.before.before.clear.ensures
 
-open-slice_bounds-clear-start : tie.Need-slice_bounds-clear-start
-open-slice_bounds-clear-start c = search rules
-
-open-slice_bounds-clear-end : tie.Need-slice_bounds-clear-end
-open-slice_bounds-clear-end c = search rules
-
 pub empty_spec : {M : Type 1} → statement M
 empty_spec =
     tie.close
     (tie.spec
     sub-clear
-    open-slice_bounds-clear-start
-    open-slice_bounds-clear-end
+    part-clear-start
+    part-clear-end
     clear-requires
     same_length
     returns)

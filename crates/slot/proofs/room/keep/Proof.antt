@@ -47,10 +47,10 @@ add-clear c = omega arith
 sub-clear : tie.Need-slice_bounds-clear-count invariant-loop decreases-loop
 sub-clear c = omega arith
 
-part-clear-start : tie.Need-slice-bounds-clear-start invariant-loop decreases-loop
+part-clear-start : tie.Need-slice_bounds-clear-start invariant-loop decreases-loop
 part-clear-start c = omega arith
 
-part-clear-end : tie.Need-slice-bounds-clear-end invariant-loop decreases-loop
+part-clear-end : tie.Need-slice_bounds-clear-end invariant-loop decreases-loop
 part-clear-end c = omega arith
 
 clear-requires : tie.Need-clear-requires invariant-loop decreases-loop
@@ -61,12 +61,6 @@ same_length c = search rules
 
 returns : tie.Need-returns invariant-loop decreases-loop
 returns c = keep-lent c.before.before.before.before.before.before.before.args.slot.now c.before.before.before.before.before.loop-k.slot _ c.before.before.before.before.before.loop-k.k c.before.before.before.before.before.before.before.args.len c.before.before.before.before.before.before.before.requires.0 c.before.before.before.before.before.before.before.requires.1 (omega arith) c.before.before.before.before.before.loop-k.invariant.2 c.before.before.clear.ensures
-
-open-slice_bounds-clear-start : tie.Need-slice_bounds-clear-start invariant-loop decreases-loop
-open-slice_bounds-clear-start c = search rules
-
-open-slice_bounds-clear-end : tie.Need-slice_bounds-clear-end invariant-loop decreases-loop
-open-slice_bounds-clear-end c = search rules
 
 pub keep_spec : {M : Type 1} → statement M
 keep_spec =
@@ -84,8 +78,8 @@ keep_spec =
     loop-again
     add-clear
     sub-clear
-    open-slice_bounds-clear-start
-    open-slice_bounds-clear-end
+    part-clear-start
+    part-clear-end
     clear-requires
     same_length
     returns)
