@@ -18,7 +18,7 @@ abbrev decreases-loop : tie.decreases-loop-k
 decreases-loop state₀ k₀ state k = slots - k
 
 loop-holds : tie.Need-loop-k-init invariant-loop decreases-loop
-loop-holds c = (c.before.requires, refl)
+loop-holds c = (c.requires, refl)
 
 head-requires : tie.Need-head-requires invariant-loop decreases-loop
 head-requires c κs = search rules
@@ -43,7 +43,7 @@ part-store-end c = omega arith
 
 store-requires : tie.Need-store-requires invariant-loop decreases-loop
 store-requires c κs =
-    let turn = c.before.before.before.before in
+    let turn = c in
     let now = turn.loop-k in
     span-length now.k now.state now.invariant.0 turn.loop-k-test.true
 
@@ -55,20 +55,20 @@ loop-less c = omega arith
 
 loop-again : tie.Need-loop-k-preserved invariant-loop decreases-loop
 loop-again c =
-    let aged = c.before.before.before.before in
-    let turn = aged.before.before.before in
+    let aged = c in
+    let turn = aged in
     let now = turn.loop-k in
-    let head = aged.aged-aged.ensures ∙ ap aged_head aged.before.head.ensures in
-    let stored = slot-stored _ _ now.k now.k now.state _ head refl c.before.before.store.ensures in
+    let head = aged.aged-aged.ensures ∙ ap aged_head aged.head.ensures in
+    let stored = slot-stored _ _ now.k now.k now.state _ head refl c.store.ensures in
     let after = ages-turn now.k now.state _ now.invariant.0 turn.loop-k-test.true stored in
     (after.0, after.1 ∙ now.invariant.1)
 
 same_length : tie.Need-shape_of-state invariant-loop decreases-loop
-same_length c = omega (arith, c.before.before.before.requires)
+same_length c = omega (arith, c.requires)
 
 returns : tie.Need-returns invariant-loop decreases-loop
 returns c =
-    let now = c.before.loop-k in
+    let now = c.loop-k in
     ages-end now.k now.state _ c.loop-k-test.false now.invariant.1
 
 pub age_spec : {M : Type 1} → statement M

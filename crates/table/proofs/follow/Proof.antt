@@ -17,7 +17,7 @@ start c = c.before.before.before
 
 module _ (c : tie.Else-answer-ne0) where
   zero : follow_answer (start c).args.state.now (start c).args.wish ≡ 0
-  zero = sym c.before.follow_answer-answer.ensures ∙ c.if-answer-ne0.false
+  zero = sym c.follow_answer-answer.ensures ∙ c.if-answer-ne0.false
 
   size : length (start c).args.state.now ≡ state_size
   size = follow-length _ _ zero
@@ -26,7 +26,7 @@ module _ (c : tie.Else-answer-ne0) where
   passed = follow-passed _ _ zero
 
 place : (c : tie.After-find-k) → c.find-k.result < slots
-place c = omega (arith, c.find-k.ensures, (passed c.before.before).room)
+place c = omega (arith, c.find-k.ensures, (passed c.before).room)
 
 follow-answer-requires : tie.Need-follow_answer-answer-requires
 follow-answer-requires c κs = search rules
@@ -36,10 +36,10 @@ same_length c = search rules
 
 returns : tie.Need-returns-then-answer-ne0
 unfolding follow_after
-returns c = refused _ _ _ c.before.before.before.args.state.now c.before.follow_answer-answer.ensures c.if-answer-ne0.true
+returns c = refused _ _ _ c.args.state.now c.follow_answer-answer.ensures c.if-answer-ne0.true
 
 find-requires : tie.Need-find-k-requires
-find-requires c κs = size c.before
+find-requires c κs = size c
 
 mul_at : tie.Need-overflow_mul-at
 mul_at c = omega (arith, place c)
@@ -57,7 +57,7 @@ part-store-start : tie.Need-slice_bounds-store-start
 part-store-start c = search rules
 
 part-store-end : tie.Need-slice_bounds-store-end
-part-store-end c = omega (arith, place c.before, size c.before.before.before)
+part-store-end c = omega (arith, place c.before, size c.before.before)
 
 store-requires : tie.Need-store-requires
 store-requires c κs = search rules
@@ -68,11 +68,11 @@ same-length-2 c = search rules
 returns-2 : tie.Need-returns
 unfolding follow_after
 returns-2 c =
-    let found = c.before.before.before.before.before in
-    let passed = found.before.before in
-    let s = (start passed).args.state.now in
-    accepted _ _ _ s passed.before.follow_answer-answer.ensures _ passed.if-answer-ne0.false
-    (slot-stored _ _ found.find-k.result _ s _ c.before.before.before.before.new.ensures found.find-k.ensures c.before.before.store.ensures)
+    let found = c in
+    let passed = found in
+    let s = (start passed.before.before.before.before.before.before).args.state.now in
+    accepted _ _ _ s passed.follow_answer-answer.ensures _ passed.if-answer-ne0.false
+    (slot-stored _ _ found.find-k.result _ s _ c.new.ensures found.find-k.ensures c.store.ensures)
 
 pub follow_spec : {M : Type 1} → statement M
 follow_spec =

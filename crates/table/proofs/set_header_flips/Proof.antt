@@ -14,7 +14,7 @@ start c = c.before.before.before
 
 -- past the rows of the state
 passed : (c : tie.Else-answer-ne0) → Passed (start c).args.state.now
-passed c = state-passed _ (sym c.before.checked-answer.ensures ∙ c.if-answer-ne0.false)
+passed c = state-passed _ (sym c.checked-answer.ensures ∙ c.if-answer-ne0.false)
 
 checked-requires : tie.Need-checked-answer-requires
 checked-requires c κs = search rules
@@ -25,8 +25,8 @@ same_length c = search rules
 returns : tie.Need-returns-then-answer-ne0
 unfolding set_after
 returns c =
-    refused _ _ _ c.before.before.before.args.state.now
-    (set-state _ _ _ c.before.checked-answer.ensures c.if-answer-ne0.true) c.if-answer-ne0.true
+    refused _ _ _ c.args.state.now
+    (set-state _ _ _ c.checked-answer.ensures c.if-answer-ne0.true) c.if-answer-ne0.true
 
 same-length-2 : tie.Need-shape_of-state-then-most-gt-CORRECTED
 same-length-2 c = search rules

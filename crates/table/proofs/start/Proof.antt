@@ -18,13 +18,13 @@ abbrev passed : tie.After-slice_known-2-1 → tie.Else-state-ne-SIZE
 passed c = c.before.before.before.before
 
 -- the state is cleared
-cleared : (c : tie.After-slice_known-2-1) → c.before.before.clear.new.bytes ≡ blank state_size
-cleared c = c.before.before.clear.ensures ∙ ap blank (passed c).if-state-ne-SIZE.false
+cleared : (c : tie.After-slice_known-2-1) → c.clear.new.bytes ≡ blank state_size
+cleared c = c.clear.ensures ∙ ap blank (passed c).if-state-ne-SIZE.false
 
 returns : tie.Need-returns-then-state-ne-SIZE
 unfolding start_after
 returns c =
-    let s = c.before.before.args.state.now in
+    let s = c.args.state.now in
     refused 20 _ _ s (start-refused s c.if-state-ne-SIZE.true) (λ z. omega (arith, z))
 
 clear-requires : tie.Need-clear-requires
@@ -42,7 +42,7 @@ same_length c = search rules
 returns-2 : tie.Need-returns
 unfolding start_after
 returns-2 c =
-    let s = (passed c).before.before.args.state.now in
+    let s = (passed c).args.state.now in
     accepted 0 _ _ s (start-passed s (passed c).if-state-ne-SIZE.false) _ refl
     (ap (λ (x : List ℕ). set x tail_at 3) (cleared c) ∙ setting-stored (blank state_size) 3 (blank-length state_size))
 

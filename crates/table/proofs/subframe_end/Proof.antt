@@ -15,10 +15,10 @@ same_length c = search rules
 
 returns : tie.Need-returns-then-answer-ne0
 unfolding end_after
-returns c = refused _ _ _ c.before.before.before.args.state.now c.before.checked-answer.ensures c.if-answer-ne0.true
+returns c = refused _ _ _ c.args.state.now c.checked-answer.ensures c.if-answer-ne0.true
 
 age-requires : tie.Need-age-requires
-age-requires c κs = end-length c.before.before.before.before.args.state.now (sym c.before.before.checked-answer.ensures ∙ c.before.if-answer-ne0.false)
+age-requires c κs = end-length c.args.state.now (sym c.checked-answer.ensures ∙ c.if-answer-ne0.false)
 
 same-length-2 : tie.Need-shape_of-state
 same-length-2 c = search rules
@@ -26,9 +26,9 @@ same-length-2 c = search rules
 returns-2 : tie.Need-returns
 unfolding end_after
 returns-2 c =
-    let passed = c.before.before.before.before in
-    accepted _ _ _ passed.before.before.before.args.state.now passed.before.checked-answer.ensures _ passed.if-answer-ne0.false
-    c.before.before.age.ensures
+    let passed = c in
+    accepted _ _ _ passed.args.state.now passed.checked-answer.ensures _ passed.if-answer-ne0.false
+    c.age.ensures
 
 pub subframe_end_spec : {M : Type 1} → statement M
 subframe_end_spec =

@@ -10,18 +10,18 @@ use Rattle.table.proofs.look.checked.Tie as tie
 
 returns : tie.Need-returns-then-state-ne-SIZE
 unfolding end_answer
-returns c = sym (state-20 c.before.before.args.state.now [] c.if-state-ne-SIZE.true)
+returns c = sym (state-20 c.args.state.now [] c.if-state-ne-SIZE.true)
 
 is-good-requires : tie.Need-is_good-requires
 is-good-requires c κs = c.if-state-ne-SIZE.false
 
 returns-2 : tie.Need-returns-then-is_good
 unfolding end_answer
-returns-2 c = sym (state-rest c.before.before.before.before.args.state.now [] c.before.before.if-state-ne-SIZE.false (sym c.before.is_good.ensures ∙ c.if-is_good.true) ∙ refusal-none)
+returns-2 c = sym (state-rest c.args.state.now [] c.if-state-ne-SIZE.false (sym c.is_good.ensures ∙ c.if-is_good.true) ∙ refusal-none)
 
 returns-3 : tie.Need-returns-else-is_good
 unfolding end_answer
-returns-3 c = sym (state-34 c.before.before.before.before.args.state.now [] c.before.before.if-state-ne-SIZE.false (sym c.before.is_good.ensures ∙ c.if-is_good.false))
+returns-3 c = sym (state-34 c.args.state.now [] c.if-state-ne-SIZE.false (sym c.is_good.ensures ∙ c.if-is_good.false))
 
 pub checked_spec : {M : Type 1} → statement M
 checked_spec =

@@ -24,22 +24,22 @@ sub-k : tie.Need-overflow_sub-k invariant-loop decreases-loop
 sub-k c = omega arith
 
 head-requires : tie.Need-head-requires invariant-loop decreases-loop
-head-requires c κs = (c.before.before.before.requires, omega arith)
+head-requires c κs = (c.requires, omega arith)
 
 loop-less : tie.Need-loop-k-smaller-then-head-address invariant-loop decreases-loop
 loop-less c = omega arith
 
 loop-again : tie.Need-loop-k-preserved-then-head-address invariant-loop decreases-loop
-loop-again c = (omega arith, find-hit c.before.before.before.before.before.before.args.state.now c.before.before.before.before.before.before.args.address c.before.before.before.before.loop-k.k c.before.before.before.before.loop-k.found c.before.before.head.result c.before.before.before.loop-k-test.true c.before.before.before.before.loop-k.invariant.0 c.before.before.before.before.loop-k.invariant.1 c.before.before.head.ensures c.if-head-address.true)
+loop-again c = (omega arith, find-hit c.args.state.now c.args.address c.loop-k.k c.loop-k.found c.head.result c.loop-k-test.true c.loop-k.invariant.0 c.loop-k.invariant.1 c.head.ensures c.if-head-address.true)
 
 loop-less-2 : tie.Need-loop-k-smaller invariant-loop decreases-loop
 loop-less-2 c = omega arith
 
 loop-again-2 : tie.Need-loop-k-preserved invariant-loop decreases-loop
-loop-again-2 c = (omega arith, find-pass c.before.before.before.before.before.before.args.state.now c.before.before.before.before.before.before.args.address c.before.before.before.before.loop-k.k c.before.before.before.before.loop-k.found c.before.before.head.result c.before.before.before.loop-k-test.true c.before.before.before.before.loop-k.invariant.0 c.before.before.before.before.loop-k.invariant.1 c.before.before.head.ensures c.if-head-address.false)
+loop-again-2 c = (omega arith, find-pass c.args.state.now c.args.address c.loop-k.k c.loop-k.found c.head.result c.loop-k-test.true c.loop-k.invariant.0 c.loop-k.invariant.1 c.head.ensures c.if-head-address.false)
 
 returns : tie.Need-returns invariant-loop decreases-loop
-returns c = find-end c.before.before.before.args.state.now c.before.before.before.args.address c.before.loop-k.k c.before.loop-k.found (omega arith) c.before.loop-k.invariant.1
+returns c = find-end c.args.state.now c.args.address c.loop-k.k c.loop-k.found (omega arith) c.loop-k.invariant.1
 
 pub find_spec : {M : Type 1} → statement M
 find_spec =

@@ -26,7 +26,7 @@ load-requires : tie.Need-load-requires
 load-requires c κs = search rules
 
 returns : tie.Need-returns
-returns c = c.load.ensures ∙ ap head_of (slot-part c.before.before.before.args.k c.before.before.before.args.state.now)
+returns c = c.load.ensures ∙ ap head_of (slot-part c.args.k c.args.state.now)
 
 pub head_spec : {M : Type 1} → statement M
 head_spec =

@@ -26,10 +26,10 @@ abbrev decreases-loop : tie.decreases-loop-k
 decreases-loop state addresses₀ so₀ k₀ addresses so k = 16 - k
 
 loop-holds : tie.Need-loop-k-init invariant-loop decreases-loop
-loop-holds c = (omega arith, refl, refl, gathered_none c.before.args.state.now 32)
+loop-holds c = (omega arith, refl, refl, gathered_none c.args.state.now 32)
 
 head-requires : tie.Need-head-own-requires invariant-loop decreases-loop
-head-requires c κs = (c.before.before.before.requires, c.loop-k-test.true)
+head-requires c κs = (c.requires, c.loop-k-test.true)
 
 mul_at : tie.Need-overflow_mul-at invariant-loop decreases-loop
 mul_at c = search rules
@@ -48,9 +48,9 @@ part-good-end c = search rules
 
 good-requires : tie.Need-good-so-requires invariant-loop decreases-loop
 good-requires c κs =
-    let s = c.before.before.before.before.before.args.state.now in
-    let k = c.before.before.before.loop-k.k in
-    (search rules, c.before.head-own.ensures ∙ ap head_of (sym (slot-part k s)))
+    let s = c.args.state.now in
+    let k = c.loop-k.k in
+    (search rules, c.head-own.ensures ∙ ap head_of (sym (slot-part k s)))
 
 cast-addresses : tie.Need-overflow_cast-addresses invariant-loop decreases-loop
 cast-addresses c = omega arith
@@ -69,22 +69,22 @@ loop-less c = omega arith
 
 loop-again : tie.Need-loop-k-preserved invariant-loop decreases-loop
 loop-again c =
-    let s = c.before.before.before.before.before.before.before.args.state.now in
-    let l = c.before.before.before.before.before.loop-k in
-    let own = c.before.before.before.head-own in (
+    let s = c.args.state.now in
+    let l = c.loop-k in
+    let own = c.head-own in (
       omega arith,
       all-next (good_slot_at s) l.so (all (good_slot_at s) 16 0) (16 - l.k) l.k _ (16 - (l.k + 1)) (l.k + 1) (omega arith) (omega arith)
-          (ap (λ (b : Bool). l.so && b) (c.before.good-so.ensures ∙ ap good_slot (slot-part l.k s))) l.invariant.1,
+          (ap (λ (b : Bool). l.so && b) (c.good-so.ensures ∙ ap good_slot (slot-part l.k s))) l.invariant.1,
       length-set l.addresses l.k (own.result.wish.address % 65536) ∙ l.invariant.2,
       gathered_next s l.addresses l.k (own.result.wish.address % 65536) (omega arith)
           (ap (λ (a : ℕ). a % 65536) (ap (λ (h : Head). h.wish.address) own.ensures ∙ address_is s l.k)) l.invariant.3,
     )
 
 slice-aggregate-apart : tie.Need-slice_bounds-apart-end invariant-loop decreases-loop
-slice-aggregate-apart c = sym c.before.before.loop-k.invariant.2
+slice-aggregate-apart c = sym c.loop-k.invariant.2
 
 apart-requires : tie.Need-apart-requires invariant-loop decreases-loop
-apart-requires c κs = c.before.before.loop-k.invariant.2
+apart-requires c κs = c.loop-k.invariant.2
 
 setting-requires : tie.Need-setting-requires invariant-loop decreases-loop
 setting-requires c κs = search rules
@@ -94,9 +94,9 @@ cast-result c = search rules
 
 returns : tie.Need-returns invariant-loop decreases-loop
 returns c =
-    let all_read = c.before in
-    let s = all_read.before.before.before.before.before.args.state.now in
-    let l = all_read.before.before.before.loop-k in
+    let all_read = c in
+    let s = all_read.args.state.now in
+    let l = all_read.loop-k in
     let end : l.k ≡ 16 = omega arith in
     ap (λ (b : Bool). b && leb c.setting.result 3)
     (ap₂ ◌&&◌ (all_end (good_slot_at s) l.so (all (good_slot_at s) 16 0) (16 - l.k) l.k (omega arith) l.invariant.1) all_read.apart.ensures)

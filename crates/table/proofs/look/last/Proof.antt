@@ -25,8 +25,8 @@ shared-slice-read-address c = omega arith
 
 loop-holds : tie.Need-loop-j-init invariant-loop decreases-loop
 loop-holds c =
-    let xs = c.before.args.addresses.now in
-    let k = c.before.args.k in
+    let xs = c.args.addresses.now in
+    let k = c.args.k in
     (omega arith, ap (λ (n : ℕ). all (differs xs k) 16 n) (omega arith))
 
 add-alone : tie.Need-overflow_add-alone invariant-loop decreases-loop
@@ -49,9 +49,9 @@ loop-less c = omega arith
 
 loop-again : tie.Need-loop-j-preserved invariant-loop decreases-loop
 loop-again c =
-    let xs = c.before.before.before.before.args.addresses.now in
-    let k = c.before.before.before.before.args.k in
-    let l = c.before.before.loop-j in (
+    let xs = c.args.addresses.now in
+    let k = c.args.k in
+    let l = c.loop-j in (
       omega arith,
       all-next (differs xs k) l.alone (all (differs xs k) 16 (k + 1)) (16 - l.j) (k + 1 + l.j) _ (16 - (l.j + 1)) (k + 1 + (l.j + 1))
           (omega arith) (omega arith) refl l.invariant.1,
@@ -59,9 +59,9 @@ loop-again c =
 
 returns : tie.Need-returns invariant-loop decreases-loop
 returns c =
-    let xs = c.before.before.before.args.addresses.now in
-    let k = c.before.before.before.args.k in
-    let l = c.before.loop-j in
+    let xs = c.args.addresses.now in
+    let k = c.args.k in
+    let l = c.loop-j in
     all_end (differs xs k) l.alone (all (differs xs k) 16 (k + 1)) (16 - l.j) (k + 1 + l.j) (omega arith) l.invariant.1
 
 pub last_spec : {M : Type 1} → statement M

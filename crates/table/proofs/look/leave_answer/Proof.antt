@@ -13,27 +13,27 @@ checked-requires c κs = search rules
 
 returns : tie.Need-returns-then-state_answer-ne0
 unfolding leave_answer
-returns c = state-refused c.before.before.before.args.state.now _ c.before.checked-state_answer.result c.before.checked-state_answer.ensures c.if-state_answer-ne0.true
+returns c = state-refused c.args.state.now _ c.checked-state_answer.result c.checked-state_answer.ensures c.if-state_answer-ne0.true
 
 returns-2 : tie.Need-returns-then-address
-returns-2 c = let a = c.before.before.before.before.args in
-    let ok = state-passed a.state.now (sym c.before.before.checked-state_answer.ensures ∙ c.before.if-state_answer-ne0.false) in
+returns-2 c = let a = c.args in
+    let ok = state-passed a.state.now (sym c.checked-state_answer.ensures ∙ c.if-state_answer-ne0.false) in
     sym (leave-22 a.state.now a.address ok c.if-address.true)
 
 find-requires : tie.Need-find-requires
-find-requires c κs = let a = c.before.before.before.before.args in
-    let ok = state-passed a.state.now (sym c.before.before.checked-state_answer.ensures ∙ c.before.if-state_answer-ne0.false) in
+find-requires c κs = let a = c.args in
+    let ok = state-passed a.state.now (sym c.checked-state_answer.ensures ∙ c.if-state_answer-ne0.false) in
     ok.size
 
 returns-3 : tie.Need-returns-then-find-lt-SLOTS
-returns-3 c = let a = c.before.before.before.before.before.before.args in
-    let ok = state-passed a.state.now (sym c.before.before.before.before.checked-state_answer.ensures ∙ c.before.before.before.if-state_answer-ne0.false) in
-    sym (leave-0 a.state.now a.address ok c.before.before.if-address.false c.before.find.result c.before.find.ensures c.if-find-lt-SLOTS.true)
+returns-3 c = let a = c.args in
+    let ok = state-passed a.state.now (sym c.checked-state_answer.ensures ∙ c.if-state_answer-ne0.false) in
+    sym (leave-0 a.state.now a.address ok c.if-address.false c.find.result c.find.ensures c.if-find-lt-SLOTS.true)
 
 returns-4 : tie.Need-returns-else-find-lt-SLOTS
-returns-4 c = let a = c.before.before.before.before.before.before.args in
-    let ok = state-passed a.state.now (sym c.before.before.before.before.checked-state_answer.ensures ∙ c.before.before.before.if-state_answer-ne0.false) in
-    sym (leave-27 a.state.now a.address ok c.before.before.if-address.false c.before.find.result c.before.find.ensures c.if-find-lt-SLOTS.false)
+returns-4 c = let a = c.args in
+    let ok = state-passed a.state.now (sym c.checked-state_answer.ensures ∙ c.if-state_answer-ne0.false) in
+    sym (leave-27 a.state.now a.address ok c.if-address.false c.find.result c.find.ensures c.if-find-lt-SLOTS.false)
 
 pub leave_answer_spec : {M : Type 1} → statement M
 leave_answer_spec =
