@@ -25,18 +25,18 @@ three-flips-requires : tie.Need-three_flips-requires
 three-flips-requires c κs = search rules
 
 returns : tie.Need-returns-in-0
-returns c = of-many _ 0 _ _ c.before.in-0.is c.no_flip.ensures
+returns c = of-many _ 0 _ _ c.in-0.is c.no_flip.ensures
 
 returns-2 : tie.Need-returns-in-1
-returns-2 c = of-many _ 1 _ _ c.before.in-1.is c.one_flip.ensures
+returns-2 c = of-many _ 1 _ _ c.in-1.is c.one_flip.ensures
 
 returns-3 : tie.Need-returns-in-2
-returns-3 c = of-many _ 2 _ _ c.before.in-2.is c.two_flips.ensures
+returns-3 c = of-many _ 2 _ _ c.in-2.is c.two_flips.ensures
 
 returns-4 : tie.Need-returns-in_default
 returns-4 c =
-    let r = c.before.in_default.in_default-own.rest in
-    of-many _ 3 _ _ (omega (arith, c.before.before.requires, r.0.0.1, r.0.1, r.1)) c.three_flips.ensures
+    let r = c.in_default.in_default-own.rest in
+    of-many _ 3 _ _ (omega (arith, c.requires, r.0.0.1, r.0.1, r.1)) c.three_flips.ensures
 
 pub flipped_spec : {M : Type 1} → statement M
 flipped_spec =

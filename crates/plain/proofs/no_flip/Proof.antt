@@ -13,10 +13,10 @@ remainder-requires : tie.Need-remainder-requires
 remainder-requires c κs = search rules
 
 returns : tie.Need-returns-then-remainder-eq0
-returns c = sym (clean _ 23 (sym c.before.remainder.ensures ∙ c.if-remainder-eq0.true))
+returns c = sym (clean _ 23 (sym c.remainder.ensures ∙ c.if-remainder-eq0.true))
 
 returns-2 : tie.Need-returns
-returns-2 c = sym (damaged _ 23 (λ e. c.if-remainder-eq0.false (c.before.remainder.ensures ∙ e)))
+returns-2 c = sym (damaged _ 23 (λ e. c.if-remainder-eq0.false (c.remainder.ensures ∙ e)))
 
 pub no_flip_spec : {M : Type 1} → statement M
 no_flip_spec =

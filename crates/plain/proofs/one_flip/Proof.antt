@@ -30,8 +30,8 @@ remainder-requires c κs = tt
 returns : tie.Need-returns-then-remainder-eq0 invariant-loop decreases-loop
 returns c =
     sym (add-zero _)
-    ∙ turn-hit _ 0 _ _ c.before.before.loop-bit-test.true c.before.before.before.before.requires c.before.before.before.loop-bit.invariant.1
-    0 (sym (clean _ _ (sym c.before.remainder.ensures ∙ c.if-remainder-eq0.true))) (omega arith)
+    ∙ turn-hit _ 0 _ _ c.loop-bit-test.true c.requires c.loop-bit.invariant.1
+    0 (sym (clean _ _ (sym c.remainder.ensures ∙ c.if-remainder-eq0.true))) (omega arith)
 
 add-bit : tie.Need-overflow_step-bit invariant-loop decreases-loop
 add-bit c = omega arith
@@ -42,12 +42,12 @@ loop-less c = omega arith
 loop-again : tie.Need-loop-bit-preserved invariant-loop decreases-loop
 loop-again c = (
   omega arith,
-  turn-miss _ 0 _ _ c.before.before.loop-bit-test.true c.before.before.before.before.requires c.before.before.before.loop-bit.invariant.1
-      (2 ^ 23) (sym (damaged _ _ (λ e. c.if-remainder-eq0.false (c.before.remainder.ensures ∙ e)))) (omega arith),
+  turn-miss _ 0 _ _ c.loop-bit-test.true c.requires c.loop-bit.invariant.1
+      (2 ^ 23) (sym (damaged _ _ (λ e. c.if-remainder-eq0.false (c.remainder.ensures ∙ e)))) (omega arith),
 )
 
 returns-2 : tie.Need-returns invariant-loop decreases-loop
-returns-2 c = turn_end _ 0 _ _ c.before.loop-bit.invariant.0 c.loop-bit-test.false c.before.loop-bit.invariant.1
+returns-2 c = turn_end _ 0 _ _ c.loop-bit.invariant.0 c.loop-bit-test.false c.loop-bit.invariant.1
 
 pub one_flip_spec : {M : Type 1} → statement M
 one_flip_spec =

@@ -24,13 +24,13 @@ header-requires : tie.Need-header-requires invariant-loop decreases-loop
 header-requires c κs = omega arith
 
 returns : tie.Need-returns-then-n-ge-NUMBERS invariant-loop decreases-loop
-returns c = c.header.ensures ∙ sym (plain-33 _ _ c.before.if-n-ge-NUMBERS.true)
+returns c = c.header.ensures ∙ sym (plain-33 _ _ c.if-n-ge-NUMBERS.true)
 
 header-requires-2 : tie.Need-header-requires-then-most-gt-CORRECTED invariant-loop decreases-loop
 header-requires-2 c κs = omega arith
 
 returns-2 : tie.Need-returns-then-most-gt-CORRECTED invariant-loop decreases-loop
-returns-2 c = c.header-then-most-gt-CORRECTED.ensures ∙ sym (plain-48 _ _ c.before.before.if-n-ge-NUMBERS.false c.before.if-most-gt-CORRECTED.true)
+returns-2 c = c.header-then-most-gt-CORRECTED.ensures ∙ sym (plain-48 _ _ c.if-n-ge-NUMBERS.false c.if-most-gt-CORRECTED.true)
 
 add-flips-end : tie.Need-overflow_add-flips-end invariant-loop decreases-loop
 add-flips-end c = omega arith
@@ -46,15 +46,15 @@ header-requires-3 c κs = omega arith
 
 returns-3 : tie.Need-returns-then-pattern-lt-NONE invariant-loop decreases-loop
 returns-3 c =
-    let outer = c.before.before.before.before.before in
-    let n = outer.before.before.args.n in
-    let flips = c.before.before.before.before.loop-flips.flips in
-    let pattern = c.before.before.flipped-pattern.result in
+    let outer = c in
+    let n = outer.args.n in
+    let flips = c.loop-flips.flips in
+    let pattern = c.flipped-pattern.result in
     let gives : c.header-then-pattern-lt-NONE.result ≡ record { number = 0; address = bit_xor n pattern % 1024; index = bit_xor n pattern / 1024 % 4; flips = flips } =
     c.header-then-pattern-lt-NONE.ensures in
     gives
-    ∙ sym (plain-found n outer.before.before.args.most outer.before.if-n-ge-NUMBERS.false outer.if-most-gt-CORRECTED.false flips pattern
-    (omega arith) c.before.before.before.before.loop-flips.invariant.1 c.before.before.flipped-pattern.ensures c.before.if-pattern-lt-NONE.true)
+    ∙ sym (plain-found n outer.args.most outer.if-n-ge-NUMBERS.false outer.if-most-gt-CORRECTED.false flips pattern
+    (omega arith) c.loop-flips.invariant.1 c.flipped-pattern.ensures c.if-pattern-lt-NONE.true)
 
 add-flips : tie.Need-overflow_step-flips invariant-loop decreases-loop
 add-flips c = omega arith
@@ -64,17 +64,17 @@ loop-less c = omega arith
 
 loop-again : tie.Need-loop-flips-preserved invariant-loop decreases-loop
 loop-again c =
-    (omega arith, trial-miss _ _ c.before.before.before.loop-flips.invariant.1 (subst (λ (x : ℕ). 2 ^ 23 ≤ x) c.before.flipped-pattern.ensures c.if-pattern-lt-NONE.false))
+    (omega arith, trial-miss _ _ c.loop-flips.invariant.1 (subst (λ (x : ℕ). 2 ^ 23 ≤ x) c.flipped-pattern.ensures c.if-pattern-lt-NONE.false))
 
 header-requires-4 : tie.Need-header-requires-2 invariant-loop decreases-loop
 header-requires-4 c κs = omega arith
 
 returns-4 : tie.Need-returns invariant-loop decreases-loop
 returns-4 c =
-    let outer = c.before.before.before in
+    let outer = c in
     c.header-2.ensures
-    ∙ sym (plain-none _ _ outer.before.if-n-ge-NUMBERS.false outer.if-most-gt-CORRECTED.false _ c.before.before.loop-flips.invariant.0 c.before.loop-flips-test.false
-    c.before.before.loop-flips.invariant.1)
+    ∙ sym (plain-none _ _ outer.if-n-ge-NUMBERS.false outer.if-most-gt-CORRECTED.false _ c.loop-flips.invariant.0 c.loop-flips-test.false
+    c.loop-flips.invariant.1)
 
 pub read_header_spec : {M : Type 1} → statement M
 read_header_spec =

@@ -28,12 +28,12 @@ one-flip-requires c κs = omega arith
 
 add-result : tie.Need-overflow_add-result invariant-loop decreases-loop
 add-result c =
-    omega (arith, weight-lt _ _ c.before.before.loop-bit-test.true c.before.before.before.before.requires, c.if-below-lt-NONE.true)
+    omega (arith, weight-lt _ _ c.loop-bit-test.true c.requires, c.if-below-lt-NONE.true)
 
 returns : tie.Need-returns-then-below-lt-NONE invariant-loop decreases-loop
 returns c =
-    turn-hit _ 1 _ _ c.before.before.loop-bit-test.true c.before.before.before.before.requires c.before.before.before.loop-bit.invariant.1
-    _ c.before.one_flip-below.ensures c.if-below-lt-NONE.true
+    turn-hit _ 1 _ _ c.loop-bit-test.true c.requires c.loop-bit.invariant.1
+    _ c.one_flip-below.ensures c.if-below-lt-NONE.true
 
 add-bit : tie.Need-overflow_step-bit invariant-loop decreases-loop
 add-bit c = omega arith
@@ -44,12 +44,12 @@ loop-less c = omega arith
 loop-again : tie.Need-loop-bit-preserved invariant-loop decreases-loop
 loop-again c = (
   omega arith,
-  turn-miss _ 1 _ _ c.before.before.loop-bit-test.true c.before.before.before.before.requires c.before.before.before.loop-bit.invariant.1
-      _ c.before.one_flip-below.ensures c.if-below-lt-NONE.false,
+  turn-miss _ 1 _ _ c.loop-bit-test.true c.requires c.loop-bit.invariant.1
+      _ c.one_flip-below.ensures c.if-below-lt-NONE.false,
 )
 
 returns-2 : tie.Need-returns invariant-loop decreases-loop
-returns-2 c = turn_end _ 1 _ _ c.before.loop-bit.invariant.0 c.loop-bit-test.false c.before.loop-bit.invariant.1
+returns-2 c = turn_end _ 1 _ _ c.loop-bit.invariant.0 c.loop-bit-test.false c.loop-bit.invariant.1
 
 pub two_flips_spec : {M : Type 1} → statement M
 two_flips_spec =
