@@ -22,19 +22,19 @@ abbrev decreases-loop : tie.decreases-loop-kind
 decreases-loop state₀ s answers₀ served at count₀ place₀ state answers count place = length s - place
 
 -- where a record stands
-abbrev slice : tie.In-Record-2 invariant-loop decreases-loop → List ℕ
+abbrev slice : tie.In-Record invariant-loop decreases-loop → List ℕ
 slice c = c.args.s.now
 
-abbrev now : tie.In-Record-2 invariant-loop decreases-loop → tie.At-loop-kind invariant-loop decreases-loop
-now c = c.before.before.before
+abbrev now : tie.In-Record invariant-loop decreases-loop → tie.At-loop-kind invariant-loop decreases-loop
+now c = c.before.before
 
-stood : (c : tie.In-Record-2 invariant-loop decreases-loop) → step_at (slice c) (now c).loop-kind.place ≡ Record c.kind-1.given.0.0 c.kind-1.given.0.1.0
-stood c = sym c.next.ensures ∙ c.kind-1.given.1
+stood : (c : tie.In-Record invariant-loop decreases-loop) → step_at (slice c) (now c).loop-kind.place ≡ Record c.in-Record.kind c.in-Record.body
+stood c = sym c.in-Record.ensures
 
-wholly : (c : tie.In-Record-2 invariant-loop decreases-loop) → Whole (slice c) (now c).loop-kind.place c.kind-1.given.0.0 c.kind-1.given.0.1.0
+wholly : (c : tie.In-Record invariant-loop decreases-loop) → Whole (slice c) (now c).loop-kind.place c.in-Record.kind c.in-Record.body
 wholly c = record-whole _ _ _ _ (stood c)
 
-room : (c : tie.In-Record-2 invariant-loop decreases-loop) → (now c).loop-kind.count < length (now c).loop-kind.answers
+room : (c : tie.In-Record invariant-loop decreases-loop) → (now c).loop-kind.count < length (now c).loop-kind.answers
 room c = omega (arith, (wholly c).begins, (wholly c).ends)
 
 -- and where none does
@@ -54,7 +54,7 @@ body-size-requires : tie.Need-body_size-requires invariant-loop decreases-loop
 body-size-requires c κs = search rules
 
 add-end : tie.Need-overflow_add-end invariant-loop decreases-loop
-add-end c = omega (arith, c.body_size.ensures, (wholly c.before.before).ends)
+add-end c = omega (arith, c.body_size.ensures, (wholly c.before).ends)
 
 sub-serve : tie.Need-slice_bounds-serve-count invariant-loop decreases-loop
 sub-serve c = omega arith
@@ -63,34 +63,34 @@ part-serve-start : tie.Need-slice_bounds-serve-start invariant-loop decreases-lo
 part-serve-start c = search rules
 
 part-serve-end : tie.Need-slice_bounds-serve-end invariant-loop decreases-loop
-part-serve-end c = omega (arith, c.body_size.ensures, (wholly c.before.before.before).ends)
+part-serve-end c = omega (arith, c.body_size.ensures, (wholly c.before.before).ends)
 
 serve-requires : tie.Need-serve-requires invariant-loop decreases-loop
-serve-requires c κs = lent_length _ _ _ _ c.body_size.ensures (wholly c.before.before.before.before).ends
+serve-requires c κs = lent_length _ _ _ _ c.body_size.ensures (wholly c.before.before.before).ends
 
 slice-write-answers : tie.Need-bounds-answers-count invariant-loop decreases-loop
-slice-write-answers c = room c.before.before.before.before.before.before.before
+slice-write-answers c = room c.before.before.before.before.before.before
 
 add-count : tie.Need-overflow_add-count invariant-loop decreases-loop
-add-count c = omega (arith, room c.before.before.before.before.before.before.before)
+add-count c = omega (arith, room c.before.before.before.before.before.before)
 
 loop-less : tie.Need-loop-kind-smaller invariant-loop decreases-loop
 loop-less c =
     let size = c in
     let k = size in
-    omega (arith, size.body_size.ensures, (wholly k.before.before.before.before.before.before.before).begins, (wholly k.before.before.before.before.before.before.before).ends)
+    omega (arith, size.body_size.ensures, (wholly k.before.before.before.before.before.before).begins, (wholly k.before.before.before.before.before.before).ends)
 
 loop-again : tie.Need-loop-kind-preserved invariant-loop decreases-loop
 loop-again c =
     let size = c in
     let k = size in
-    let turn = (now k.before.before.before.before.before.before.before).loop-kind in
-    let same : length c.serve.new.0 ≡ length turn.state = search rules in (
-      omega (arith, size.body_size.ensures, (wholly k.before.before.before.before.before.before.before).ends),
-      omega (arith, (wholly k.before.before.before.before.before.before.before).begins),
-      length-set turn.answers turn.count _ ∙ turn.inv.2,
-      same ∙ turn.inv.3,
-      loop-turn _ _ _ turn.answers turn.count _ turn.inv.4 _ _ _ _ _ (stood k.before.before.before.before.before.before.before) size.body_size.ensures (room k.before.before.before.before.before.before.before)
+    let turn = (now k.before.before.before.before.before.before).loop-kind in
+    let same : length c.serve.new.state ≡ length turn.state = search rules in (
+      omega (arith, size.body_size.ensures, (wholly k.before.before.before.before.before.before).ends),
+      omega (arith, (wholly k.before.before.before.before.before.before).begins),
+      length-set turn.answers turn.count _ ∙ turn.invariant.2,
+      same ∙ turn.invariant.3,
+      loop-turn _ _ _ turn.answers turn.count _ turn.invariant.4 _ _ _ _ _ (stood k.before.before.before.before.before.before) size.body_size.ensures (room k.before.before.before.before.before.before)
           c.serve.ensures,
     )
 
@@ -113,8 +113,8 @@ returns : tie.Need-returns-in-End invariant-loop decreases-loop
 returns c =
     let looked = c in
     let turn = looked.loop-kind in
-    loop-end _ _ _ turn.answers turn.count _ turn.invariant.4 End tt (sym looked.next.ensures ∙ c.enum_told-1.given.1)
-    (fits looked.before.before.before) turn.invariant.0
+    loop-end _ _ _ turn.answers turn.count _ turn.invariant.4 End tt (sym c.in-End.ensures)
+    (fits looked.before.before) turn.invariant.0
 
 same-length-3 : tie.Need-shape_of-state-in-More invariant-loop decreases-loop
 same-length-3 c = c.loop-kind.invariant.3
@@ -126,8 +126,8 @@ returns-2 : tie.Need-returns-in-More invariant-loop decreases-loop
 returns-2 c =
     let looked = c in
     let turn = looked.loop-kind in
-    loop-end _ _ _ turn.answers turn.count _ turn.invariant.4 More tt (sym looked.next.ensures ∙ c.enum_told-in-More-1.given.1)
-    (fits looked.before.before.before) turn.invariant.0
+    loop-end _ _ _ turn.answers turn.count _ turn.invariant.4 More tt (sym c.in-More.ensures)
+    (fits looked.before.before) turn.invariant.0
 
 same-length-5 : tie.Need-shape_of-state-in-Bad invariant-loop decreases-loop
 same-length-5 c = c.loop-kind.invariant.3
@@ -139,8 +139,8 @@ returns-3 : tie.Need-returns-in-Bad invariant-loop decreases-loop
 returns-3 c =
     let looked = c in
     let turn = looked.loop-kind in
-    loop-end _ _ _ turn.answers turn.count _ turn.invariant.4 Bad tt (sym looked.next.ensures ∙ c.enum_told-in-Bad-1.given.1)
-    (fits looked.before.before.before) turn.invariant.0
+    loop-end _ _ _ turn.answers turn.count _ turn.invariant.4 Bad tt (sym c.in-Bad.ensures)
+    (fits looked.before.before) turn.invariant.0
 
 pub serve_all_spec : {M : Type 1} → statement M
 serve_all_spec =
