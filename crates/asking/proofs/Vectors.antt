@@ -5,20 +5,19 @@
 --   boards            what a board gets in those cases: the whole notice
 --
 -- Assumes nothing.
-use mathlib.Core.Path.{◌≡◌, refl, sym, ap, ◌∙◌}
-use mathlib.Core.Bool.{true, false}
+use mathlib.Core.Path.{◌≡◌, refl, sym}
 use mathlib.Core.List.{List, [], ◌∷◌}
-use Prim.Native.Nat.{ℕ, ◌+◌, ◌-◌}
+use Prim.Native.Nat.{ℕ, ◌-◌}
 use native.Mathlib.Omega.{arith}
 use lib.Dec.{lit<, lit≤}
 use Rattle.bits.specs.Bits.{blank}
 use Rattle.bits.specs.Search.{first}
 use Rattle.head.specs.Head.{wish_of, new_head, ask_number}
 use Rattle.head.specs.declared.Head.{Head}
-use Rattle.table.specs.State.{state_size, find}
+use Rattle.table.specs.State.{state_size}
 use Rattle.table.specs.Calls.{leave_answer}
 use Rattle.table.proofs.Looking.{leave-22}
-use Rattle.table.proofs.Shows.{place, start-shows, find-place, follow-head}
+use Rattle.table.proofs.Shows.{start-shows, find-place, follow-head}
 use Rattle.table.proofs.Vectors.{spoiled, started, followed, one, nobody, ok, unknown, known, leave-20, leave-34, followed-17, followed-shows}
 use Rattle.asking.specs.Asking.{group_length, asked_at, asked, board_text}
 use Rattle.asking.specs.declared.Asked.{Asked}

@@ -6,16 +6,14 @@
 -- Assumes nothing.
 use mathlib.Core.Path.{◌≡◌, sym, ap, ◌∙◌}
 use mathlib.Core.List.{List}
-use Prim.Native.Nat.{ℕ, suc, ◌+◌, ◌*◌, ◌/◌, ◌%◌, ◌^◌, ◌≤◌, ◌<◌}
+use Prim.Native.Nat.{ℕ, suc, ◌+◌, ◌*◌, ◌/◌, ◌%◌, ◌^◌, ◌<◌}
 use native.Mathlib.Omega.{arith}
 use lib.ListN.{length, take, drop, get_or, drop_of_length-le}
 use lib.Seq.{drop-drop}
 use Rattle.bits.specs.Bits.{number, sent}
 use Rattle.bits.proofs.Runs.{Below, digit, sent-drop, sent-below, number_at}
-use Rattle.runs.specs.Part.{put}
-use Rattle.runs.specs.Numbers.{four, four_at, eight, eight_at}
-use Rattle.runs.proofs.Parts.{put_next}
-use Rattle.runs.proofs.Numbers.{four-length, four_at-lt}
+use Rattle.runs.specs.Numbers.{four_at, eight_at}
+use Rattle.runs.proofs.Numbers.{four_at-lt}
 use Rattle.field.specs.Field.{bits_at, field_of}
 
 -- ---- a field's numbers by its bytes

@@ -9,7 +9,6 @@ use Rattle.bits.specs.All.{All}
 use Rattle.bare.specs.Edges as below
 use Rattle.bare.proofs.Edges as proved
 use Rattle.head.specs.Move.{per_of, needs_of, row_of, move_of, move_number, moved_head}
-use Rattle.head.specs.declared.Head.{Head}
 use Rattle.group.specs.Group.{taken_number}
 use Rattle.group.specs.Edges.{Edge, bare, Answers, Holds, steps, edges}
 

@@ -7,9 +7,8 @@
 --
 -- Assumes nothing.
 use mathlib.Core.Path.{◌≡◌, refl}
-use mathlib.Core.List.{List, [], ◌∷◌, ◌++◌}
+use mathlib.Core.List.{List, [], ◌∷◌}
 use Prim.Native.Nat.{ℕ}
-use lib.ListN.{take, drop}
 use Rattle.bits.specs.Bits.{bits_of, number, sent, numbers_in}
 use Rattle.image.specs.Image.{header_of, bytes_of, spare_of, image_of}
 

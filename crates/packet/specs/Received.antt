@@ -7,7 +7,7 @@
 --   received_bytes protected s      the 90 useful bytes, or the 45 of protected data
 --   received protected s           number, place of the word that made it 31, index, bytes with 0 behind them
 --   written address index type useful     the image of a packet
-use Rattle.std.specs.Prelude.{Bool, true, false, cond, not, List, [], ◌∷◌, ◌++◌, ℕ, zero, suc, ◌+◌, ◌-◌, ◌*◌, leb, eqb, ltb, length, get_or, drop}
+use Rattle.std.specs.Prelude.{Bool, true, false, cond, not, List, ◌∷◌, ◌++◌, ℕ, zero, suc, ◌+◌, ◌-◌, ◌*◌, leb, eqb, ltb, length, get_or, drop}
 use Rattle.bits.specs.Bits.{blank}
 use Rattle.bits.specs.Rows.{row, refusal, given}
 use Rattle.bare.specs.Bare.{header_read, types, type_near}

@@ -11,7 +11,6 @@ use native.Mathlib.Omega.{arith}
 use lib.Dec.{lit≤}
 use lib.ListN.{length}
 use Rattle.bits.proofs.Runs.{Below}
-use Rattle.runs.specs.Part.{part, put}
 use Rattle.runs.proofs.Parts.{part_length, put-length, part-put, part-put-before, part-put-after, put-below}
 use Rattle.slot.specs.Slot.{head_at, head_size, room_size, slot_size, whole_at, head_of, unfinished, stored, with_unfinished, with_stored}
 use Rattle.slot.proofs.Heads.{head-same}

@@ -5,12 +5,12 @@
 --
 -- Assumes nothing.
 use mathlib.Core.Path.{◌≡◌, refl, sym, ap, ap₂, ◌∙◌}
-use mathlib.Core.List.{List, ◌++◌, append-nil, append_assoc}
+use mathlib.Core.List.{List, ◌++◌}
 use Prim.Native.Nat.{ℕ, ◌+◌, ◌-◌, ◌≤◌, ◌<◌}
 use native.Mathlib.Omega.{arith}
 use native.Mathlib.Nat.{zero-add}
-use lib.ListN.{length, take, drop, get_or, replicate, length-drop}
-use lib.Seq.{drop-length, drop-drop, paste, take-length, length-take-le}
+use lib.ListN.{length, take, drop, get_or, length-drop}
+use lib.Seq.{paste, length-take-le}
 use Rattle.bits.specs.Bits.{blank}
 use Rattle.runs.specs.Part.{part, put}
 use Rattle.slot.specs.Slot.{head_at, room_size, slot_size, whole_at, unfinished, with_unfinished, with_stored, kept_room}

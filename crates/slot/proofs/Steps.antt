@@ -5,22 +5,20 @@
 --
 -- Assumes nothing.
 use mathlib.Core.Path.{◌≡◌, refl, sym, ap, ap₂, ◌∙◌}
-use mathlib.Core.Bool.{Bool, true, false, cond, ◌&&◌, and-true, and_assoc}
-use mathlib.Core.List.{List, [], ◌∷◌, ◌++◌}
-use Prim.Native.Nat.{ℕ, zero, suc, ◌+◌, ◌*◌, ◌/◌, ◌%◌, ◌^◌, ◌≤◌, ◌<◌}
+use mathlib.Core.Bool.{Bool, ◌&&◌, and-true, and_assoc}
+use mathlib.Core.List.{List, ◌++◌}
+use Prim.Native.Nat.{ℕ, zero, suc, ◌+◌, ◌≤◌, ◌<◌}
 use native.Mathlib.Omega.{arith}
 use native.Mathlib.Numerals.{add-one}
-use lib.Bits.{bit_and, bit_or, and_mask, or_zero_l}
-use lib.Dec.{eqb, ltb, eqb-suc-zero, lit≤}
-use lib.ListN.{length, drop, get_or, set, drop_of_length-le}
+use lib.Bits.{bit_or, or_zero_l}
+use lib.Dec.{eqb, eqb-suc-zero}
+use lib.ListN.{length, drop, get_or, drop_of_length-le}
 use lib.Seq.{drop-cons, sets}
 use borrow.Author.Tests.{ne_eqb}
 use Rattle.bits.proofs.Flips.{or-none}
-use Rattle.bits.proofs.Runs.{Below, or_above}
 use Rattle.runs.specs.Part.{put}
-use Rattle.runs.specs.Numbers.{four, four_at}
+use Rattle.runs.specs.Numbers.{four}
 use Rattle.slot.specs.Slot.{head_at, slot_size, head_bytes, with_head, free}
-use Rattle.head.specs.Head.{aged_head}
 use Rattle.head.specs.declared.Head.{Head}
 use Rattle.runs.proofs.Parts.{put-length, put_next, sets-put}
 use Rattle.slot.proofs.Heads.{singles}

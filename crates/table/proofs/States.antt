@@ -19,10 +19,10 @@ use Prim.Native.Nat.{ℕ, zero, suc, ◌+◌, ◌*◌, ◌≤◌, ◌<◌}
 use native.Mathlib.Omega.{arith}
 use native.Mathlib.Decide.{dec_lt, ℕ_discrete}
 use borrow.Author.Tests.{eq-eqb, ne_eqb, eqb-true, leb-true, le-leb}
-use lib.Dec.{T, leb, eqb, eqb_refl, eqb→eq}
+use lib.Dec.{T, eqb, eqb_refl, eqb→eq}
 use lib.ListN.{length, drop, get_or, length-drop}
 use lib.Seq.{length-take-le}
-use Rattle.bits.specs.Search.{first, all}
+use Rattle.bits.specs.Search.{all}
 use Rattle.bare.specs.Bare.{most_flips}
 use Rattle.bits.proofs.Search.{first-le, first_holds, first-only, first-agree, first-least, all-at, all-each, and_left, and_right, or_right}
 use Rattle.runs.specs.Part.{part, put}

@@ -14,7 +14,7 @@ use second::table::{self, STATE};
 use second::xorshift::Xorshift;
 
 fn program() -> PathBuf {
-    [env!("CARGO_MANIFEST_DIR"), "..", "..", "target", "bin", "answers"].iter().collect()
+    [env!("CARGO_MANIFEST_DIR"), "..", "..", "crates", "answers", "out", "answers"].iter().collect()
 }
 
 /// What the program prints, its input written in pieces of the given size.
@@ -23,7 +23,7 @@ fn ours(input: &[u8], piece: usize) -> String {
         .stdin(Stdio::piped())
         .stdout(Stdio::piped())
         .spawn()
-        .expect("target/bin/answers is there: rt check answers");
+        .expect("the record program is there: rt run in crates/answers");
     let mut stdin = child.stdin.take().expect("a pipe");
     let input = input.to_vec();
     let writer = thread::spawn(move || {

@@ -1,7 +1,6 @@
 -- `asking::shown` meets its contract: 4, or the freshness with the place and length of the group.
 -- Assumes nothing.
 use mathlib.Core.Path.{◌≡◌, sym, ◌∙◌}
-use mathlib.Core.Logic.{⊎_elim}
 use Prim.Native.Nat.{◌+◌, ◌*◌}
 use Rattle.asking.specs.Asking.{group_length}
 use Rattle.slot.specs.Slot.{slot_size}

@@ -1,6 +1,6 @@
 -- `group::refused` meets its contract: the number says whether it drops, and is told with the place. Assumes nothing.
 use mathlib.Core.Path.{◌≡◌, ap, ◌∙◌}
-use mathlib.Core.Logic.{inl, inr, ⊎_elim}
+use mathlib.Core.Logic.{inl, inr}
 use lib.ListN.{length}
 use Rattle.slot.specs.Slot.{slot_size}
 use Rattle.packet.specs.Received.{refused_as}

@@ -5,12 +5,6 @@ use Rattle.plain.proofs.Trying.{of-many}
 use borrow.Author.Rules.{rules}
 use Rattle.plain.proofs.flipped.Statement.{statement}
 use Rattle.plain.proofs.flipped.Tie as tie
-use Rattle.plain.proofs.flipped.Reads as reads
-use Rattle.plain.proofs.flipped.Lts as lts
-use Rattle.plain.proofs.no_flip.Reads as no-flip-reads
-use Rattle.plain.proofs.one_flip.Reads as one-flip-reads
-use Rattle.plain.proofs.three_flips.Reads as three-flips-reads
-use Rattle.plain.proofs.two_flips.Reads as two-flips-reads
 
 no-flip-requires : tie.Need-no_flip-requires
 no-flip-requires c κs = search rules

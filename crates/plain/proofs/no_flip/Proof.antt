@@ -5,9 +5,6 @@ use borrow.Author.Rules.{rules}
 use Rattle.plain.proofs.Trying.{clean, damaged}
 use Rattle.plain.proofs.no_flip.Statement.{statement}
 use Rattle.plain.proofs.no_flip.Tie as tie
-use Rattle.plain.proofs.no_flip.Reads as reads
-use Rattle.plain.proofs.no_flip.Lts as lts
-use Rattle.plain.proofs.remainder.Reads as remainder-reads
 
 remainder-requires : tie.Need-remainder-requires
 remainder-requires c κs = search rules

@@ -8,9 +8,6 @@ use Rattle.plain.specs.Plain.{error_patterns, leaving}
 use Rattle.plain.proofs.Trying.{clean, damaged, none_yet, turn-hit, turn-miss, turn_end}
 use Rattle.plain.proofs.one_flip.Statement.{statement}
 use Rattle.plain.proofs.one_flip.Tie as tie
-use Rattle.plain.proofs.one_flip.Reads as reads
-use Rattle.plain.proofs.one_flip.Lts as lts
-use Rattle.plain.proofs.remainder.Reads as remainder-reads
 
 abbrev invariant-loop : tie.invariant-loop-bit
 invariant-loop n bits bit₀ bit = (bit ≤ bits) × (leaving n (error_patterns 1 bit) ≡ 2 ^ 23)

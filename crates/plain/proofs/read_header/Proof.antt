@@ -9,10 +9,6 @@ use Rattle.plain.proofs.Plain.{plain-33, plain-48, plain-found, plain-none}
 use Rattle.plain.proofs.Trying.{none_tried, trial-miss}
 use Rattle.plain.proofs.read_header.Statement.{statement}
 use Rattle.plain.proofs.read_header.Tie as tie
-use Rattle.plain.proofs.read_header.Reads as reads
-use Rattle.plain.proofs.read_header.Lts as lts
-use Rattle.plain.proofs.flipped.Reads as flipped-reads
-use Rattle.plain.proofs.header.Reads as header-reads
 
 abbrev invariant-loop : tie.invariant-loop-flips
 invariant-loop n most flips₀ flips-end flips = (flips ≤ flips-end) × (leaving n (trials flips) ≡ 2 ^ 23)

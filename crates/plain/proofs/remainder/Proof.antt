@@ -1,7 +1,6 @@
 -- `plain::remainder` meets its contract: the loop does the lines of the long division.
 -- Assumes nothing.
 use mathlib.Core.Path.{◌≡◌, refl, sym, ap, ◌∙◌}
-use mathlib.Core.Logic.{⊎_elim}
 use Prim.Native.Nat.{ℕ, ◌-◌, ◌/◌, ◌≤◌}
 use native.Mathlib.Omega.{arith}
 use Rattle.golay.specs.Code.{line, divide, remainder}
@@ -31,8 +30,8 @@ loop-again c =
     let rest = c.loop.rest in
     let one : c.if-rest-eq1.rest / 2 ≡ line rest =
     elim c.if-rest-eq1.branch [
-    | then-rest-eq1 w ↦ line_taken rest _ w.if-rest-eq1.true w.rest-is
-    | else-rest-eq1 w ↦ line-left rest _ w.if-rest-eq1.false w.rest-is
+      | then-rest-eq1 w ↦ line_taken rest _ w.if-rest-eq1.true w.rest-is
+      | else-rest-eq1 w ↦ line-left rest _ w.if-rest-eq1.false w.rest-is
     ] in
     (omega arith, ap (divide _) one ∙ next 12 counter rest (omega arith) ∙ c.loop.invariant.1)
 

@@ -7,9 +7,6 @@ use Rattle.plain.specs.Plain.{error_patterns, leaving}
 use Rattle.plain.proofs.Trying.{none_yet, weight-lt, turn-hit, turn-miss, turn_end}
 use Rattle.plain.proofs.two_flips.Statement.{statement}
 use Rattle.plain.proofs.two_flips.Tie as tie
-use Rattle.plain.proofs.two_flips.Reads as reads
-use Rattle.plain.proofs.two_flips.Lts as lts
-use Rattle.plain.proofs.one_flip.Reads as one-flip-reads
 
 abbrev invariant-loop : tie.invariant-loop-bit
 invariant-loop n bits bit₀ bit = (bit ≤ bits) × (leaving n (error_patterns 2 bit) ≡ 2 ^ 23)

@@ -1,6 +1,5 @@
 -- `adapter::write::answer` meets its contract: the rows 22, 23, 20, 20, one after the other. Assumes nothing.
 use mathlib.Core.Path.{◌≡◌, ◌∙◌}
-use mathlib.Core.Logic.{⊎_elim}
 use lib.Dec.{eqb}
 use Rattle.adapter.specs.Calls.{group_size}
 use Rattle.adapter.proofs.Writing.{write-22, write-23, write-message, write-output, write-0, size-180, size-360}

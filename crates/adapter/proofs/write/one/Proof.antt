@@ -1,7 +1,6 @@
 -- `adapter::write::one` meets its contract: a fourth of the message is lent, and the place that its image is written into.
 -- Assumes nothing.
 use mathlib.Core.Path.{◌≡◌, sym, ◌∙◌}
-use mathlib.Core.Logic.{⊎_elim}
 use Prim.Native.Nat.{◌+◌, ◌*◌, ◌≤◌}
 use native.Mathlib.Omega.{arith}
 use Rattle.packet.specs.Damage.{data_size}

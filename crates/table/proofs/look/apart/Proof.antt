@@ -2,7 +2,6 @@
 -- Assumes nothing.
 use mathlib.Core.Path.{◌≡◌, refl, ◌∙◌}
 use mathlib.Core.Bool.{◌&&◌}
-use mathlib.Core.Logic.{⊎_elim}
 use Prim.Native.Nat.{◌+◌, ◌-◌, ◌≤◌}
 use native.Mathlib.Omega.{arith}
 use Rattle.bits.specs.Search.{all}
@@ -43,8 +42,8 @@ loop-again c =
       omega arith,
       all-next (alone xs) l.so (all (alone xs) 16 0) (16 - l.k) l.k c.if-addresses-k-ne0.so (16 - (l.k + 1)) (l.k + 1) (omega arith) (omega arith)
           (elim c.if-addresses-k-ne0.branch [
-          | then-addresses-k-ne0 w ↦ w.so-is ∙ alone-used xs l.k l.so w.last-so.result w.if-addresses-k-ne0.true w.last-so.ensures
-          | else-addresses-k-ne0 w ↦ w.so-is ∙ alone-free xs l.k l.so w.if-addresses-k-ne0.false
+            | then-addresses-k-ne0 w ↦ w.so-is ∙ alone-used xs l.k l.so w.last-so.result w.if-addresses-k-ne0.true w.last-so.ensures
+            | else-addresses-k-ne0 w ↦ w.so-is ∙ alone-free xs l.k l.so w.if-addresses-k-ne0.false
           ])
           l.invariant.1,
     )

@@ -12,7 +12,7 @@ const MORNINGS: usize = 20_000;
 
 pub fn measure() {
     let root = Path::new(env!("CARGO_MANIFEST_DIR")).join("../..");
-    let ours = root.join("target/bin/answers");
+    let ours = root.join("crates/answers/out/answers");
     let second = beside("answers");
     for program in [&ours, &second] {
         if !program.exists() {
