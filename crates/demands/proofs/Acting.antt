@@ -37,7 +37,6 @@ use Rattle.history.specs.Followed.{Event, after, answer}
 use Rattle.history.specs.Followed as one
 use Rattle.adapter.specs.Calls.{reading_at}
 use Rattle.table.specs.State.{slot_at, find}
-use Rattle.demands.specs.Machine.{packet}
 use Rattle.demands.specs.Seen.{event_by, event_of, seen_in}
 use Rattle.demands.proofs.View.{view-moved, view-dropped}
 use Rattle.head.specs.declared.Wish.{Wish}

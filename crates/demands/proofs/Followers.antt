@@ -25,7 +25,7 @@ use Rattle.head.specs.Head.{within, good_wish}
 use Rattle.head.proofs.Bounds.{wish-bounds}
 use Rattle.head.proofs.Wishes.{wish-rest, wish-passes}
 use Rattle.head.specs.declared.Wish.{Wish}
-use Rattle.table.specs.State.{state_size, setting, started_state, slots, address_at, find, good}
+use Rattle.table.specs.State.{state_size, setting, started_state, slots, address_at, find}
 use Rattle.table.specs.Calls.{start_answer, follow_answer, leave_answer, set_answer}
 use Rattle.table.proofs.Looking.{state-rest}
 use Rattle.table.proofs.States.{good-each, find-has, find-only, find-agree, find_none, used-one}

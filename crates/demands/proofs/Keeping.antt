@@ -31,7 +31,7 @@ use Rattle.table.proofs.Kept.{started-length, slot-started}
 use Rattle.table.proofs.Vectors.{started-bytes}
 use Rattle.asking.specs.Asking.{asked}
 use Rattle.history.specs.Followed as one
-use Rattle.demands.specs.Machine.{Call, follow, leave, subframe_end, asks, ours, our_answer, our_after, run, question_answer}
+use Rattle.demands.specs.Machine.{Call, follow, leave, subframe_end, ours, our_answer, our_after, run, question_answer}
 use Rattle.demands.specs.Demand1.{Demand1}
 use Rattle.demands.specs.Setting.{setting_after}
 use Rattle.demands.specs.Table.{member, without, accepts, follow_now, followed_after, ByHistory, KeepsTable}

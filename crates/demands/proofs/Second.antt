@@ -28,7 +28,6 @@ use Rattle.plain.proofs.Theorems.{plain-is-table}
 use Rattle.image.specs.Image.{header_of, spare_of}
 use Rattle.packet.specs.Received.{received, readable_as}
 use Rattle.packet.specs.Damage.{data_size, sent_image, Corrected}
-use Rattle.packet.specs.Damage as damage
 use Rattle.packet.specs.declared.Reading.{Reading}
 use Rattle.packet.proofs.Answers.{filled-begins}
 use Rattle.packet.proofs.Damages.{header-came, header-flipped-by, received-corrected, sent-corrected, sent-spare}
@@ -44,7 +43,7 @@ use Rattle.history.specs.Followed.{Followed, Event, moved, begun, joined, last_o
 use Rattle.history.specs.Followed as one
 use Rattle.adapter.specs.Calls.{address_of, flips_of, group_size, images_size, packet_of, group_images, packet_answer, packet_after, write_answer, write_after}
 use Rattle.adapter.proofs.Writing.{packet-length, write-0}
-use Rattle.demands.specs.Machine.{packet, ours, our_answer, our_after, Bytes, run, question_answer, read_within, read_plain, bare_number, bare_values}
+use Rattle.demands.specs.Machine.{ours, our_answer, our_after, Bytes, run, question_answer, read_within, read_plain, bare_number, bare_values}
 use Rattle.demands.specs.Demand2.{Follows, Writable, image_at, Sound, answers_to, packets, ReadBack, Demand2}
 use Rattle.demands.specs.Seen.{event_of, seen_in}
 use Rattle.demands.proofs.Serving.{Serves, view, Kept, here-address, here-wish}

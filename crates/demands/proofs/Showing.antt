@@ -27,7 +27,7 @@ use Rattle.head.specs.Move.{per_of, needs_of, row_of, move_of, move_number, move
 use Rattle.head.specs.declared.Head.{Head}
 use Rattle.slot.proofs.Goods.{good-load, good-store}
 use Rattle.slot.proofs.Heads.{with_head-length}
-use Rattle.table.specs.State.{state_size, setting, slots, slot_at, with_slot, address_at, find, good}
+use Rattle.table.specs.State.{state_size, setting, slots, slot_at, with_slot, address_at, find}
 use Rattle.table.specs.Calls.{follow_after}
 use Rattle.table.proofs.States.{each-good, slot_same, with-length, address_same, address-other, find-only, good-followed}
 use Rattle.table.proofs.Kept.{started-length, started-good, setting-started}
@@ -35,9 +35,9 @@ use Rattle.asking.specs.Asking.{asked, ask_part}
 use Rattle.history.specs.Followed as one
 use Rattle.faults.specs.Faults.{number_drops}
 use Rattle.history.specs.Transcript.{told, is_whole, any_whole, since_whole, ends, before, marks, marked, called}
-use Rattle.adapter.specs.Calls.{address_of, followed, packet_answer}
+use Rattle.adapter.specs.Calls.{address_of, packet_answer}
 use Rattle.adapter.proofs.Laws.{both-followed}
-use Rattle.demands.specs.Machine.{Call, follow, packet, asks, ours, our_answer, our_after, Bytes, run, question_answer}
+use Rattle.demands.specs.Machine.{Call, follow, packet, ours, our_answer, our_after, Bytes, run, question_answer}
 use Rattle.demands.specs.Rows.{index_of}
 use Rattle.demands.specs.Setting.{setting_now}
 use Rattle.demands.proofs.Settings.{setting-next}

@@ -25,7 +25,7 @@ use Rattle.head.specs.declared.Wish.{Wish}
 use Rattle.head.proofs.Bounds.{good_new}
 use Rattle.slot.proofs.Goods.{good-load, head-blank}
 use Rattle.slot.proofs.Heads.{with_head-length}
-use Rattle.table.specs.State.{state_size, with_setting, started_state, slots, slot_at, with_slot, address_at, find, good}
+use Rattle.table.specs.State.{state_size, with_setting, started_state, slots, slot_at, with_slot, address_at, find}
 use Rattle.table.specs.Calls.{follow_answer, follow_after, leave_answer, leave_after, end_answer, end_after, ages, set_answer, set_after}
 use Rattle.table.proofs.Looking.{state-rest}
 use Rattle.table.proofs.States.{each-good, good-each, slot-length, with-length, address_is, address_same, address-other, set-length, address_kept}

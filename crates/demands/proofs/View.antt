@@ -25,7 +25,7 @@ use Rattle.slot.proofs.Goods.{good-load}
 use Rattle.head.proofs.Bounds.{good-aged}
 use Rattle.slot.proofs.Heads.{store-unfinished, store_stored}
 use Rattle.asking.specs.Asking.{group_length}
-use Rattle.history.specs.Followed.{Followed, moved, begun, joined, last_of, dropped, aged, followed}
+use Rattle.history.specs.Followed.{moved, begun, joined, last_of, dropped, aged, followed}
 use Rattle.group.specs.Group.{block_of, begun_room, slot_moved, slot_dropped}
 use Rattle.group.proofs.Laws.{Fits, moved-head, started-room, started-stored, held-room, held-stored, whole-group, dropped-head, dropped-stored}
 use Rattle.group.proofs.Doing.{out-drops}

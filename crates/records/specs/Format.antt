@@ -7,7 +7,7 @@
 --                     or a bad record
 --   record_size step   how many bytes the record that stands at a place has, head and all; 0 where none stands
 --   record_of kind b   a record, written
-use Rattle.std.specs.Prelude.{Bool, cond, not, ◌&&◌, List, ◌∷◌, ℕ, ◌+◌, ◌-◌, ◌*◌, ◌/◌, ◌%◌, ltb, eqb, length, get_or}
+use Rattle.std.specs.Prelude.{Bool, cond, not, ◌&&◌, List, ◌∷◌, ℕ, ◌+◌, ◌-◌, ◌/◌, ◌%◌, ltb, eqb, length, get_or}
 use Rattle.runs.specs.Numbers.{two_at}
 use Rattle.records.specs.declared.Step.{Step}
 use Rattle.records.specs.declared.Step.TheVariants.{Record, End, More, Bad}

@@ -17,7 +17,6 @@ use Rattle.bits.specs.Bits.{blank}
 use Rattle.bits.specs.Search.{first}
 use Rattle.bits.proofs.Rows.{done_refused}
 use Rattle.runs.specs.Part.{part}
-use Rattle.table.specs.State.{state_size}
 use Rattle.bits.specs.Rows.{refusal}
 use Rattle.head.specs.Head.{wish_of, wish_answer}
 use Rattle.table.specs.Calls.{follow_answer, follow_after, leave_answer, leave_after, end_answer, end_after}
@@ -25,11 +24,8 @@ use Rattle.table.proofs.Looking.{follow-wish}
 use Rattle.table.proofs.Shows.{Shows, with, end-done, end-shows, leave-shows}
 use Rattle.table.proofs.Vectors.{started, followed, followed-17, followed-shows, one, known, unknown, again}
 use Rattle.asking.specs.Asking.{asked}
-use Rattle.asking.specs.declared.Asked.{Asked}
 use Rattle.asking.proofs.Vectors.{refused, nothing_yet}
 use Rattle.adapter.specs.Calls.{packet_answer}
-use Rattle.records.specs.declared.Step.{Step}
-use Rattle.records.specs.declared.Step.TheVariants.{Record, End, More, Bad}
 use Rattle.runs.specs.Numbers.{two_at}
 use Rattle.records.specs.Format.{body_size, good_head, step_at}
 use Rattle.records.proofs.Vectors.{sample}
