@@ -306,6 +306,6 @@ pub admits : Admits ours
 unfolding ours
 admits = record {
   known = λ a w hears Near-by t v id ht lo hi hid number fields. reason a hears t _ (kept_at a w hears Near-by t ht) v id hid lo hi number fields;
-  enough = λ a w hears Near-by t id count ht hid. enough-then a hears t _ (kept_at a w hears Near-by t ht) id count hid;
+  enough = λ a w hears Near-by t id count ht hid e. enough-then a hears t _ (kept_at a w hears Near-by t ht) id count hid (omega (arith, e));
   doubts = λ a w hears Near-by t v id ht lo hi hid number. doubted a hears t _ (kept_at a w hears Near-by t ht) v id hid lo hi number;
 }
