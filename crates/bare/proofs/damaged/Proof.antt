@@ -29,20 +29,28 @@ few c = ones-le 24 c.before.args.n c.before.requires.0
 entry-requires : tie.Need-entry-requires
 entry-requires c κs = omega (arith, c.requires.1, remainder-small (c.args.n % 2 ^ 23) (omega arith))
 
-add-even : tie.Need-overflow-add-even
+add-even : tie.Need-overflow_add-even
 add-even c = omega (arith, near c, few c)
 
-add-even-2 : tie.Need-overflow-add-even-2
+add-even-2 : tie.Need-overflow_add-even-2
 add-even-2 c = omega (arith, near c, few c)
 
-mul-result : tie.Need-overflow-mul-result
+mul-result : tie.Need-overflow_mul-result
 mul-result c = search rules
 
-add-result : tie.Need-overflow-add-result
+add-result : tie.Need-overflow_add-result
 add-result c = omega (arith, near c)
 
 returns : tie.Need-returns
 returns c = judged-entry c.before.args.n c.entry.result c.before.requires.0 (own c)
 
-pub damaged-spec : {M : Type 1} → statement M
-damaged-spec = tie.close (tie.spec entry-requires add-even add-even-2 mul-result add-result returns)
+pub damaged_spec : {M : Type 1} → statement M
+damaged_spec =
+    tie.close
+    (tie.spec
+    entry-requires
+    add-even
+    add-even-2
+    mul-result
+    add-result
+    returns)

@@ -13,18 +13,24 @@ use Rattle.bare.proofs.judged.Tie as tie
 check-requires : tie.Need-check-requires
 check-requires c κs = search rules
 
-returns : tie.Need-returns
+returns : tie.Need-returns-then-wrong-eq0
 returns c =
     let s = c.before.before in
-    judged-clean s.args.n s.requires (sym c.before.check.ensures ∙ xor-zero c.before.check.result (s.args.n / 4096) c.if1.true)
+    judged-clean s.args.n s.requires (sym c.before.check.ensures ∙ xor-zero c.before.check.result (s.args.n / 4096) c.if-wrong-eq0.true)
 
 damaged-requires : tie.Need-damaged-requires
 damaged-requires c κs =
     let s = c.before.before in
     (s.requires, ap (λ (x : ℕ). bit_xor x (s.args.n / 4096) % 2048) c.before.check.ensures ∙ check-wrong s.args.n)
 
-returns-2 : tie.Need-returns-2
+returns-2 : tie.Need-returns
 returns-2 c = search rules
 
-pub judged-spec : {M : Type 1} → statement M
-judged-spec = tie.close (tie.spec check-requires returns damaged-requires returns-2)
+pub judged_spec : {M : Type 1} → statement M
+judged_spec =
+    tie.close
+    (tie.spec
+    check-requires
+    returns
+    damaged-requires
+    returns-2)

@@ -14,39 +14,48 @@ use borrow.Author.Rules.{rules}
 use Rattle.bare.proofs.near_header.Statement.{statement}
 use Rattle.bare.proofs.near_header.Tie as tie
 
-abbrev start : tie.After-remainder → tie.Start
+abbrev start : tie.After-remainder-left → tie.Start
 start c = c.before
 
 -- the entry is that of the remainder
-own : (c : tie.After-entry) → c.entry.result ≡ entry_of (get_or patterns (remainder (start c.before.before).args.n) 0)
-own c = c.entry.ensures ∙ ap (λ (r : ℕ). entry_of (get_or patterns r 0)) c.before.before.remainder.ensures
+own : (c : tie.After-entry-entry) → c.entry-entry.result ≡ entry_of (get_or patterns (remainder (start c.before.before).args.n) 0)
+own c = c.entry-entry.ensures ∙ ap (λ (r : ℕ). entry_of (get_or patterns r 0)) c.before.before.remainder-left.ensures
 
-remainder-requires : tie.Need-remainder-requires
+remainder-requires : tie.Need-remainder-left-requires
 remainder-requires c κs = search rules
 
-header-of-requires : tie.Need-header-of-requires
+header-of-requires : tie.Need-header_of-requires
 header-of-requires c κs =
-    ((start c.before).requires, clean-nearest (start c.before).args.n (sym c.before.remainder.ensures ∙ c.if1.true))
+    ((start c.before).requires, clean-nearest (start c.before).args.n (sym c.before.remainder-left.ensures ∙ c.if-left-eq0.true))
 
-returns : tie.Need-returns
+returns : tie.Need-returns-then-left-eq0
 returns c = search rules
 
-entry-requires : tie.Need-entry-requires
+entry-requires : tie.Need-entry-entry-requires
 entry-requires c κs =
-    omega (arith, c.before.remainder.ensures, remainder-small (start c.before).args.n (start c.before).requires)
+    omega (arith, c.before.remainder-left.ensures, remainder-small (start c.before).args.n (start c.before).requires)
 
-cast-t8 : tie.Need-overflow-cast-t8
+cast-t8 : tie.Need-overflow_cast-result
 cast-t8 c = search rules
 
-cast-t9 : tie.Need-overflow-cast-t9
-cast-t9 c = omega (arith, entry-index (start c.before.before).args.n c.entry.result)
+cast-t9 : tie.Need-overflow_cast-result-2
+cast-t9 c = omega (arith, entry-index (start c.before.before).args.n c.entry-entry.result)
 
-cast-t11 : tie.Need-overflow-cast-t11
-cast-t11 c = omega (arith, entry-flips (start c.before.before).args.n c.entry.result (start c.before.before).requires (own c))
+cast-t11 : tie.Need-overflow_cast-result-3
+cast-t11 c = omega (arith, entry-flips (start c.before.before).args.n c.entry-entry.result (start c.before.before).requires (own c))
 
-returns-2 : tie.Need-returns-2
-returns-2 c = sym (header-entry (start c.before.before).args.n c.entry.result (start c.before.before).requires (own c))
+returns-2 : tie.Need-returns
+returns-2 c = sym (header-entry (start c.before.before).args.n c.entry-entry.result (start c.before.before).requires (own c))
 
-pub near-header-spec : {M : Type 1} → statement M
-near-header-spec =
-    tie.close (tie.spec remainder-requires header-of-requires returns entry-requires cast-t8 cast-t9 cast-t11 returns-2)
+pub near_header_spec : {M : Type 1} → statement M
+near_header_spec =
+    tie.close
+    (tie.spec
+    remainder-requires
+    header-of-requires
+    returns
+    entry-requires
+    cast-t8
+    cast-t9
+    cast-t11
+    returns-2)

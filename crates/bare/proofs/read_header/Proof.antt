@@ -9,24 +9,32 @@ use Rattle.bare.proofs.read_header.Tie as tie
 refused-requires : tie.Need-refused-requires
 refused-requires c κs = search rules
 
-returns : tie.Need-returns
-returns c = c.refused.ensures ∙ sym (header-large _ c.before.if1.true)
+returns : tie.Need-returns-then-n-ge-NUMBERS
+returns c = c.refused.ensures ∙ sym (header-large _ c.before.if-n-ge-NUMBERS.true)
 
-remainder-requires : tie.Need-remainder-requires
+remainder-requires : tie.Need-remainder-rest-requires
 remainder-requires c κs = search rules
 
-header-of-requires : tie.Need-header-of-requires
-header-of-requires c κs = (c.before.before.if1.false, clean-nearest _ (sym c.before.remainder.ensures ∙ c.if2.true))
+header-of-requires : tie.Need-header_of-requires
+header-of-requires c κs = (c.before.before.if-n-ge-NUMBERS.false, clean-nearest _ (sym c.before.remainder-rest.ensures ∙ c.if-rest-eq0.true))
 
-returns-2 : tie.Need-returns-2
+returns-2 : tie.Need-returns-then-rest-eq0
 returns-2 c = search rules
 
-by-table-requires : tie.Need-by-table-requires
+by-table-requires : tie.Need-by_table-requires
 by-table-requires c κs = search rules
 
-returns-3 : tie.Need-returns-3
+returns-3 : tie.Need-returns
 returns-3 c = search rules
 
-pub read-header-spec : {M : Type 1} → statement M
-read-header-spec =
-    tie.close (tie.spec refused-requires returns remainder-requires header-of-requires returns-2 by-table-requires returns-3)
+pub read_header_spec : {M : Type 1} → statement M
+read_header_spec =
+    tie.close
+    (tie.spec
+    refused-requires
+    returns
+    remainder-requires
+    header-of-requires
+    returns-2
+    by-table-requires
+    returns-3)

@@ -9,5 +9,8 @@ returns : tie.Need-returns
 unfolding flips
 returns c = refl
 
-pub turned-spec : {M : Type 1} → statement M
-turned-spec = tie.close (tie.spec returns)
+pub turned_spec : {M : Type 1} → statement M
+turned_spec =
+    tie.close
+    (tie.spec
+    returns)

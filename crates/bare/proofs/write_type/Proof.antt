@@ -5,11 +5,15 @@ use mathlib.Core.Path.{sym, ◌∙◌}
 use Rattle.bare.proofs.write_type.Statement.{statement}
 use Rattle.bare.proofs.write_type.Tie as tie
 
-returns : tie.Need-returns
-returns c = sym (type-known c.before.args.byte (among-types c.before.args.byte ∙ c.if1.true))
+returns : tie.Need-returns-then-known
+returns c = sym (type-known c.before.args.byte (among-types c.before.args.byte ∙ c.if-known.true))
 
-returns-2 : tie.Need-returns-2
-returns-2 c = sym (type-unknown c.before.args.byte (among-types c.before.args.byte ∙ c.if1.false))
+returns-2 : tie.Need-returns-else-known
+returns-2 c = sym (type-unknown c.before.args.byte (among-types c.before.args.byte ∙ c.if-known.false))
 
-pub write-type-spec : {M : Type 1} → statement M
-write-type-spec = tie.close (tie.spec returns returns-2)
+pub write_type_spec : {M : Type 1} → statement M
+write_type_spec =
+    tie.close
+    (tie.spec
+    returns
+    returns-2)

@@ -6,14 +6,19 @@ use borrow.Author.Rules.{rules}
 use Rattle.bare.proofs.write_word.Statement.{statement}
 use Rattle.bare.proofs.write_word.Tie as tie
 
-returns : tie.Need-returns
-returns c = sym (word-much c.before.args.information c.if1.true)
+returns : tie.Need-returns-then-information-ge-INFORMATIONS
+returns c = sym (word-much c.before.args.information c.if-information-ge-INFORMATIONS.true)
 
-data-word-requires : tie.Need-data-word-requires
+data-word-requires : tie.Need-data_word-requires
 data-word-requires c κs = search rules
 
-returns-2 : tie.Need-returns-2
-returns-2 c = (λ j. record { number = 0; value = c.data-word.ensures j }) ∙ sym (word-written c.before.before.args.information c.before.if1.false)
+returns-2 : tie.Need-returns
+returns-2 c = (λ j. record { number = 0; value = c.data_word.ensures j }) ∙ sym (word-written c.before.before.args.information c.before.if-information-ge-INFORMATIONS.false)
 
-pub write-word-spec : {M : Type 1} → statement M
-write-word-spec = tie.close (tie.spec returns data-word-requires returns-2)
+pub write_word_spec : {M : Type 1} → statement M
+write_word_spec =
+    tie.close
+    (tie.spec
+    returns
+    data-word-requires
+    returns-2)

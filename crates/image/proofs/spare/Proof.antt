@@ -4,11 +4,15 @@ use Rattle.image.proofs.Gathering.{spare-gathered}
 use Rattle.image.proofs.spare.Statement.{statement}
 use Rattle.image.proofs.spare.Tie as tie
 
-shared-slice-read-result : tie.Need-shared-slice-read-result
+shared-slice-read-result : tie.Need-bounds-image-93
 shared-slice-read-result c = search rules
 
 returns : tie.Need-returns
-returns c = spare-gathered c.before.args.image.now (λ k. (c.shared-slice-known.given k).fits) c.before.requires
+returns c = spare-gathered c.before.args.image.now (λ k. (c.shared_slice_known-1.given k).fits) c.before.requires
 
-pub spare-spec : {M : Type 1} → statement M
-spare-spec = tie.close (tie.spec shared-slice-read-result returns)
+pub spare_spec : {M : Type 1} → statement M
+spare_spec =
+    tie.close
+    (tie.spec
+    shared-slice-read-result
+    returns)

@@ -11,53 +11,53 @@ use Rattle.image.proofs.Gathering.{useful-gathered}
 use Rattle.image.proofs.useful.Statement.{statement}
 use Rattle.image.proofs.useful.Tie as tie
 
-abbrev invariant-loop : tie.invariant-loop
+abbrev invariant-loop : tie.invariant-loop-j
 invariant-loop image useful₀ j₀ useful j = (j ≤ 90) × (length useful ≡ 90) × (take j useful ≡ take j (drop 1 (bytes_of image)))
 
-abbrev decreases-loop : tie.decreases-loop
+abbrev decreases-loop : tie.decreases-loop-j
 decreases-loop image useful₀ j₀ useful j = 90 - j
 
-loop-holds : tie.Need-loop-init invariant-loop decreases-loop
+loop-holds : tie.Need-loop-j-init invariant-loop decreases-loop
 loop-holds c = (omega arith, refl, refl)
 
-add-useful : tie.Need-overflow-add-useful invariant-loop decreases-loop
+add-useful : tie.Need-overflow_add-useful invariant-loop decreases-loop
 add-useful c = omega arith
 
-shared-slice-read-useful : tie.Need-shared-slice-read-useful invariant-loop decreases-loop
+shared-slice-read-useful : tie.Need-bounds-image-j invariant-loop decreases-loop
 shared-slice-read-useful c = omega arith
 
-add-useful-2 : tie.Need-overflow-add-useful-2 invariant-loop decreases-loop
+add-useful-2 : tie.Need-overflow_add-useful-in-loop-j invariant-loop decreases-loop
 add-useful-2 c = omega arith
 
-shared-slice-read-useful-2 : tie.Need-shared-slice-read-useful-2 invariant-loop decreases-loop
+shared-slice-read-useful-2 : tie.Need-bounds-image-j-in-loop-j invariant-loop decreases-loop
 shared-slice-read-useful-2 c = omega arith
 
-array-write-useful : tie.Need-array-write-useful invariant-loop decreases-loop
+array-write-useful : tie.Need-bounds-useful-j invariant-loop decreases-loop
 array-write-useful c = omega arith
 
-add-j : tie.Need-overflow-add-j invariant-loop decreases-loop
+add-j : tie.Need-overflow_add-j invariant-loop decreases-loop
 add-j c = omega arith
 
-loop-less : tie.Need-loop-smaller invariant-loop decreases-loop
+loop-less : tie.Need-loop-j-smaller invariant-loop decreases-loop
 loop-less c = omega arith
 
-loop-again : tie.Need-loop-preserved invariant-loop decreases-loop
+loop-again : tie.Need-loop-j-preserved invariant-loop decreases-loop
 loop-again c =
     let image = c.before.before.before.before.args.image.now in
-    let at = c.before.before.before.loop in (
+    let at = c.before.before.before.loop-j in (
       omega arith,
       simp length-set (omega arith),
       stored at.useful (drop 1 (bytes_of image)) at.j (at.j + 1) _ at.invariant.2 (omega arith) (omega (arith, useful-length image)) (add-one at.j)
-          (useful-gathered image (λ k. (c.shared-slice-known2.given k).fits) at.j (omega arith)),
+          (useful-gathered image (λ k. (c.shared_slice_known-in-loop-j-1.given k).fits) at.j (omega arith)),
     )
 
 returns : tie.Need-returns invariant-loop decreases-loop
 returns c =
     let image = c.before.before.args.image.now in
-    agreed c.before.loop.useful (drop 1 (bytes_of image)) 90 c.before.loop.j c.before.loop.invariant.2 c.before.loop.invariant.1 (useful-length image) (omega arith)
+    agreed c.before.loop-j.useful (drop 1 (bytes_of image)) 90 c.before.loop-j.j c.before.loop-j.invariant.2 c.before.loop-j.invariant.1 (useful-length image) (omega arith)
 
-pub useful-spec : {M : Type 1} → statement M
-useful-spec =
+pub useful_spec : {M : Type 1} → statement M
+useful_spec =
     tie.close
     (tie.spec
     invariant-loop

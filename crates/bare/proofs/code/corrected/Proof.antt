@@ -12,10 +12,10 @@ use borrow.Author.Rules.{rules}
 use Rattle.bare.proofs.code.corrected.Statement.{statement}
 use Rattle.bare.proofs.code.corrected.Tie as tie
 
-mul-result : tie.Need-overflow-mul-result
+mul-result : tie.Need-offset_bounds-patterns-r
 mul-result c = search rules
 
-shared-slice-read-result : tie.Need-shared-slice-read-result
+shared-slice-read-result : tie.Need-bounds-patterns-r
 shared-slice-read-result c =
     let s = c.before in
     omega (arith, s.requires.0.size, s.requires.1.1, remainder-small s.args.n s.requires.1.0)
@@ -27,5 +27,10 @@ returns c =
     ∙ corrected-nearest s.args.n _ s.requires.1.0
     (s.requires.0.each (remainder s.args.n) (remainder-small s.args.n s.requires.1.0))
 
-pub corrected-spec : {M : Type 1} → statement M
-corrected-spec = tie.close (tie.spec mul-result shared-slice-read-result returns)
+pub corrected_spec : {M : Type 1} → statement M
+corrected_spec =
+    tie.close
+    (tie.spec
+    mul-result
+    shared-slice-read-result
+    returns)

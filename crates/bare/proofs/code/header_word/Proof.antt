@@ -10,14 +10,20 @@ use Rattle.bare.proofs.code.header_word.Tie as tie
 check-requires : tie.Need-check-requires
 check-requires c κs = search rules
 
-mul-result : tie.Need-overflow-mul-result
+mul-result : tie.Need-overflow_mul-result
 mul-result c = search rules
 
-add-result : tie.Need-overflow-add-result
+add-result : tie.Need-overflow_add-result
 add-result c = search rules
 
 returns : tie.Need-returns
 returns c = ap (λ (x : ℕ). c.before.args.i + x % 2048 * 4096) c.check.ensures ∙ check-word23 c.before.args.i c.before.requires
 
-pub header-word-spec : {M : Type 1} → statement M
-header-word-spec = tie.close (tie.spec check-requires mul-result add-result returns)
+pub header_word_spec : {M : Type 1} → statement M
+header_word_spec =
+    tie.close
+    (tie.spec
+    check-requires
+    mul-result
+    add-result
+    returns)

@@ -14,5 +14,9 @@ check-requires c κs = search rules
 returns : tie.Need-returns
 returns c = ap (λ (x : ℕ). bit_xor (x % 2048) (c.before.args.n / 4096)) c.check.ensures ∙ check-divides c.before.args.n
 
-pub remainder-spec : {M : Type 1} → statement M
-remainder-spec = tie.close (tie.spec check-requires returns)
+pub remainder_spec : {M : Type 1} → statement M
+remainder_spec =
+    tie.close
+    (tie.spec
+    check-requires
+    returns)

@@ -6,46 +6,46 @@ use Rattle.slot.specs.Slot.{head_at, head_of}
 use Rattle.slot.proofs.Slot.load.Statement.{statement}
 use Rattle.slot.proofs.Slot.load.Tie as tie
 
-four-at-requires : tie.Need-four-at-requires
+four-at-requires : tie.Need-four_at-requires
 four-at-requires c κs = search rules
 
-add-four-at : tie.Need-overflow-add-four-at
+add-four-at : tie.Need-overflow_add-four_at
 add-four-at c = search rules
 
-four-at-requires-2 : tie.Need-four-at-requires-2
+four-at-requires-2 : tie.Need-four_at-requires-2
 four-at-requires-2 c κs = search rules
 
-add-t6 : tie.Need-overflow-add-t6
+add-t6 : tie.Need-overflow_add-wish
 add-t6 c = search rules
 
-shared-slice-read-t8 : tie.Need-shared-slice-read-t8
+shared-slice-read-t8 : tie.Need-bounds-slot
 shared-slice-read-t8 c = search rules
 
-cast-t9 : tie.Need-overflow-cast-t9
-cast-t9 c = omega (arith, c.shared-slice-known2.given (head_at + 12))
+cast-t9 : tie.Need-overflow_cast-wish
+cast-t9 c = omega (arith, c.shared_slice_known-2-1.given (head_at + 12))
 
-add-four-at-2 : tie.Need-overflow-add-four-at-2
+add-four-at-2 : tie.Need-overflow_add-four_at-2
 add-four-at-2 c = search rules
 
-four-at-requires-3 : tie.Need-four-at-requires-3
+four-at-requires-3 : tie.Need-four_at-requires-3
 four-at-requires-3 c κs = search rules
 
-add-t6-2 : tie.Need-overflow-add-t6-2
+add-t6-2 : tie.Need-overflow_add-result
 add-t6-2 c = search rules
 
-shared-slice-read-t8-2 : tie.Need-shared-slice-read-t8-2
+shared-slice-read-t8-2 : tie.Need-bounds-slot-2
 shared-slice-read-t8-2 c = search rules
 
-add-t11 : tie.Need-overflow-add-t11
+add-t11 : tie.Need-overflow_add-result-2
 add-t11 c = search rules
 
-shared-slice-read-t13 : tie.Need-shared-slice-read-t13
+shared-slice-read-t13 : tie.Need-bounds-slot-3
 shared-slice-read-t13 c = search rules
 
-add-t14 : tie.Need-overflow-add-t14
+add-t14 : tie.Need-overflow_add-result-3
 add-t14 c = search rules
 
-shared-slice-read-t16 : tie.Need-shared-slice-read-t16
+shared-slice-read-t16 : tie.Need-bounds-slot-4
 shared-slice-read-t16 c = search rules
 
 returns : tie.Need-returns

@@ -5,25 +5,31 @@ use Rattle.slot.proofs.Rooms.{empty-lent}
 use Rattle.slot.proofs.room.empty.Statement.{statement}
 use Rattle.slot.proofs.room.empty.Tie as tie
 
-sub-clear : tie.Need-overflow-sub-clear
+sub-clear : tie.Need-slice_bounds-clear-count
 sub-clear c = search rules
 
-part-clear-start : tie.Need-slice-bounds-clear-start
+part-clear-start : tie.Need-slice_bounds-clear-start
 part-clear-start c = search rules
 
-part-clear-end : tie.Need-slice-bounds-clear-end
+part-clear-end : tie.Need-slice_bounds-clear-end
 part-clear-end c = omega arith
 
 clear-requires : tie.Need-clear-requires
 clear-requires c κs = search rules
 
-same_length : tie.Need-same-length
+same_length : tie.Need-shape_of-slot
 same_length c = search rules
 
 returns : tie.Need-returns
 returns c = empty-lent c.before.before.before.before.before.args.slot.now _ c.before.before.before.before.before.requires c.before.before.clear.ensures
 
-pub empty-spec : {M : Type 1} → statement M
-empty-spec =
+pub empty_spec : {M : Type 1} → statement M
+empty_spec =
     tie.close
-    (tie.spec sub-clear part-clear-start part-clear-end clear-requires same_length returns)
+    (tie.spec
+    sub-clear
+    part-clear-start
+    part-clear-end
+    clear-requires
+    same_length
+    returns)
