@@ -13,44 +13,44 @@ use Rattle.packet.proofs.unprotected.Tie as tie
 
 -- ---- the points: the data read, then whole
 
-abbrev start : tie.After-unprotect → tie.Start
+abbrev start : tie.After-unprotect-data → tie.Start
 start c = c.before.before
 
-abbrev whole : tie.After-bytes2 → tie.Else1
+abbrev whole : tie.After-bytes-2-1 → tie.Else-place-lt-ALL
 whole c = c.before.before
 
 -- ---- the answers
 
-unprotect-requires : tie.Need-unprotect-requires
+unprotect-requires : tie.Need-unprotect-data-requires
 unprotect-requires c κs = search rules
 
 refused-requires : tie.Need-refused-requires
 refused-requires c κs = search rules
 
-returns : tie.Need-returns
+returns : tie.Need-returns-then-place-lt-ALL
 returns c =
-    let test = c.before in
-    let read = test.before in
-    let index = (start read).args.index in
-    c.refused.ensures ∙ sym (data-short index read.unprotect.result test.if1.true) ∙ ap (data_as index) read.unprotect.ensures
+    let test = c in
+    let read = test in
+    let index = (start read.before.before).args.index in
+    c.refused.ensures ∙ sym (data-short index read.unprotect-data.result test.if-place-lt-ALL.true) ∙ ap (data_as index) read.unprotect-data.ensures
 
-slice-aggregate-readable : tie.Need-slice-aggregate-readable
+slice-aggregate-readable : tie.Need-slice_bounds-readable-end
 slice-aggregate-readable c = search rules
 
 readable-requires : tie.Need-readable-requires
 readable-requires c κs =
-    let read = (whole c).before in
-    omega (arith, ap (λ (d : Data). length d.bytes) read.unprotect.ensures, read_length (start read).args.useful.now)
+    let read = whole c in
+    omega (arith, ap (λ (d : Data). length d.bytes) read.unprotect-data.ensures, read_length (start read.before).args.useful.now)
 
-returns-2 : tie.Need-returns-2
+returns-2 : tie.Need-returns
 returns-2 c =
     let test = whole c.before in
-    let read = test.before in
-    let index = (start read).args.index in
-    c.readable.ensures ∙ sym (data-whole index read.unprotect.result test.if1.left) ∙ ap (data_as index) read.unprotect.ensures
+    let read = test in
+    let index = (start read.before).args.index in
+    c.readable.ensures ∙ sym (data-whole index read.unprotect-data.result test.if-place-lt-ALL.false) ∙ ap (data_as index) read.unprotect-data.ensures
 
-pub unprotected-spec : {M : Type 1} → statement M
-unprotected-spec =
+pub unprotected_spec : {M : Type 1} → statement M
+unprotected_spec =
     tie.close
     (tie.spec
     unprotect-requires

@@ -12,34 +12,34 @@ use Rattle.plain.proofs.one_flip.Reads as one-flip-reads
 use Rattle.plain.proofs.three_flips.Reads as three-flips-reads
 use Rattle.plain.proofs.two_flips.Reads as two-flips-reads
 
-no-flip-requires : tie.Need-no-flip-requires
+no-flip-requires : tie.Need-no_flip-requires
 no-flip-requires c κs = search rules
 
-one-flip-requires : tie.Need-one-flip-requires
+one-flip-requires : tie.Need-one_flip-requires
 one-flip-requires c κs = search rules
 
-two-flips-requires : tie.Need-two-flips-requires
+two-flips-requires : tie.Need-two_flips-requires
 two-flips-requires c κs = search rules
 
-three-flips-requires : tie.Need-three-flips-requires
+three-flips-requires : tie.Need-three_flips-requires
 three-flips-requires c κs = search rules
 
-returns : tie.Need-returns
-returns c = of-many _ 0 _ _ c.before.match.keys1 c.no-flip.ensures
+returns : tie.Need-returns-in-0
+returns c = of-many _ 0 _ _ c.in-0.is c.no_flip.ensures
 
-returns-2 : tie.Need-returns-2
-returns-2 c = of-many _ 1 _ _ c.before.match.keys2 c.one-flip.ensures
+returns-2 : tie.Need-returns-in-1
+returns-2 c = of-many _ 1 _ _ c.in-1.is c.one_flip.ensures
 
-returns-3 : tie.Need-returns-3
-returns-3 c = of-many _ 2 _ _ c.before.match.keys3 c.two-flips.ensures
+returns-3 : tie.Need-returns-in-2
+returns-3 c = of-many _ 2 _ _ c.in-2.is c.two_flips.ensures
 
-returns-4 : tie.Need-returns-4
+returns-4 : tie.Need-returns-in_default
 returns-4 c =
-    let r = c.before.match.rest in
-    of-many _ 3 _ _ (omega (arith, c.before.before.requires, r.0.0.1, r.0.1, r.1)) c.three-flips.ensures
+    let r = c.in_default.in_default-own.rest in
+    of-many _ 3 _ _ (omega (arith, c.requires, r.0.0.1, r.0.1, r.1)) c.three_flips.ensures
 
-pub flipped-spec : {M : Type 1} → statement M
-flipped-spec =
+pub flipped_spec : {M : Type 1} → statement M
+flipped_spec =
     tie.close
     (tie.spec
     no-flip-requires

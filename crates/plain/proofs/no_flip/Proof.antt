@@ -12,11 +12,16 @@ use Rattle.plain.proofs.remainder.Reads as remainder-reads
 remainder-requires : tie.Need-remainder-requires
 remainder-requires c κs = search rules
 
-returns : tie.Need-returns
-returns c = sym (clean _ 23 (sym c.before.remainder.ensures ∙ c.if1.true))
+returns : tie.Need-returns-then-remainder-eq0
+returns c = sym (clean _ 23 (sym c.remainder.ensures ∙ c.if-remainder-eq0.true))
 
-returns-2 : tie.Need-returns-2
-returns-2 c = sym (damaged _ 23 (λ e. c.if1.false (c.before.remainder.ensures ∙ e)))
+returns-2 : tie.Need-returns
+returns-2 c = sym (damaged _ 23 (λ e. c.if-remainder-eq0.false (c.remainder.ensures ∙ e)))
 
-pub no-flip-spec : {M : Type 1} → statement M
-no-flip-spec = tie.close (tie.spec remainder-requires returns returns-2)
+pub no_flip_spec : {M : Type 1} → statement M
+no_flip_spec =
+    tie.close
+    (tie.spec
+    remainder-requires
+    returns
+    returns-2)

@@ -8,8 +8,7 @@ use Rattle.golay.specs.Code.{line, divide, remainder}
 use Rattle.plain.proofs.Dividing.{next, line_taken, line-left}
 use Rattle.plain.proofs.remainder.Statement.{statement}
 use Rattle.plain.proofs.remainder.Tie as tie
-use Rattle.plain.proofs.remainder.Reads as reads
-use Rattle.plain.proofs.remainder.Lts as lts
+use Rattle.plain.proofs.remainder.Lts.{then-rest-eq1, else-rest-eq1}
 
 abbrev invariant-loop : tie.invariant-loop
 invariant-loop n rest₀ counter₀ rest counter = (counter ≤ 12) × (divide (12 - counter) rest ≡ divide 12 n)
@@ -20,7 +19,7 @@ decreases-loop n rest₀ counter₀ rest counter = 12 - counter
 loop-holds : tie.Need-loop-init invariant-loop decreases-loop
 loop-holds c = (omega arith, refl)
 
-add-counter : tie.Need-overflow-add-counter invariant-loop decreases-loop
+add-counter : tie.Need-overflow_step invariant-loop decreases-loop
 add-counter c = omega arith
 
 loop-less : tie.Need-loop-smaller invariant-loop decreases-loop
@@ -28,19 +27,30 @@ loop-less c = omega arith
 
 loop-again : tie.Need-loop-preserved invariant-loop decreases-loop
 loop-again c =
-    let counter = c.before.before.before.loop.counter in
-    let rest = c.before.before.before.loop.rest in
-    let one : c.before.if1.rest / 2 ≡ line rest =
-    ⊎_elim (λ w. line_taken rest _ w.0.taken w.1) (λ w. line-left rest _ w.0.left w.1) c.before.if1.branch in
-    (omega arith, ap (divide _) one ∙ next 12 counter rest (omega arith) ∙ c.before.before.before.loop.invariant.1)
+    let counter = c.loop.counter in
+    let rest = c.loop.rest in
+    let one : c.if-rest-eq1.rest / 2 ≡ line rest =
+    elim c.if-rest-eq1.branch [
+    | then-rest-eq1 w ↦ line_taken rest _ w.if-rest-eq1.true w.rest-is
+    | else-rest-eq1 w ↦ line-left rest _ w.if-rest-eq1.false w.rest-is
+    ] in
+    (omega arith, ap (divide _) one ∙ next 12 counter rest (omega arith) ∙ c.loop.invariant.1)
 
 returns : tie.Need-returns invariant-loop decreases-loop
 unfolding remainder divide
-returns c = ap (λ (k : ℕ). divide k c.before.loop.rest) (sym ended) ∙ c.before.loop.invariant.1
+returns c = ap (λ (k : ℕ). divide k c.loop.rest) (sym ended) ∙ c.loop.invariant.1
   where
-    ended : 12 - c.before.loop.counter ≡ 0
-    ended = omega (arith, c.before.loop.invariant.0, c.loop-test.false)
+    ended : 12 - c.loop.counter ≡ 0
+    ended = omega (arith, c.loop.invariant.0, c.loop-test.false)
 
-pub remainder-spec : {M : Type 1} → statement M
-remainder-spec =
-    tie.close (tie.spec invariant-loop decreases-loop loop-holds add-counter loop-less loop-again returns)
+pub remainder_spec : {M : Type 1} → statement M
+remainder_spec =
+    tie.close
+    (tie.spec
+    invariant-loop
+    decreases-loop
+    loop-holds
+    add-counter
+    loop-less
+    loop-again
+    returns)

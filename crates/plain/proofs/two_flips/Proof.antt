@@ -11,48 +11,48 @@ use Rattle.plain.proofs.two_flips.Reads as reads
 use Rattle.plain.proofs.two_flips.Lts as lts
 use Rattle.plain.proofs.one_flip.Reads as one-flip-reads
 
-abbrev invariant-loop : tie.invariant-loop
+abbrev invariant-loop : tie.invariant-loop-bit
 invariant-loop n bits bit₀ bit = (bit ≤ bits) × (leaving n (error_patterns 2 bit) ≡ 2 ^ 23)
 
-abbrev decreases-loop : tie.decreases-loop
+abbrev decreases-loop : tie.decreases-loop-bit
 decreases-loop n bits bit₀ bit = bits - bit
 
-loop-holds : tie.Need-loop-init invariant-loop decreases-loop
+loop-holds : tie.Need-loop-bit-init invariant-loop decreases-loop
 loop-holds c = (omega arith, none_yet _ 1)
 
-shl-flip : tie.Need-overflow-shl-flip invariant-loop decreases-loop
+shl-flip : tie.Need-overflow_shl-flip invariant-loop decreases-loop
 shl-flip c = omega arith
 
-one-flip-requires : tie.Need-one-flip-requires invariant-loop decreases-loop
+one-flip-requires : tie.Need-one_flip-below-requires invariant-loop decreases-loop
 one-flip-requires c κs = omega arith
 
-add-result : tie.Need-overflow-add-result invariant-loop decreases-loop
+add-result : tie.Need-overflow_add-result invariant-loop decreases-loop
 add-result c =
-    omega (arith, weight-lt _ _ c.before.before.loop-test.true c.before.before.before.before.requires, c.if1.true)
+    omega (arith, weight-lt _ _ c.loop-bit-test.true c.requires, c.if-below-lt-NONE.true)
 
-returns : tie.Need-returns invariant-loop decreases-loop
+returns : tie.Need-returns-then-below-lt-NONE invariant-loop decreases-loop
 returns c =
-    turn-hit _ 1 _ _ c.before.before.loop-test.true c.before.before.before.before.requires c.before.before.before.loop.invariant.1
-    _ c.before.one-flip.ensures c.if1.true
+    turn-hit _ 1 _ _ c.loop-bit-test.true c.requires c.loop-bit.invariant.1
+    _ c.one_flip-below.ensures c.if-below-lt-NONE.true
 
-add-bit : tie.Need-overflow-add-bit invariant-loop decreases-loop
+add-bit : tie.Need-overflow_step-bit invariant-loop decreases-loop
 add-bit c = omega arith
 
-loop-less : tie.Need-loop-smaller invariant-loop decreases-loop
+loop-less : tie.Need-loop-bit-smaller invariant-loop decreases-loop
 loop-less c = omega arith
 
-loop-again : tie.Need-loop-preserved invariant-loop decreases-loop
+loop-again : tie.Need-loop-bit-preserved invariant-loop decreases-loop
 loop-again c = (
   omega arith,
-  turn-miss _ 1 _ _ c.before.before.loop-test.true c.before.before.before.before.requires c.before.before.before.loop.invariant.1
-      _ c.before.one-flip.ensures c.if1.false,
+  turn-miss _ 1 _ _ c.loop-bit-test.true c.requires c.loop-bit.invariant.1
+      _ c.one_flip-below.ensures c.if-below-lt-NONE.false,
 )
 
-returns-2 : tie.Need-returns-2 invariant-loop decreases-loop
-returns-2 c = turn_end _ 1 _ _ c.before.loop.invariant.0 c.loop-test.false c.before.loop.invariant.1
+returns-2 : tie.Need-returns invariant-loop decreases-loop
+returns-2 c = turn_end _ 1 _ _ c.loop-bit.invariant.0 c.loop-bit-test.false c.loop-bit.invariant.1
 
-pub two-flips-spec : {M : Type 1} → statement M
-two-flips-spec =
+pub two_flips_spec : {M : Type 1} → statement M
+two_flips_spec =
     tie.close
     (tie.spec
     invariant-loop

@@ -14,37 +14,45 @@ use Rattle.table.proofs.Doing.{start-refused, start-passed, setting-stored}
 use Rattle.table.proofs.start.Statement.{statement}
 use Rattle.table.proofs.start.Tie as tie
 
-abbrev passed : tie.After-slice-known2 → tie.Else1
+abbrev passed : tie.After-slice_known-2-1 → tie.Else-state-ne-SIZE
 passed c = c.before.before.before.before
 
 -- the state is cleared
-cleared : (c : tie.After-slice-known2) → c.before.before.clear.new.0 ≡ blank state_size
-cleared c = c.before.before.clear.ensures ∙ ap blank (passed c).if1.false
+cleared : (c : tie.After-slice_known-2-1) → c.clear.new.bytes ≡ blank state_size
+cleared c = c.clear.ensures ∙ ap blank (passed c).if-state-ne-SIZE.false
 
-returns : tie.Need-returns
+returns : tie.Need-returns-then-state-ne-SIZE
 unfolding start_after
 returns c =
-    let s = c.before.before.args.state.now in
-    refused 20 _ _ s (start-refused s c.if1.true) (λ z. omega (arith, z))
+    let s = c.args.state.now in
+    refused 20 _ _ s (start-refused s c.if-state-ne-SIZE.true) (λ z. omega (arith, z))
 
 clear-requires : tie.Need-clear-requires
 clear-requires c κs = search rules
 
-cast-state : tie.Need-overflow-cast-state
+cast-state : tie.Need-overflow_cast-state
 cast-state c = search rules
 
-slice-write-state : tie.Need-slice-write-state
+slice-write-state : tie.Need-bounds-state-11776
 slice-write-state c = omega (arith, ap length (cleared c), blank-length state_size)
 
-same_length : tie.Need-same-length
+same_length : tie.Need-shape_of-state
 same_length c = search rules
 
-returns-2 : tie.Need-returns-2
+returns-2 : tie.Need-returns
 unfolding start_after
 returns-2 c =
-    let s = (passed c).before.before.args.state.now in
-    accepted 0 _ _ s (start-passed s (passed c).if1.false) _ refl
+    let s = (passed c).args.state.now in
+    accepted 0 _ _ s (start-passed s (passed c).if-state-ne-SIZE.false) _ refl
     (ap (λ (x : List ℕ). set x tail_at 3) (cleared c) ∙ setting-stored (blank state_size) 3 (blank-length state_size))
 
 pub start_spec : {M : Type 1} → statement M
-start_spec = tie.close (tie.spec returns clear-requires cast-state slice-write-state same_length returns-2)
+start_spec =
+    tie.close
+    (tie.spec
+    returns
+    clear-requires
+    cast-state
+    slice-write-state
+    same_length
+    returns-2)

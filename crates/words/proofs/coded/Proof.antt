@@ -1,4 +1,5 @@
 -- `words::coded` meets its contract. The invariant: the bytes written so far are those of the words. Assumes nothing.
+use borrow.Author.Rules.{rules}
 use mathlib.Core.Path.{◌≡◌, refl, sym, ◌∙◌}
 use mathlib.Core.List.{map}
 use Prim.Native.Nat.{◌+◌, ◌*◌, ◌/◌, ◌≤◌, ◌<◌, ◌-◌}
@@ -14,82 +15,82 @@ use Rattle.words.proofs.Packing.{three-stored, word24s-below, coded-first, coded
 use Rattle.words.proofs.coded.Statement.{statement}
 use Rattle.words.proofs.coded.Tie as tie
 
-abbrev invariant-loop : tie.invariant-loop
+abbrev invariant-loop : tie.invariant-loop-w
 invariant-loop informations useful₀ w₀ useful w =
     (w ≤ 30) × (length useful ≡ 90)
     × (take (w * 3) useful ≡ take (w * 3) (numbers_in 8 90 (sent 24 (map word24 informations))))
 
-abbrev decreases-loop : tie.decreases-loop
+abbrev decreases-loop : tie.decreases-loop-w
 decreases-loop informations useful₀ w₀ useful w = 30 - w
 
 -- what passing the informations tells: there are thirty
-known : (c : tie.Start invariant-loop decreases-loop) → length c.args.t1 ≡ 30
-known c = c.well-formed.0.1.0.1
+known : (c : tie.Start invariant-loop decreases-loop) → length c.args.informations ≡ 30
+known c = c.well_formed.0.1.0.1
 
-loop-holds : tie.Need-loop-init invariant-loop decreases-loop
+loop-holds : tie.Need-loop-w-init invariant-loop decreases-loop
 loop-holds c = (omega arith, refl, refl)
 
-mul-data-word : tie.Need-overflow-mul-data-word invariant-loop decreases-loop
+mul-data-word : tie.Need-offset_bounds-informations-w invariant-loop decreases-loop
 mul-data-word c = omega arith
 
-array-read-data-word : tie.Need-array-read-data-word invariant-loop decreases-loop
+array-read-data-word : tie.Need-bounds-informations-w invariant-loop decreases-loop
 array-read-data-word c = omega arith
 
-cast-data-word : tie.Need-overflow-cast-data-word invariant-loop decreases-loop
-cast-data-word c = omega (arith, c.before.before.requires c.before.loop.w)
+cast-data-word : tie.Need-overflow_cast-informations invariant-loop decreases-loop
+cast-data-word c = omega (arith, c.before.before.requires c.before.loop-w.w)
 
-data-word-requires : tie.Need-data-word-requires invariant-loop decreases-loop
-data-word-requires c κs = c.before.before.requires c.before.loop.w
+data-word-requires : tie.Need-data_word-n-requires invariant-loop decreases-loop
+data-word-requires c κs = c.before.before.requires c.before.loop-w.w
 
-cast-useful : tie.Need-overflow-cast-useful invariant-loop decreases-loop
-cast-useful c = omega (arith, mask_lt c.data-word.result 8)
+cast-useful : tie.Need-overflow_cast-useful invariant-loop decreases-loop
+cast-useful c = omega (arith, mask_lt c.data_word-n.result 8)
 
-mul-useful : tie.Need-overflow-mul-useful invariant-loop decreases-loop
+mul-useful : tie.Need-overflow_mul-useful invariant-loop decreases-loop
 mul-useful c = omega arith
 
-array-write-useful : tie.Need-array-write-useful invariant-loop decreases-loop
+array-write-useful : tie.Need-bounds-useful-w invariant-loop decreases-loop
 array-write-useful c = omega arith
 
-cast-useful-2 : tie.Need-overflow-cast-useful-2 invariant-loop decreases-loop
-cast-useful-2 c = omega (arith, mask_lt (c.data-word.result / 256) 8)
+cast-useful-2 : tie.Need-overflow_cast-useful-in-loop-w invariant-loop decreases-loop
+cast-useful-2 c = omega (arith, mask_lt (c.data_word-n.result / 256) 8)
 
-mul-useful-2 : tie.Need-overflow-mul-useful-2 invariant-loop decreases-loop
+mul-useful-2 : tie.Need-overflow_mul-useful invariant-loop decreases-loop
 mul-useful-2 c = omega arith
 
-add-useful : tie.Need-overflow-add-useful invariant-loop decreases-loop
+add-useful : tie.Need-overflow_add-useful invariant-loop decreases-loop
 add-useful c = omega arith
 
-array-write-useful-2 : tie.Need-array-write-useful-2 invariant-loop decreases-loop
+array-write-useful-2 : tie.Need-bounds-useful-w-in-loop-w invariant-loop decreases-loop
 array-write-useful-2 c = omega arith
 
-cast-useful-3 : tie.Need-overflow-cast-useful-3 invariant-loop decreases-loop
-cast-useful-3 c = omega (arith, word24-lt _ (c.before.before.before.requires c.before.before.loop.w))
+cast-useful-3 : tie.Need-overflow_cast-useful-in-loop-w-2 invariant-loop decreases-loop
+cast-useful-3 c = omega (arith, word24-lt _ (c.before.before.before.requires c.before.before.loop-w.w))
 
-mul-useful-3 : tie.Need-overflow-mul-useful-3 invariant-loop decreases-loop
+mul-useful-3 : tie.Need-overflow_mul-useful-in-loop-w invariant-loop decreases-loop
 mul-useful-3 c = omega arith
 
-add-useful-2 : tie.Need-overflow-add-useful-2 invariant-loop decreases-loop
+add-useful-2 : tie.Need-overflow_add-useful-in-loop-w invariant-loop decreases-loop
 add-useful-2 c = omega arith
 
-array-write-useful-3 : tie.Need-array-write-useful-3 invariant-loop decreases-loop
+array-write-useful-3 : tie.Need-bounds-useful-w-in-loop-w-2 invariant-loop decreases-loop
 array-write-useful-3 c = omega arith
 
-add-w : tie.Need-overflow-add-w invariant-loop decreases-loop
+add-w : tie.Need-overflow_add-w invariant-loop decreases-loop
 add-w c = omega arith
 
-loop-less : tie.Need-loop-smaller invariant-loop decreases-loop
+loop-less : tie.Need-loop-w-smaller invariant-loop decreases-loop
 loop-less c = omega arith
 
-loop-again : tie.Need-loop-preserved invariant-loop decreases-loop
+loop-again : tie.Need-loop-w-preserved invariant-loop decreases-loop
 loop-again c =
-    let loop = c.before.before.loop in
-    let is = c.before.before.before.args.t1 in
+    let loop = c.before.before.loop-w in
+    let is = c.before.before.before.args.informations in
     let ns = map word24 is in
     let h = word24s-below is c.before.before.before.requires in
     let w = loop.w in
     let l : w < 30 = omega arith in
-    let n = c.data-word.result in
-    let e : n ≡ get_or ns w 0 = c.data-word.ensures ∙ sym (get_d_map word24 is w (omega (arith, known c.before.before.before))) in
+    let n = c.data_word-n.result in
+    let e : n ≡ get_or ns w 0 = c.data_word-n.ensures ∙ sym (get_d_map word24 is w (omega (arith, known c.before.before.before))) in
     let long = numbers_in-length 8 90 (sent 24 ns) in (
       omega arith,
       simp length-set (omega arith),
@@ -99,12 +100,15 @@ loop-again c =
 
 returns : tie.Need-returns invariant-loop decreases-loop
 returns c =
-    let ns = map word24 c.before.before.args.t1 in
-    agreed c.before.loop.useful (numbers_in 8 90 (sent 24 ns)) 90 (c.before.loop.w * 3) c.before.loop.invariant.2
-    c.before.loop.invariant.1 (numbers_in-length 8 90 (sent 24 ns)) (omega arith)
+    let ns = map word24 c.before.before.args.informations in
+    agreed c.before.loop-w.useful (numbers_in 8 90 (sent 24 ns)) 90 (c.before.loop-w.w * 3) c.before.loop-w.invariant.2
+    c.before.loop-w.invariant.1 (numbers_in-length 8 90 (sent 24 ns)) (omega arith)
 
-pub coded-spec : {M : Type 1} → statement M
-coded-spec =
+open-offset_bounds-useful-w : tie.Need-offset_bounds-useful-w invariant-loop decreases-loop
+open-offset_bounds-useful-w c = search rules
+
+pub coded_spec : {M : Type 1} → statement M
+coded_spec =
     tie.close
     (tie.spec
     invariant-loop
@@ -115,7 +119,7 @@ coded-spec =
     cast-data-word
     data-word-requires
     cast-useful
-    mul-useful
+    open-offset_bounds-useful-w
     array-write-useful
     cast-useful-2
     mul-useful-2

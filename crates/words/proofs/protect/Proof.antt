@@ -22,5 +22,10 @@ returns : tie.Need-returns
 unfolding protected
 returns c = c.coded.ensures ∙ ap (λ (is : List ℕ). numbers_in 8 90 (sent 24 (map word24 is))) c.before.segments.ensures
 
-pub protect-spec : {M : Type 1} → statement M
-protect-spec = tie.close (tie.spec segments-requires coded-requires returns)
+pub protect_spec : {M : Type 1} → statement M
+protect_spec =
+    tie.close
+    (tie.spec
+    segments-requires
+    coded-requires
+    returns)

@@ -14,96 +14,96 @@ use Rattle.words.proofs.Each.{words-short, words-whole, one-read, one-unread, Re
 use Rattle.words.proofs.read.Statement.{statement}
 use Rattle.words.proofs.read.Tie as tie
 
-abbrev invariant-loop : tie.invariant-loop
+abbrev invariant-loop : tie.invariant-loop-w
 invariant-loop useful flips₀ informations₀ w₀ flips informations w =
     (w ≤ 30) × (length informations ≡ 30) × (take w informations ≡ take w (informations_of (words_of useful))) × Reached (words_of useful) w flips
 
-abbrev decreases-loop : tie.decreases-loop
+abbrev decreases-loop : tie.decreases-loop-w
 decreases-loop useful flips₀ informations₀ w₀ flips informations w = 30 - w
 
 -- ---- the points: a word judged, inside the loop, the loop, the start
 
-abbrev inside : tie.After-judged invariant-loop decreases-loop → tie.In-loop invariant-loop decreases-loop
+abbrev inside : tie.After-judged-one invariant-loop decreases-loop → tie.In-loop-w invariant-loop decreases-loop
 inside c = c.before.before
 
-abbrev turn : tie.After-judged invariant-loop decreases-loop → tie.At-loop invariant-loop decreases-loop
+abbrev turn : tie.After-judged-one invariant-loop decreases-loop → tie.At-loop-w invariant-loop decreases-loop
 turn c = (inside c).before
 
-abbrev start : tie.After-judged invariant-loop decreases-loop → tie.Start invariant-loop decreases-loop
+abbrev start : tie.After-judged-one invariant-loop decreases-loop → tie.Start invariant-loop decreases-loop
 start c = (turn c).before.before
 
 -- ---- the answers
 
-loop-holds : tie.Need-loop-init invariant-loop decreases-loop
+loop-holds : tie.Need-loop-w-init invariant-loop decreases-loop
 loop-holds c = (omega arith, refl, refl, reached-none _)
 
 word-requires : tie.Need-word-requires invariant-loop decreases-loop
-word-requires c κs = (c.before.before.before.requires, c.loop-test.true)
+word-requires c κs = (c.before.before.before.requires, c.loop-w-test.true)
 
-judged-requires : tie.Need-judged-requires invariant-loop decreases-loop
+judged-requires : tie.Need-judged-one-requires invariant-loop decreases-loop
 judged-requires c κs =
-    subst (λ (x : ℕ). x < 2 ^ 24) (sym c.word.ensures) (words-below c.before.before.before.before.args.useful.now c.before.before.loop.w)
+    subst (λ (x : ℕ). x < 2 ^ 24) (sym c.word.ensures) (words-below c.before.before.before.before.args.useful.now c.before.before.loop-w.w)
 
-cast-t9 : tie.Need-overflow-cast-t9 invariant-loop decreases-loop
+cast-t9 : tie.Need-overflow_cast-result invariant-loop decreases-loop
 cast-t9 c = omega arith
 
-returns : tie.Need-returns invariant-loop decreases-loop
+returns : tie.Need-returns-then-turned-gt-CORRECTED invariant-loop decreases-loop
 unfolding blank
 returns c =
     let j = c.before in
     let s = (start j).args.useful.now in
-    let w = (turn j).loop.w in
-    let l : w < 30 = (inside j).loop-test.true in
-    let stop = one-unread j.before.word.result (get_or (words_of s) w 0) j.judged.result (words-below s w) j.before.word.ensures j.judged.ensures c.if1.true in
-    sym (words-short (words_of s) w (reached-stop (words_of s) w (turn j).loop.flips (omega (arith, words-length s, l)) (turn j).loop.invariant.3 stop) l)
+    let w = (turn j).loop-w.w in
+    let l : w < 30 = (inside j).loop-w-test.true in
+    let stop = one-unread j.before.word.result (get_or (words_of s) w 0) j.judged-one.result (words-below s w) j.before.word.ensures j.judged-one.ensures c.if-turned-gt-CORRECTED.true in
+    sym (words-short (words_of s) w (reached-stop (words_of s) w (turn j).loop-w.flips (omega (arith, words-length s, l)) (turn j).loop-w.invariant.3 stop) l)
 
-cast-flips : tie.Need-overflow-cast-flips invariant-loop decreases-loop
+cast-flips : tie.Need-overflow_cast-flips invariant-loop decreases-loop
 cast-flips c = omega arith
 
-add-flips : tie.Need-overflow-add-flips invariant-loop decreases-loop
-add-flips c = let j = c.before in omega (arith, (turn j).loop.invariant.3.few, (inside j).loop-test.true, c.if1.false)
+add-flips : tie.Need-overflow_add-flips invariant-loop decreases-loop
+add-flips c = let j = c.before in omega (arith, (turn j).loop-w.invariant.3.few, (inside j).loop-w-test.true, c.if-turned-gt-CORRECTED.false)
 
-cast-informations : tie.Need-overflow-cast-informations invariant-loop decreases-loop
+cast-informations : tie.Need-overflow_cast-informations invariant-loop decreases-loop
 cast-informations c = omega arith
 
-mul-informations : tie.Need-overflow-mul-informations invariant-loop decreases-loop
+mul-informations : tie.Need-offset_bounds-informations-w invariant-loop decreases-loop
 mul-informations c = omega arith
 
-array-write-informations : tie.Need-array-write-informations invariant-loop decreases-loop
+array-write-informations : tie.Need-bounds-informations-w invariant-loop decreases-loop
 array-write-informations c = omega arith
 
-add-w : tie.Need-overflow-add-w invariant-loop decreases-loop
+add-w : tie.Need-overflow_add-w invariant-loop decreases-loop
 add-w c = omega arith
 
-loop-less : tie.Need-loop-smaller invariant-loop decreases-loop
+loop-less : tie.Need-loop-w-smaller invariant-loop decreases-loop
 loop-less c = omega arith
 
-loop-again : tie.Need-loop-preserved invariant-loop decreases-loop
+loop-again : tie.Need-loop-w-preserved invariant-loop decreases-loop
 unfolding informations_of
 loop-again c =
     let j = c.before in
     let s = (start j).args.useful.now in
-    let w = (turn j).loop.w in
-    let v = j.judged.result in
-    let t : w < 30 = (inside j).loop-test.true in
+    let w = (turn j).loop-w.w in
+    let v = j.judged-one.result in
+    let t : w < 30 = (inside j).loop-w-test.true in
     let l : w < length (words_of s) = omega (arith, words-length s, t) in
-    let r = one-read j.before.word.result (get_or (words_of s) w 0) v (words-below s w) j.before.word.ensures j.judged.ensures c.if1.false in (
+    let r = one-read j.before.word.result (get_or (words_of s) w 0) v (words-below s w) j.before.word.ensures j.judged-one.ensures c.if-turned-gt-CORRECTED.false in (
       omega (arith, t),
-      simp length-set (turn j).loop.invariant.1,
-      stored (turn j).loop.informations (informations_of (words_of s)) w (w + 1) (v % 4096) (turn j).loop.invariant.2
-          (omega (arith, (turn j).loop.invariant.1, t)) (omega (arith, l, length-map (words_of s) (nearest word24))) (add-one w)
+      simp length-set (turn j).loop-w.invariant.1,
+      stored (turn j).loop-w.informations (informations_of (words_of s)) w (w + 1) (v % 4096) (turn j).loop-w.invariant.2
+          (omega (arith, (turn j).loop-w.invariant.1, t)) (omega (arith, l, length-map (words_of s) (nearest word24))) (add-one w)
           (r.information ∙ sym (get_d_map (nearest word24) (words_of s) w l)),
-      subst (λ (x : ℕ). Reached (words_of s) (w + 1) ((turn j).loop.flips + x)) (sym r.flipped)
-          (reached-more (words_of s) w (turn j).loop.flips l (turn j).loop.invariant.3 r.near (omega (arith, r.few, r.flipped))),
+      subst (λ (x : ℕ). Reached (words_of s) (w + 1) ((turn j).loop-w.flips + x)) (sym r.flipped)
+          (reached-more (words_of s) w (turn j).loop-w.flips l (turn j).loop-w.invariant.3 r.near (omega (arith, r.few, r.flipped))),
     )
 
-returns-2 : tie.Need-returns-2 invariant-loop decreases-loop
+returns-2 : tie.Need-returns invariant-loop decreases-loop
 unfolding informations_of
 returns-2 c =
     let s = c.before.before.before.args.useful.now in
-    let end : c.before.loop.w ≡ length (words_of s) = omega (arith, words-length s, c.before.loop.invariant.0, c.loop-test.false) in
-    let last = reached-end (words_of s) c.before.loop.flips (subst (λ (x : ℕ). Reached (words_of s) x c.before.loop.flips) end c.before.loop.invariant.3) in
-    let same = agreed c.before.loop.informations (informations_of (words_of s)) 30 c.before.loop.w c.before.loop.invariant.2 c.before.loop.invariant.1 (length-map (words_of s) (nearest word24) ∙ words-length s) (omega (arith, end, words-length s)) in
+    let end : c.before.loop-w.w ≡ length (words_of s) = omega (arith, words-length s, c.before.loop-w.invariant.0, c.loop-w-test.false) in
+    let last = reached-end (words_of s) c.before.loop-w.flips (subst (λ (x : ℕ). Reached (words_of s) x c.before.loop-w.flips) end c.before.loop-w.invariant.3) in
+    let same = agreed c.before.loop-w.informations (informations_of (words_of s)) 30 c.before.loop-w.w c.before.loop-w.invariant.2 c.before.loop-w.invariant.1 (length-map (words_of s) (nearest word24) ∙ words-length s) (omega (arith, end, words-length s)) in
     (λ i. record { place = 30; flips = sym last.1 i; informations = same i }) ∙ sym (words-whole (words_of s) (last.0 ∙ words-length s))
 
 pub read_spec : {M : Type 1} → statement M

@@ -11,21 +11,26 @@ use borrow.Author.Rules.{rules}
 use Rattle.words.proofs.unprotect.Statement.{statement}
 use Rattle.words.proofs.unprotect.Tie as tie
 
-read-requires : tie.Need-read-requires
+read-requires : tie.Need-read-words-requires
 read-requires c κs = search rules
 
 gathered-requires : tie.Need-gathered-requires
 gathered-requires c κs = let s = c.before.before.before.args.useful.now in
-    λ k. subst (λ (r : Words). get_or r.informations k 0 < 4096) (sym c.before.read.ensures) (words_small (words_of s) (words-length s) k)
+    λ k. subst (λ (r : Words). get_or r.informations k 0 < 4096) (sym c.before.read-words.ensures) (words_small (words_of s) (words-length s) k)
 
 returns : tie.Need-returns
 unfolding data_read
-returns c = let e = c.before.before.read.ensures in
+returns c = let e = c.before.before.read-words.ensures in
     λ i. record {
       place = (e i).place;
       flips = (e i).flips;
       bytes = (c.gathered.ensures ∙ ap (λ (r : Words). data_of r.informations) e) i;
     }
 
-pub unprotect-spec : {M : Type 1} → statement M
-unprotect-spec = tie.close (tie.spec read-requires gathered-requires returns)
+pub unprotect_spec : {M : Type 1} → statement M
+unprotect_spec =
+    tie.close
+    (tie.spec
+    read-requires
+    gathered-requires
+    returns)

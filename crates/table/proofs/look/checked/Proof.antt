@@ -8,20 +8,26 @@ use Rattle.bits.proofs.Rows.{refusal-none}
 use Rattle.table.proofs.look.checked.Statement.{statement}
 use Rattle.table.proofs.look.checked.Tie as tie
 
-returns : tie.Need-returns
+returns : tie.Need-returns-then-state-ne-SIZE
 unfolding end_answer
-returns c = sym (state-20 c.before.before.args.state.now [] c.if1.true)
+returns c = sym (state-20 c.args.state.now [] c.if-state-ne-SIZE.true)
 
-is-good-requires : tie.Need-is-good-requires
-is-good-requires c κs = c.if1.false
+is-good-requires : tie.Need-is_good-requires
+is-good-requires c κs = c.if-state-ne-SIZE.false
 
-returns-2 : tie.Need-returns-2
+returns-2 : tie.Need-returns-then-is_good
 unfolding end_answer
-returns-2 c = sym (state-rest c.before.before.before.before.args.state.now [] c.before.before.if1.false (sym c.before.is-good.ensures ∙ c.if2.true) ∙ refusal-none)
+returns-2 c = sym (state-rest c.args.state.now [] c.if-state-ne-SIZE.false (sym c.is_good.ensures ∙ c.if-is_good.true) ∙ refusal-none)
 
-returns-3 : tie.Need-returns-3
+returns-3 : tie.Need-returns-else-is_good
 unfolding end_answer
-returns-3 c = sym (state-34 c.before.before.before.before.args.state.now [] c.before.before.if1.false (sym c.before.is-good.ensures ∙ c.if2.false))
+returns-3 c = sym (state-34 c.args.state.now [] c.if-state-ne-SIZE.false (sym c.is_good.ensures ∙ c.if-is_good.false))
 
-pub checked-spec : {M : Type 1} → statement M
-checked-spec = tie.close (tie.spec returns is-good-requires returns-2 returns-3)
+pub checked_spec : {M : Type 1} → statement M
+checked_spec =
+    tie.close
+    (tie.spec
+    returns
+    is-good-requires
+    returns-2
+    returns-3)

@@ -8,65 +8,65 @@ use Rattle.table.proofs.look.follow_answer.Statement.{statement}
 use Rattle.table.proofs.look.follow_answer.Tie as tie
 
 -- the state is good, and what is wished
-abbrev start : tie.Else1 → tie.Start
+abbrev start : tie.Else-state_answer-ne0 → tie.Start
 start c = c.before.before.before
 
-ok : (c : tie.Else1) → Passed (start c).args.state.now
-ok c = state-passed (start c).args.state.now (sym c.before.checked.ensures ∙ c.if1.false)
+ok : (c : tie.Else-state_answer-ne0) → Passed (start c).args.state.now
+ok c = state-passed (start c).args.state.now (sym c.checked-state_answer.ensures ∙ c.if-state_answer-ne0.false)
 
-wished : (c : tie.Else2) → wish_answer (start c.before.before).args.wish ≡ 0
-wished c = sym c.before.answer.ensures ∙ c.if2.false
+wished : (c : tie.Else-wished-ne0) → wish_answer (start c.before.before).args.wish ≡ 0
+wished c = sym c.answer-wished.ensures ∙ c.if-wished-ne0.false
 
-checked-requires : tie.Need-checked-requires
+checked-requires : tie.Need-checked-state_answer-requires
 checked-requires c κs = search rules
 
-returns : tie.Need-returns
+returns : tie.Need-returns-then-state_answer-ne0
 unfolding follow_answer
-returns c = state-refused c.before.before.before.args.state.now _ c.before.checked.result c.before.checked.ensures c.if1.true
+returns c = state-refused c.args.state.now _ c.checked-state_answer.result c.checked-state_answer.ensures c.if-state_answer-ne0.true
 
-answer-requires : tie.Need-answer-requires
+answer-requires : tie.Need-answer-wished-requires
 answer-requires c κs = search rules
 
-returns-2 : tie.Need-returns-2
+returns-2 : tie.Need-returns-then-wished-ne0
 returns-2 c =
-    let first = c.before.before in
-    let a = (start first).args in
-    c.before.answer.ensures
-    ∙ sym (follow-wish a.state.now a.wish (ok first) (λ z. c.if2.true (c.before.answer.ensures ∙ z)))
+    let first = c in
+    let a = (start first.before.before).args in
+    c.answer-wished.ensures
+    ∙ sym (follow-wish a.state.now a.wish (ok first.before.before) (λ z. c.if-wished-ne0.true (c.answer-wished.ensures ∙ z)))
 
 find-requires : tie.Need-find-requires
 find-requires c κs = (ok c.before.before).size
 
-returns-3 : tie.Need-returns-3
+returns-3 : tie.Need-returns-then-find-lt-SLOTS
 returns-3 c =
-    let second = c.before.before in
-    let first = second.before.before in
-    let a = (start first).args in
-    sym (follow-25 a.state.now a.wish (ok first) (wished second) c.before.find.result c.before.find.ensures c.if3.true)
+    let second = c in
+    let first = second in
+    let a = (start first.before.before.before.before).args in
+    sym (follow-25 a.state.now a.wish (ok first.before.before.before.before) (wished second.before.before) c.find.result c.find.ensures c.if-find-lt-SLOTS.true)
 
 find-requires-2 : tie.Need-find-requires-2
 find-requires-2 c κs = (ok c.before.before.before.before).size
 
-returns-4 : tie.Need-returns-4
+returns-4 : tie.Need-returns-then-find-lt-SLOTS-2
 returns-4 c =
-    let third = c.before.before in
-    let second = third.before.before in
-    let first = second.before.before in
-    let a = (start first).args in
-    sym (follow-0 a.state.now a.wish (ok first) (wished second) third.before.find.result third.before.find.ensures
-    third.if3.false c.before.find2.result c.before.find2.ensures c.if4.true)
+    let third = c in
+    let second = third in
+    let first = second in
+    let a = (start first.before.before.before.before.before.before).args in
+    sym (follow-0 a.state.now a.wish (ok first.before.before.before.before.before.before) (wished second.before.before.before.before) third.find.result third.find.ensures
+    third.if-find-lt-SLOTS.false c.find-2.result c.find-2.ensures c.if-find-lt-SLOTS-2.true)
 
-returns-5 : tie.Need-returns-5
+returns-5 : tie.Need-returns-else-find-lt-SLOTS-2
 returns-5 c =
-    let third = c.before.before in
-    let second = third.before.before in
-    let first = second.before.before in
-    let a = (start first).args in
-    sym (follow-26 a.state.now a.wish (ok first) (wished second) third.before.find.result third.before.find.ensures
-    third.if3.false c.before.find2.result c.before.find2.ensures c.if4.false)
+    let third = c in
+    let second = third in
+    let first = second in
+    let a = (start first.before.before.before.before.before.before).args in
+    sym (follow-26 a.state.now a.wish (ok first.before.before.before.before.before.before) (wished second.before.before.before.before) third.find.result third.find.ensures
+    third.if-find-lt-SLOTS.false c.find-2.result c.find-2.ensures c.if-find-lt-SLOTS-2.false)
 
-pub follow-answer-spec : {M : Type 1} → statement M
-follow-answer-spec =
+pub follow_answer_spec : {M : Type 1} → statement M
+follow_answer_spec =
     tie.close
     (tie.spec
     checked-requires

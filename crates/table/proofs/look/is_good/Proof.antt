@@ -18,92 +18,92 @@ use Rattle.table.proofs.Apart.{Gathered, gathered_none, gathered_next, good_slot
 use Rattle.table.proofs.look.is_good.Statement.{statement}
 use Rattle.table.proofs.look.is_good.Tie as tie
 
-abbrev invariant-loop : tie.invariant-loop
+abbrev invariant-loop : tie.invariant-loop-k
 invariant-loop state addresses₀ so₀ k₀ addresses so k =
     (k ≤ 16) × ((so && all (good_slot_at state) (16 - k) k) ≡ all (good_slot_at state) 16 0) × (length addresses ≡ 32) × Gathered state k addresses
 
-abbrev decreases-loop : tie.decreases-loop
+abbrev decreases-loop : tie.decreases-loop-k
 decreases-loop state addresses₀ so₀ k₀ addresses so k = 16 - k
 
-loop-holds : tie.Need-loop-init invariant-loop decreases-loop
-loop-holds c = (omega arith, refl, refl, gathered_none c.before.args.state.now 32)
+loop-holds : tie.Need-loop-k-init invariant-loop decreases-loop
+loop-holds c = (omega arith, refl, refl, gathered_none c.args.state.now 32)
 
-head-requires : tie.Need-head-requires invariant-loop decreases-loop
-head-requires c κs = (c.before.before.before.requires, c.loop-test.true)
+head-requires : tie.Need-head-own-requires invariant-loop decreases-loop
+head-requires c κs = (c.requires, c.loop-k-test.true)
 
-mul_at : tie.Need-overflow-mul-at invariant-loop decreases-loop
+mul_at : tie.Need-overflow_mul-at invariant-loop decreases-loop
 mul_at c = search rules
 
-add-good : tie.Need-overflow-add-good invariant-loop decreases-loop
+add-good : tie.Need-overflow_add-at invariant-loop decreases-loop
 add-good c = search rules
 
-sub-good : tie.Need-overflow-sub-good invariant-loop decreases-loop
+sub-good : tie.Need-slice_bounds-good-count invariant-loop decreases-loop
 sub-good c = search rules
 
-part-good-start : tie.Need-slice-bounds-good-start invariant-loop decreases-loop
+part-good-start : tie.Need-slice_bounds-good-start invariant-loop decreases-loop
 part-good-start c = search rules
 
-part-good-end : tie.Need-slice-bounds-good-end invariant-loop decreases-loop
+part-good-end : tie.Need-slice_bounds-good-end invariant-loop decreases-loop
 part-good-end c = search rules
 
-good-requires : tie.Need-good-requires invariant-loop decreases-loop
+good-requires : tie.Need-good-so-requires invariant-loop decreases-loop
 good-requires c κs =
-    let s = c.before.before.before.before.before.args.state.now in
-    let k = c.before.before.before.loop.k in
-    (search rules, c.before.head.ensures ∙ ap head_of (sym (slot-part k s)))
+    let s = c.args.state.now in
+    let k = c.loop-k.k in
+    (search rules, c.head-own.ensures ∙ ap head_of (sym (slot-part k s)))
 
-cast-addresses : tie.Need-overflow-cast-addresses invariant-loop decreases-loop
+cast-addresses : tie.Need-overflow_cast-addresses invariant-loop decreases-loop
 cast-addresses c = omega arith
 
-mul-addresses : tie.Need-overflow-mul-addresses invariant-loop decreases-loop
+mul-addresses : tie.Need-offset_bounds-addresses-k invariant-loop decreases-loop
 mul-addresses c = omega arith
 
-array-write-addresses : tie.Need-array-write-addresses invariant-loop decreases-loop
+array-write-addresses : tie.Need-bounds-addresses-k invariant-loop decreases-loop
 array-write-addresses c = omega arith
 
-add-k : tie.Need-overflow-add-k invariant-loop decreases-loop
+add-k : tie.Need-overflow_add-k invariant-loop decreases-loop
 add-k c = omega arith
 
-loop-less : tie.Need-loop-smaller invariant-loop decreases-loop
+loop-less : tie.Need-loop-k-smaller invariant-loop decreases-loop
 loop-less c = omega arith
 
-loop-again : tie.Need-loop-preserved invariant-loop decreases-loop
+loop-again : tie.Need-loop-k-preserved invariant-loop decreases-loop
 loop-again c =
-    let s = c.before.before.before.before.before.before.before.args.state.now in
-    let l = c.before.before.before.before.before.loop in
-    let own = c.before.before.before.head in (
+    let s = c.args.state.now in
+    let l = c.loop-k in
+    let own = c.head-own in (
       omega arith,
       all-next (good_slot_at s) l.so (all (good_slot_at s) 16 0) (16 - l.k) l.k _ (16 - (l.k + 1)) (l.k + 1) (omega arith) (omega arith)
-          (ap (λ (b : Bool). l.so && b) (c.before.good2.ensures ∙ ap good_slot (slot-part l.k s))) l.invariant.1,
+          (ap (λ (b : Bool). l.so && b) (c.good-so.ensures ∙ ap good_slot (slot-part l.k s))) l.invariant.1,
       length-set l.addresses l.k (own.result.wish.address % 65536) ∙ l.invariant.2,
       gathered_next s l.addresses l.k (own.result.wish.address % 65536) (omega arith)
           (ap (λ (a : ℕ). a % 65536) (ap (λ (h : Head). h.wish.address) own.ensures ∙ address_is s l.k)) l.invariant.3,
     )
 
-slice-aggregate-apart : tie.Need-slice-aggregate-apart invariant-loop decreases-loop
-slice-aggregate-apart c = sym c.before.before.loop.invariant.2
+slice-aggregate-apart : tie.Need-slice_bounds-apart-end invariant-loop decreases-loop
+slice-aggregate-apart c = sym c.loop-k.invariant.2
 
 apart-requires : tie.Need-apart-requires invariant-loop decreases-loop
-apart-requires c κs = c.before.before.loop.invariant.2
+apart-requires c κs = c.loop-k.invariant.2
 
 setting-requires : tie.Need-setting-requires invariant-loop decreases-loop
 setting-requires c κs = search rules
 
-cast-result : tie.Need-overflow-cast-result invariant-loop decreases-loop
+cast-result : tie.Need-overflow_cast-result invariant-loop decreases-loop
 cast-result c = search rules
 
 returns : tie.Need-returns invariant-loop decreases-loop
 returns c =
-    let all_read = c.before in
-    let s = all_read.before.before.before.before.before.args.state.now in
-    let l = all_read.before.before.before.loop in
+    let all_read = c in
+    let s = all_read.args.state.now in
+    let l = all_read.loop-k in
     let end : l.k ≡ 16 = omega arith in
     ap (λ (b : Bool). b && leb c.setting.result 3)
     (ap₂ ◌&&◌ (all_end (good_slot_at s) l.so (all (good_slot_at s) 16 0) (16 - l.k) l.k (omega arith) l.invariant.1) all_read.apart.ensures)
     ∙ good-apart s l.addresses (subst (λ (n : ℕ). Gathered s n l.addresses) end l.invariant.3) c.setting.result c.setting.ensures
 
-pub is-good-spec : {M : Type 1} → statement M
-is-good-spec =
+pub is_good_spec : {M : Type 1} → statement M
+is_good_spec =
     tie.close
     (tie.spec
     invariant-loop

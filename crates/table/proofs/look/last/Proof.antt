@@ -10,48 +10,48 @@ use Rattle.table.proofs.Apart.{differs}
 use Rattle.table.proofs.look.last.Statement.{statement}
 use Rattle.table.proofs.look.last.Tie as tie
 
-abbrev invariant-loop : tie.invariant-loop
+abbrev invariant-loop : tie.invariant-loop-j
 invariant-loop addresses k address alone₀ j₀ alone j =
     (j ≤ 16) × ((alone && all (differs addresses k) (16 - j) (k + 1 + j)) ≡ all (differs addresses k) 16 (k + 1))
 
-abbrev decreases-loop : tie.decreases-loop
+abbrev decreases-loop : tie.decreases-loop-j
 decreases-loop addresses k address alone₀ j₀ alone j = 16 - j
 
-mul-address : tie.Need-overflow-mul-address invariant-loop decreases-loop
+mul-address : tie.Need-offset_bounds-addresses-k invariant-loop decreases-loop
 mul-address c = omega arith
 
-shared-slice-read-address : tie.Need-shared-slice-read-address invariant-loop decreases-loop
+shared-slice-read-address : tie.Need-bounds-addresses-k invariant-loop decreases-loop
 shared-slice-read-address c = omega arith
 
-loop-holds : tie.Need-loop-init invariant-loop decreases-loop
+loop-holds : tie.Need-loop-j-init invariant-loop decreases-loop
 loop-holds c =
-    let xs = c.before.args.addresses.now in
-    let k = c.before.args.k in
+    let xs = c.args.addresses.now in
+    let k = c.args.k in
     (omega arith, ap (λ (n : ℕ). all (differs xs k) 16 n) (omega arith))
 
-add-alone : tie.Need-overflow-add-alone invariant-loop decreases-loop
+add-alone : tie.Need-overflow_add-alone invariant-loop decreases-loop
 add-alone c = omega arith
 
-add-alone-2 : tie.Need-overflow-add-alone-2 invariant-loop decreases-loop
+add-alone-2 : tie.Need-overflow_add-alone-in-loop-j invariant-loop decreases-loop
 add-alone-2 c = omega arith
 
-mul-alone : tie.Need-overflow-mul-alone invariant-loop decreases-loop
+mul-alone : tie.Need-offset_bounds-addresses-k-in-loop-j invariant-loop decreases-loop
 mul-alone c = omega arith
 
-shared-slice-read-alone : tie.Need-shared-slice-read-alone invariant-loop decreases-loop
+shared-slice-read-alone : tie.Need-bounds-addresses-k-in-loop-j invariant-loop decreases-loop
 shared-slice-read-alone c = omega arith
 
-add-j : tie.Need-overflow-add-j invariant-loop decreases-loop
+add-j : tie.Need-overflow_add-j invariant-loop decreases-loop
 add-j c = omega arith
 
-loop-less : tie.Need-loop-smaller invariant-loop decreases-loop
+loop-less : tie.Need-loop-j-smaller invariant-loop decreases-loop
 loop-less c = omega arith
 
-loop-again : tie.Need-loop-preserved invariant-loop decreases-loop
+loop-again : tie.Need-loop-j-preserved invariant-loop decreases-loop
 loop-again c =
-    let xs = c.before.before.before.before.args.addresses.now in
-    let k = c.before.before.before.before.args.k in
-    let l = c.before.before.loop in (
+    let xs = c.args.addresses.now in
+    let k = c.args.k in
+    let l = c.loop-j in (
       omega arith,
       all-next (differs xs k) l.alone (all (differs xs k) 16 (k + 1)) (16 - l.j) (k + 1 + l.j) _ (16 - (l.j + 1)) (k + 1 + (l.j + 1))
           (omega arith) (omega arith) refl l.invariant.1,
@@ -59,13 +59,13 @@ loop-again c =
 
 returns : tie.Need-returns invariant-loop decreases-loop
 returns c =
-    let xs = c.before.before.before.args.addresses.now in
-    let k = c.before.before.before.args.k in
-    let l = c.before.loop in
+    let xs = c.args.addresses.now in
+    let k = c.args.k in
+    let l = c.loop-j in
     all_end (differs xs k) l.alone (all (differs xs k) 16 (k + 1)) (16 - l.j) (k + 1 + l.j) (omega arith) l.invariant.1
 
-pub last-spec : {M : Type 1} → statement M
-last-spec =
+pub last_spec : {M : Type 1} → statement M
+last_spec =
     tie.close
     (tie.spec
     invariant-loop

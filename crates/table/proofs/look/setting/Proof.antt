@@ -4,12 +4,16 @@ use Rattle.table.specs.State.{setting}
 use Rattle.table.proofs.look.setting.Statement.{statement}
 use Rattle.table.proofs.look.setting.Tie as tie
 
-shared-slice-read-result : tie.Need-shared-slice-read-result
+shared-slice-read-result : tie.Need-bounds-state-11776
 shared-slice-read-result c = search rules
 
 returns : tie.Need-returns
 unfolding setting
 returns c = search rules
 
-pub setting-spec : {M : Type 1} → statement M
-setting-spec = tie.close (tie.spec shared-slice-read-result returns)
+pub setting_spec : {M : Type 1} → statement M
+setting_spec =
+    tie.close
+    (tie.spec
+    shared-slice-read-result
+    returns)
