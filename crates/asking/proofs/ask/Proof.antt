@@ -9,31 +9,37 @@ use Rattle.asking.proofs.Laws.{asked-within, asked-part}
 use Rattle.asking.proofs.ask.Statement.{statement}
 use Rattle.asking.proofs.ask.Tie as tie
 
-fits : (c : tie.After-answer) → c.answer.result.at + c.answer.result.len ≤ length c.before.before.args.state.now
-fits c = asked-within _ c.before.before.args.address c.answer.result c.answer.ensures
+fits : (c : tie.After-answer-shown) → c.answer-shown.result.at + c.answer-shown.result.len ≤ length c.args.state.now
+fits c = asked-within _ c.args.address c.answer-shown.result c.answer-shown.ensures
 
-answer-requires : tie.Need-answer-requires
+answer-requires : tie.Need-answer-shown-requires
 answer-requires c κs = search rules
 
-add-end : tie.Need-overflow-add-end
+add-end : tie.Need-overflow_add-end
 add-end c = omega (arith, fits c.before)
 
-sub-result : tie.Need-overflow-sub-result
+sub-result : tie.Need-slice_bounds-result-count
 sub-result c = search rules
 
-part-result-start : tie.Need-slice-bounds-result-start
+part-result-start : tie.Need-slice_bounds-result-start
 part-result-start c = search rules
 
-part-result-end : tie.Need-slice-bounds-result-end
+part-result-end : tie.Need-slice_bounds-result-end
 part-result-end c = omega (arith, fits c.before)
 
 returns : tie.Need-returns
 returns c =
-    let a = c.before.before.before.before.args in
-    let r = c.before.before.answer in
+    let a = c.args in
+    let r = c.answer-shown in
     (asked-part a.state.now a.address r.result r.ensures, ap (λ (x : Asked). x.number) r.ensures)
 
-pub ask-spec : {M : Type 1} → statement M
-ask-spec =
+pub ask_spec : {M : Type 1} → statement M
+ask_spec =
     tie.close
-    (tie.spec answer-requires add-end sub-result part-result-start part-result-end returns)
+    (tie.spec
+    answer-requires
+    add-end
+    sub-result
+    part-result-start
+    part-result-end
+    returns)

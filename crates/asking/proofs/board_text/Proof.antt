@@ -9,42 +9,42 @@ use Rattle.asking.proofs.Laws.{asked-within, board-notice, board-group}
 use Rattle.asking.proofs.board_text.Statement.{statement}
 use Rattle.asking.proofs.board_text.Tie as tie
 
-fits : (c : tie.After-answer) → c.answer.result.at + c.answer.result.len ≤ length c.before.before.before.args.state.now
-fits c = asked-within _ c.before.before.before.args.address c.answer.result c.answer.ensures
+fits : (c : tie.After-answer-shown) → c.answer-shown.result.at + c.answer-shown.result.len ≤ length c.args.state.now
+fits c = asked-within _ c.args.address c.answer-shown.result c.answer-shown.ensures
 
-answer-requires : tie.Need-answer-requires
+answer-requires : tie.Need-answer-shown-requires
 answer-requires c κs = search rules
 
-returns : tie.Need-returns
+returns : tie.Need-returns-then-shown-ne5
 returns c =
-    let a = c.before.before.before.before.before.args in
-    let r = c.before.before.answer in (
-      board-notice a.state.now a.address a.notice.now r.result r.ensures c.if1.true,
+    let a = c.args in
+    let r = c.answer-shown in (
+      board-notice a.state.now a.address a.notice.now r.result r.ensures c.if-shown-ne5.true,
       ap (λ (x : Asked). x.number) r.ensures,
     )
 
-add-end : tie.Need-overflow-add-end
+add-end : tie.Need-overflow_add-end
 add-end c = omega (arith, fits c.before.before.before)
 
-sub-result : tie.Need-overflow-sub-result
+sub-result : tie.Need-slice_bounds-result-count
 sub-result c = search rules
 
-part-result-start : tie.Need-slice-bounds-result-start
+part-result-start : tie.Need-slice_bounds-result-start
 part-result-start c = search rules
 
-part-result-end : tie.Need-slice-bounds-result-end
+part-result-end : tie.Need-slice_bounds-result-end
 part-result-end c = omega (arith, fits c.before.before.before)
 
-returns-2 : tie.Need-returns-2
+returns-2 : tie.Need-returns
 returns-2 c =
-    let a = c.before.before.before.before.before.before.before.args in
-    let r = c.before.before.before.before.answer in (
-      board-group a.state.now a.address a.notice.now r.result r.ensures c.before.before.if1.false,
+    let a = c.args in
+    let r = c.answer-shown in (
+      board-group a.state.now a.address a.notice.now r.result r.ensures c.if-shown-ne5.false,
       ap (λ (x : Asked). x.number) r.ensures,
     )
 
-pub board-text-spec : {M : Type 1} → statement M
-board-text-spec =
+pub board_text_spec : {M : Type 1} → statement M
+board_text_spec =
     tie.close
     (tie.spec
     answer-requires

@@ -13,18 +13,24 @@ dropped-requires c κs = search rules
 store-requires : tie.Need-store-requires
 store-requires c κs = search rules
 
-same_length : tie.Need-same-length
+same_length : tie.Need-shape_of-slot
 same_length c = search rules
 
 returns : tie.Need-returns
 returns c =
-    let stored = c.before.before in
-    let changed = stored.before.before in
-    let emptied = changed.before.before.before in
-    let start = emptied.before.before.before in
+    let stored = c in
+    let changed = stored in
+    let emptied = changed in
+    let start = emptied in
     drop-does start.args.slot.now start.args.head start.requires.1 _ _ _ emptied.empty.ensures changed.dropped.ensures
     stored.store.ensures
 
-pub dropped-spec : {M : Type 1} → statement M
-dropped-spec =
-    tie.close (tie.spec empty-requires dropped-requires store-requires same_length returns)
+pub dropped_spec : {M : Type 1} → statement M
+dropped_spec =
+    tie.close
+    (tie.spec
+    empty-requires
+    dropped-requires
+    store-requires
+    same_length
+    returns)

@@ -16,15 +16,19 @@ answer_by t n p a i = record { number = n; detail = cond t a p; came = cond t i 
 told-by : (n p a i : ℕ) (t : Bool) → eqb n 32 ≡ t → answer_by t n p a i ≡ answer_of n p a i
 told-by n p a i t e = ap (λ (x : Bool). answer_by x n p a i) (sym e)
 
-returns : tie.Need-returns
+returns : tie.Need-returns-then-number-eq-OUT_OF_STEP
 returns c =
-    let a = c.before.args in
-    told-by a.number a.place a.awaited a.came true (eq-eqb a.number 32 c.if1.true)
+    let a = c.args in
+    told-by a.number a.place a.awaited a.came true (eq-eqb a.number 32 c.if-number-eq-OUT_OF_STEP.true)
 
-returns-2 : tie.Need-returns-2
+returns-2 : tie.Need-returns
 returns-2 c =
-    let a = c.before.args in
-    told-by a.number a.place a.awaited a.came false (ne_eqb a.number 32 c.if1.false)
+    let a = c.args in
+    told-by a.number a.place a.awaited a.came false (ne_eqb a.number 32 c.if-number-eq-OUT_OF_STEP.false)
 
-pub told-spec : {M : Type 1} → statement M
-told-spec = tie.close (tie.spec returns returns-2)
+pub told_spec : {M : Type 1} → statement M
+told_spec =
+    tie.close
+    (tie.spec
+    returns
+    returns-2)

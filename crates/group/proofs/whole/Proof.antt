@@ -19,20 +19,26 @@ whole-requires c κs = search rules
 store-requires : tie.Need-store-requires
 store-requires c κs = search rules
 
-same_length : tie.Need-same-length
+same_length : tie.Need-shape_of-slot
 same_length c = search rules
 
 returns : tie.Need-returns
 unfolding rooms_kept
 returns c =
-    let stored = c.before.before in
-    let changed = stored.before.before in
-    let emptied = changed.before.before.before in
-    let keeps = emptied.before.before.before.before in
+    let stored = c in
+    let changed = stored in
+    let emptied = changed in
+    let keeps = emptied in
     stored.store.ensures
     ∙ ap₂ with_head changed.whole.ensures (emptied.empty.ensures ∙ ap (with_unfinished (blank room_size)) keeps.keep.ensures)
 
-pub whole-spec : {M : Type 1} → statement M
-whole-spec =
+pub whole_spec : {M : Type 1} → statement M
+whole_spec =
     tie.close
-    (tie.spec keep-requires empty-requires whole-requires store-requires same_length returns)
+    (tie.spec
+    keep-requires
+    empty-requires
+    whole-requires
+    store-requires
+    same_length
+    returns)
