@@ -129,7 +129,7 @@ unfolding Channel calls call_of AllStay Stays
 channel-stays p a s m n [] ch = tt
 channel-stays p a s m n (arrives i c image ∷ h) ch = (tt, channel-stays p a s m (suc (4 * i + c)) h ch.1)
 channel-stays p a s m n (control image ∷ h) ch = (tt, channel-stays p a s m n h ch.1)
-channel-stays p a s m n (call x ∷ h) ch = (apart-stays a m x ch.0, channel-stays p a s _ n h ch.1)
+channel-stays p a s m n (call x ∷ h) ch = (apart-stays a m x ch.0, channel-stays p a s (setting_now x m) n h ch.1)
 
 -- the setting stays 0 to 3
 channel-few : (x : Call) (m : ℕ) → m ≤ 3 → setting_now x m ≤ 3

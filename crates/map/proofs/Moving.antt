@@ -19,8 +19,8 @@ use native.Mathlib.Nat.{zero-add}
 use native.Mathlib.Numerals.{add-one}
 use borrow.Author.Tests.{eq-eqb, ne_eqb}
 use lib.Dec.{eqb}
-use lib.ListN.{length, take, drop, get_or, set, take-append-drop, length-drop}
-use lib.Seq.{drop-append-le, drop-drop, drop-length, length-take-le, take_all, take_at, drop_at}
+use lib.ListN.{length, take, drop, get_or, set, length-drop}
+use lib.Seq.{drop-length, take_all, take_at, drop_at}
 use Rattle.bits.specs.Bits.{blank}
 use Rattle.runs.specs.Part.{part, put}
 use Rattle.runs.proofs.Parts.{part_length, part-cons, part-cat, put-length, part-put, get_or-put-after, put_next, sets-put}

@@ -8,7 +8,7 @@ use mathlib.Core.Path.{◌≡◌, refl, sym, ap, ◌∙◌, subst}
 use mathlib.Core.Bool.{Bool, true, false, cond, ◌&&◌}
 use mathlib.Core.List.{List, []}
 use mathlib.Core.Logic.{◌⊎◌, inl, inr}
-use Prim.Native.Nat.{ℕ, suc, ◌+◌, ◌-◌, ◌≤◌, ◌<◌}
+use Prim.Native.Nat.{ℕ, suc, ◌+◌, ◌≤◌, ◌<◌}
 use native.Mathlib.Omega.{arith}
 use borrow.Author.Tests.{eq-eqb, lt-ltb, le-ltb}
 use lib.Dec.{T, leb, ltb, eqb}
@@ -20,7 +20,7 @@ use Rattle.structure.proofs.Gathering.{Holds}
 use Rattle.frames.specs.Counts.{changing, all_heard}
 use Rattle.map.specs.Map.{ids, structure_at, frames_of, good, announced}
 use Rattle.map.specs.Calls.{then_head, shown}
-use Rattle.multiplex.specs.Broadcast.{count_at, change, epoch, begun}
+use Rattle.multiplex.specs.Broadcast.{count_at, change, epoch}
 use Rattle.multiplex.specs.Heard.{ours, shown_fields}
 use Rattle.multiplex.specs.Air.{Air, timed, old_in, later, last_old, new_to, gone_to, Said, nothing, described, deleted, Orderly}
 use Rattle.multiplex.specs.Sound.{kept, Listener, Quiet, Undenied, there, word_for, Whole, NeverWrong}

@@ -6,16 +6,15 @@
 --
 -- Assumes nothing.
 use mathlib.Core.Path.{◌≡◌, refl, sym, ap, ap₂, ◌∙◌, subst}
-use mathlib.Core.Bool.{Bool, true, false, cond, not, ◌&&◌, ◌||◌}
+use mathlib.Core.Bool.{Bool, true, false, cond, ◌&&◌}
 use Prim.Native.Nat.{ℕ, zero, suc, ◌+◌, ◌-◌, ◌%◌, ◌≤◌, ◌<◌}
 use native.Mathlib.Omega.{arith}
 use native.Mathlib.Decide.{ℕ_discrete}
-use borrow.Author.Tests.{eq-eqb, ne_eqb, eqb-true}
-use lib.Dec.{T, leb, eqb}
+use borrow.Author.Tests.{eq-eqb, ne_eqb}
+use lib.Dec.{T, eqb}
 use Rattle.frames.specs.Counts.{ahead, until, begins, all_heard}
 use Rattle.map.specs.Map.{counted}
 use Rattle.multiplex.specs.Broadcast.{Broadcast, count_at, change}
-use Rattle.frames.specs.declared.Frames.{Frames}
 
 -- ---- the frame that a configuration begins with
 

@@ -5,14 +5,14 @@
 --   changes-is
 --
 -- Assumes nothing.
-use mathlib.Core.Path.{◌≡◌, refl, sym, ap, ap₂, ◌∙◌, subst}
+use mathlib.Core.Path.{◌≡◌, refl, sym, ap, ◌∙◌, subst}
 use mathlib.Core.Bool.{Bool, true, false, cond}
 use mathlib.Core.Logic.{◌⊎◌, inl, inr}
 use Prim.Native.Nat.{ℕ, zero, suc, ◌+◌, ◌-◌, ◌%◌, ◌≤◌, ◌<◌}
 use native.Mathlib.Omega.{arith}
 use native.Mathlib.Decide.{ℕ_discrete, dec_lt}
-use borrow.Author.Tests.{eq-eqb, ne_eqb, eqb-true, eqb-false, le-ltb, lt-ltb}
-use lib.Dec.{T, ltb, eqb}
+use borrow.Author.Tests.{eq-eqb, ne_eqb, le-ltb, lt-ltb}
+use lib.Dec.{ltb, eqb}
 use Rattle.frames.specs.Counts.{ahead, since, changes}
 use Rattle.multiplex.specs.Broadcast.{Broadcast, count_at, change, epoch}
 

@@ -1,6 +1,7 @@
 pub mod Distances
 pub mod Counting
 pub mod Knowing
+pub mod Rounded
 pub mod Rounding
 pub mod Words
 pub mod Listening

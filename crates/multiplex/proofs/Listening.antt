@@ -10,7 +10,7 @@
 use mathlib.Core.Path.{◌≡◌, refl, sym, ap, ap₂, ◌∙◌, subst}
 use mathlib.Core.Bool.{Bool, true, false, cond, not, ◌&&◌, ◌||◌, or-false, or-true, and-false}
 use mathlib.Core.List.{List, []}
-use Prim.Native.Nat.{ℕ, zero, suc, ◌+◌, ◌-◌, ◌<◌}
+use Prim.Native.Nat.{ℕ, zero, suc, ◌+◌, ◌<◌}
 use native.Mathlib.Omega.{arith}
 use native.Mathlib.Decide.{ℕ_discrete}
 use borrow.Author.Tests.{eq-eqb, ne_eqb}
@@ -32,7 +32,8 @@ use Rattle.multiplex.specs.Sound.{in_row, announces, lists, denies, Word, unhear
 use Rattle.multiplex.specs.Finding.{first, found, alone_before, rounds_of, rounds_before, rounds_to, new_rounds_before, new_rounds_to, wholly_before, ready_before, ready_to}
 use Rattle.multiplex.specs.Doubting.{came_before, came_to}
 use Rattle.multiplex.specs.Admitting.{absent_by, absent_before, absent_to}
-use Rattle.multiplex.proofs.Rounding.{Turns, turns-plain, turns-gone, turns-old, rounded, Sought, unbegun, sought-plain, sought-new}
+use Rattle.multiplex.proofs.Rounded.{rounded}
+use Rattle.multiplex.proofs.Rounding.{Turns, turns-plain, turns-gone, turns-old, Sought, unbegun, sought-plain, sought-new}
 use Rattle.multiplex.proofs.Words.{Words, Sure, sure-as, words-as, words-force, words-dropped, words-told, words-ends, some-old, some-new}
 use Rattle.multiplex.proofs.Knowing.{Front, some, Next, delete, deletion-deleting, front-on, front-old, next-on, next-new}
 

@@ -34,7 +34,8 @@ use Rattle.multiplex.specs.Sound.{any_before, unheard, present_in, coming_before
 use Rattle.multiplex.proofs.Distances.{epoch-step, epoch-mono}
 use Rattle.multiplex.proofs.Knowing.{Front, some, all, Next, none, delete, piece, sure, full, Silent, front-gap, next-gap}
 use Rattle.multiplex.proofs.Words.{Sure, sure-as, sure-gap, words-as, words-gap, Goes, goes_to}
-use Rattle.multiplex.proofs.Rounding.{Right, rounded, Sought, sought-gap, right-gap}
+use Rattle.multiplex.proofs.Rounded.{rounded}
+use Rattle.multiplex.proofs.Rounding.{Right, Sought, sought-gap, right-gap}
 use Rattle.multiplex.proofs.Rounding as rounding
 use Rattle.multiplex.proofs.Listening.{Before}
 

@@ -8,7 +8,7 @@
 use mathlib.Core.Path.{◌≡◌, refl, sym, ap, ap₂, ◌∙◌, subst}
 use mathlib.Core.Bool.{Bool, true, false, cond, not, ◌&&◌, ◌||◌, or-false, or-true}
 use mathlib.Core.List.{List}
-use Prim.Native.Nat.{ℕ, zero, suc, ◌+◌, ◌-◌, ◌*◌, ◌≤◌, ◌<◌}
+use Prim.Native.Nat.{ℕ, zero, suc, ◌+◌, ◌-◌, ◌*◌, ◌<◌}
 use native.Mathlib.Omega.{arith}
 use borrow.Author.Tests.{eqb-true}
 use lib.ListN.{length, get_or}
@@ -33,9 +33,10 @@ use Rattle.multiplex.specs.Doubting.{came_before, came_to}
 use Rattle.multiplex.specs.Admitting.{is_absent, absent_before, absent_to}
 use Rattle.multiplex.specs.Sound.{any_before, Word, unheard, absent, there, over, present_in, coming_in, coming_before, coming_to, present_before, present_to}
 use Rattle.multiplex.proofs.Distances.{epoch-step, epoch-mono}
-use Rattle.multiplex.proofs.Knowing.{Front, some, Next, none, sure, Past, Settled, stays-so, told, ends, front-gap, front-unsure, front-sure}
+use Rattle.multiplex.proofs.Knowing.{Front, some, Next, none, Past, Settled, stays-so, told, ends, front-gap, front-unsure, front-sure}
 use Rattle.multiplex.proofs.Words.{Words, Sure, sure-as, sure-gap, sure-change, words-as, words-gap, words-change, unheard-there, absent-unheard, Goes, goes_to}
-use Rattle.multiplex.proofs.Rounding.{Right, Turns, rounded, Sought, came-by, none_is, right-sure, right_kept, right-gone, right-round, same-all}
+use Rattle.multiplex.proofs.Rounded.{rounded}
+use Rattle.multiplex.proofs.Rounding.{Right, Turns, Sought, came-by, none_is, right-sure, right_kept, right-gone, right-round, same-all}
 use Rattle.multiplex.proofs.Rounding as rounding
 use Rattle.multiplex.proofs.Listening.{Known, Before, front-as, next-as}
 use Rattle.multiplex.proofs.Missing.{Gap, front-later, silent-new, none-sought, round-over, Lost, off-cond, heard_ready, ready-kept, lost-at, starts, none_yet}

@@ -37,6 +37,7 @@ use Rattle.map.proofs.Changing.{stayed-alike, stayed-last, settled-empty, settle
 use Rattle.multiplex.specs.Broadcast.{some, Linked}
 use Rattle.multiplex.specs.Air.{Air, turn, same}
 use Rattle.multiplex.specs.Finding.{first, found}
+use Rattle.multiplex.proofs.Rounded.{rounded}
 use Rattle.multiplex.proofs.Knowing.{linked-fields, Front, all, Next, none, delete, piece, sure, part-head, whole-kept, Settled, stays-so, told, ends}
 use Rattle.multiplex.proofs.Knowing as knowing
 
@@ -88,13 +89,17 @@ either : (ready alone : Bool) (b : ℕ) (xs : List ℕ) (due l : ℕ) (F : List 
     → Turns (ready || found alone b) alone b xs due l F
 unfolding found
 either true alone b xs due l F r o s = record { rightly = λ e. r refl; round = o; only = s }
-either false alone b xs due l F r o s = record { rightly = go _ refl; round = o; only = s }
+either false alone b xs due l F r o s =
+    record {
+      rightly = go _ _ (λ z. third-right b xs due l F o (le-leb 3 b (omega (arith, leb-true _ b z))))
+          (λ y. second-right b xs due l F (s (and_left alone _ y)) (and_right alone _ y));
+      round = o;
+      only = s;
+    }
   where
-    go : (x : Bool) → leb 3 b ≡ x → (leb 3 b || (alone && leb 2 b)) ≡ true → Right xs due F
-    go true z e = third-right b xs due l F o z
-    go false z e =
-        let y : (alone && leb 2 b) ≡ true = sym (ap (λ (x : Bool). x || (alone && leb 2 b)) z) ∙ e in
-        second-right b xs due l F (s (and_left alone _ y)) (and_right alone _ y)
+    go : (x y : Bool) → (x ≡ true → Right xs due F) → (y ≡ true → Right xs due F) → (x || y) ≡ true → Right xs due F
+    go true y f g e = f refl
+    go false y f g e = g e
 
 -- ---- a frame that carries none of its present fields
 
@@ -283,10 +288,6 @@ came-full c zs due l A (unbegun z) e = absurd (omega (arith, z, leb-true 2 c e))
 came-full c zs due l A (again z p q h) e = absurd (omega (arith, z, leb-true 2 c e))
 came-full c zs due l A (full m hm pos la h) e = (pos, (m, (hm, h)))
 
--- it came round before, or does so now
-abbrev pub rounded : Bool → ℕ → Bool
-rounded g c = g || leb 2 c
-
 -- g: it came round in this configuration
 pub data Sought (c : ℕ) (g : Bool) (zs : List ℕ) (due l : ℕ) (A : List ℕ) : Type 0 where
   unbegun : c ≡ 0 → g ≡ false → Open zs A → Sought c g zs due l A
@@ -303,7 +304,7 @@ stays-round : (g : Bool) (c : ℕ) → g ≡ true → rounded g c ≡ true
 stays-round g c e = ap (λ (x : Bool). rounded x c) e
 
 not_round : (g : Bool) (c : ℕ) → g ≡ false → c < 2 → rounded g c ≡ false
-not_round g c e h = ap (λ (x : Bool). rounded x c) e ∙ lt-leb 2 c (omega (arith, h))
+not_round g c e h = ap (λ (x : Bool). rounded x c) e ∙ lt-leb _ c (omega (arith, h))
 
 pub sought-plain : (c : ℕ) (g : Bool) (zs : List ℕ) (due l : ℕ) (A : List ℕ) → Sought c g zs due l A → Sought (c + 0) (rounded g (c + 0)) zs due l A
 sought-plain c g zs due l A (unbegun z e o) = unbegun (plain c ∙ z) (not_round g (c + 0) e (omega (arith, z))) o

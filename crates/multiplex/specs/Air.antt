@@ -12,7 +12,7 @@
 --   new_to, gone_to         how many fields of its coming structure the running configuration has carried up to a frame, and whether it said
 --                         that the component is to be deleted
 --   Orderly a             what 4.5.4 asks
-use Rattle.std.specs.Prelude.{◌≡◌, Bool, true, false, cond, not, ◌&&◌, ◌||◌, List, [], ◌∷◌, ℕ, zero, suc, ◌+◌, ◌<◌, ◌≤◌, eqb, length, get_or}
+use Rattle.std.specs.Prelude.{◌≡◌, Bool, true, false, cond, ◌&&◌, ◌||◌, List, [], ◌∷◌, ℕ, zero, suc, ◌+◌, ◌<◌, ◌≤◌, eqb, length, get_or}
 use Rattle.field.specs.Field.{bad_tdms, deletes, panning}
 use Rattle.field.specs.declared.Field.{Field}
 use Rattle.map.specs.Map.{ids, counted}

@@ -1,5 +1,4 @@
 pub mod Cutting
 pub mod Determined
 pub mod Laws
-pub mod Readers
 pub mod Vectors

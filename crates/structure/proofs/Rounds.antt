@@ -10,18 +10,17 @@ use mathlib.Core.Path.{◌≡◌, refl, sym, ap, ◌∙◌, subst}
 use mathlib.Core.Bool.{Bool, true, false, cond}
 use mathlib.Core.List.{List}
 use mathlib.Core.Logic.{◌⊎◌, inl, inr}
-use Prim.Native.Nat.{ℕ, zero, suc, ◌+◌, ◌-◌, ◌^◌, ◌≤◌, ◌<◌}
+use Prim.Native.Nat.{ℕ, suc, ◌+◌, ◌-◌, ◌^◌, ◌≤◌, ◌<◌}
 use native.Mathlib.Omega.{arith}
 use native.Mathlib.Decide.{dec_lt, ℕ_discrete}
-use borrow.Author.Tests.{eq-eqb, ne_eqb, lt-ltb, le-ltb, eqb-true, eqb-false}
-use lib.Dec.{eqb, lit<}
-use lib.ListN.{length, get_or, drop}
-use lib.Seq.{get_or-drop}
+use borrow.Author.Tests.{eq-eqb, ne_eqb, lt-ltb, le-ltb, eqb-true}
+use lib.Dec.{eqb}
+use lib.ListN.{length, get_or}
 use Rattle.field.specs.Field.{key}
-use Rattle.structure.specs.Structure.{most, head_of, nth, stored, place_of, member, next_place, is_next, gathering_head, completed_head, marked_head, gathered}
+use Rattle.structure.specs.Structure.{most, head_of, nth, stored, member, next_place, is_next, gathering_head, completed_head, marked_head, gathered}
 use Rattle.structure.specs.declared.Structure.{Structure}
 use Rattle.structure.proofs.Gathering.{Holds, alike-holds, stored-few, joined, joined-head, completed, completed-head, kept-alike, kept-head, other-begins, place_is}
-use Rattle.structure.proofs.Runs.{Fields, Lasts, Took, rises-to, apart, begins-run}
+use Rattle.structure.proofs.Runs.{Fields, Took, rises-to, apart, begins-run}
 
 module _ (xs : List ℕ) (f : Fields xs) (i : ℕ) (hi : i < length xs) (l : ℕ) where
   abbrev t : ℕ

@@ -4,34 +4,41 @@ use borrow.Author.Rules.{rules}
 use Rattle.adapter.proofs.checked.Statement.{statement}
 use Rattle.adapter.proofs.checked.Tie as tie
 
-returns : tie.Need-returns
+returns : tie.Need-returns-then-image-ne-IMAGE
 returns c =
-    let a = c.before.before.before.args in
-    image-20 a.state.now a.image.now c.if1.true
+    let a = c.args in
+    image-20 a.state.now a.image.now c.if-image-ne-IMAGE.true
 
-checked-requires : tie.Need-checked-requires
+checked-requires : tie.Need-checked-refused-requires
 checked-requires c κs = search rules
 
-returns-2 : tie.Need-returns-2
+returns-2 : tie.Need-returns-then-refused-ne0
 returns-2 c =
-    let a = c.before.before.before.before.before.args in
-    image-state a.state.now a.image.now c.before.before.if1.false _ c.before.checked.ensures c.if2.true
+    let a = c.args in
+    image-state a.state.now a.image.now c.if-image-ne-IMAGE.false _ c.checked-refused.ensures c.if-refused-ne0.true
 
 spare-requires : tie.Need-spare-requires
 spare-requires c κs = search rules
 
-returns-3 : tie.Need-returns-3
+returns-3 : tie.Need-returns-then-spare-eq1
 returns-3 c =
-    let a = c.before.before.before.before.before.before.before.args in
-    image-21 a.state.now a.image.now c.before.before.before.before.if1.false _ c.before.before.before.checked.ensures c.before.before.if2.false _ c.before.spare.ensures
-    c.if3.true
+    let a = c.args in
+    image-21 a.state.now a.image.now c.if-image-ne-IMAGE.false _ c.checked-refused.ensures c.if-refused-ne0.false _ c.spare.ensures
+    c.if-spare-eq1.true
 
-returns-4 : tie.Need-returns-4
+returns-4 : tie.Need-returns-else-spare-eq1
 returns-4 c =
-    let a = c.before.before.before.before.before.before.before.args in
-    image-0 a.state.now a.image.now c.before.before.before.before.if1.false _ c.before.before.before.checked.ensures c.before.before.if2.false _ c.before.spare.ensures
-    c.if3.false
+    let a = c.args in
+    image-0 a.state.now a.image.now c.if-image-ne-IMAGE.false _ c.checked-refused.ensures c.if-refused-ne0.false _ c.spare.ensures
+    c.if-spare-eq1.false
 
-pub checked-spec : {M : Type 1} → statement M
-checked-spec =
-    tie.close (tie.spec returns checked-requires returns-2 spare-requires returns-3 returns-4)
+pub checked_spec : {M : Type 1} → statement M
+checked_spec =
+    tie.close
+    (tie.spec
+    returns
+    checked-requires
+    returns-2
+    spare-requires
+    returns-3
+    returns-4)

@@ -6,13 +6,13 @@ use borrow.Author.Rules.{rules}
 use Rattle.adapter.proofs.packet.Statement.{statement}
 use Rattle.adapter.proofs.packet.Tie as tie
 
-abbrev call : tie.After-slice-known2 → tie.After-answered
+abbrev call : tie.After-slice_known-2-1 → tie.After-answered
 call c = c.before.before
 
 answered-requires : tie.Need-answered-requires
 answered-requires c κs = search rules
 
-same_length : tie.Need-same-length
+same_length : tie.Need-shape_of-state
 same_length c = search rules
 
 returns : tie.Need-returns
@@ -20,5 +20,10 @@ returns c =
     let told = (call c).answered.ensures in
     (ap (λ (x : Answer). x.number) told.0 ∙ sym (packet-number _ _), told.1)
 
-pub packet-spec : {M : Type 1} → statement M
-packet-spec = tie.close (tie.spec answered-requires same_length returns)
+pub packet_spec : {M : Type 1} → statement M
+packet_spec =
+    tie.close
+    (tie.spec
+    answered-requires
+    same_length
+    returns)

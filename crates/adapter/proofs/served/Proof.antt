@@ -13,115 +13,115 @@ use Rattle.adapter.proofs.served.Tie as tie
 
 -- ---- the points: the head loaded, the type passed, then the useful bytes read
 
-abbrev start : tie.After-load → tie.Start
-start c = c.before.before.before.before
+abbrev start : tie.After-load-head → tie.Start
+start c = c.before.before.before
 
-abbrev loaded : tie.After-type-refusal → tie.After-load
+abbrev loaded : tie.After-type_refusal-number → tie.After-load-head
 loaded c = c.before
 
-abbrev typed : tie.After-useful → tie.After-type-refusal
+abbrev typed : tie.After-useful-useful → tie.After-type_refusal-number
 typed c = c.before.before
 
-abbrev read : tie.After-struct-known → tie.After-useful
+abbrev read : tie.After-struct_known-1 → tie.After-useful-useful
 read c = c.before
 
-abbrev begun : tie.After-useful → tie.Start
+abbrev begun : tie.After-useful-useful → tie.Start
 begun c = start (loaded (typed c))
 
 -- ---- what is known there
 
-is-data : (c : tie.After-useful) → IsData (begun c).args.image.now
-is-data c = record { size = (begun c).requires.1.1; type = sym (typed c).type-refusal.ensures ∙ c.before.if1.false }
+is-data : (c : tie.After-useful-useful) → IsData (begun c).args.image.now
+is-data c = record { size = (begun c).requires.1.1; type = sym (typed c).type_refusal-number.ensures ∙ c.if-number-ne0.false }
 
-index : (c : tie.After-useful) → (begun c).args.header.index ≡ index_of (begun c).args.image.now
+index : (c : tie.After-useful-useful) → (begun c).args.header.index ≡ index_of (begun c).args.image.now
 index c = ap (λ (h : Header). h.index) (begun c).requires.1.0
 
-bytes : (c : tie.After-useful) → c.useful.result ≡ useful_of (begun c).args.image.now
-bytes c = useful-read (begun c).args.image.now c.useful.result c.useful.ensures
+bytes : (c : tie.After-useful-useful) → c.useful-useful.result ≡ useful_of (begun c).args.image.now
+bytes c = useful-read (begun c).args.image.now c.useful-useful.result c.useful-useful.ensures
 
 -- ---- the answers
 
-load-requires : tie.Need-load-requires
+load-requires : tie.Need-load-head-requires
 load-requires c κs = search rules
 
-type-refusal-requires : tie.Need-type-refusal-requires
+type-refusal-requires : tie.Need-type_refusal-number-requires
 type-refusal-requires c κs = search rules
 
 refused-requires : tie.Need-refused-requires
 refused-requires c κs = search rules
 
-same_length : tie.Need-same-length
+same_length : tie.Need-shape_of-slot-then-number-ne0
 same_length c = search rules
 
-returns : tie.Need-returns
+returns : tie.Need-returns-then-number-ne0
 returns c =
-    let call = c.before.before in
-    let test = call.before.before in
-    let number = test.before in
-    let head = loaded number in
+    let call = c in
+    let test = call in
+    let number = test in
+    let head = loaded number.before.before.before.before.before in
     let s = start head in
-    taken_as _ _ head.load.result _ s.args.slot.now _ _
-    (reading-typed head.load.result s.args.slot.now s.args.image.now head.load.ensures s.pre.1.1 _ number.type-refusal.ensures
-    test.if1.true)
-    head.load.ensures call.refused.ensures
+    taken_as _ _ head.load-head.result _ s.args.slot.now _ _
+    (reading-typed head.load-head.result s.args.slot.now s.args.image.now head.load-head.ensures s.requires.1.1 _ number.type_refusal-number.ensures
+    test.if-number-ne0.true)
+    head.load-head.ensures call.refused.ensures
 
-useful-requires : tie.Need-useful-requires
+useful-requires : tie.Need-useful-useful-requires
 useful-requires c κs = search rules
 
-slice-aggregate-protected : tie.Need-slice-aggregate-protected
+slice-aggregate-protected : tie.Need-slice_bounds-protected-end
 slice-aggregate-protected c = search rules
 
 protected-requires : tie.Need-protected-requires
 protected-requires c κs =
-    let test = c.before.before in
-    let at = read test.before in
+    let test = c in
+    let at = read test.before.before.before in
     let head = loaded (typed at) in
     let s = start head in
-    (s.pre.0, (head.load.ensures, (test.if2.true, ap length (bytes at) ∙ useful-length s.args.image.now)))
+    (s.requires.0, (head.load-head.ensures, (test.if-head-eq1.true, ap length (bytes at) ∙ useful-length s.args.image.now)))
 
-slice-aggregate-taken : tie.Need-slice-aggregate-taken
+slice-aggregate-taken : tie.Need-slice_bounds-taken-end
 slice-aggregate-taken c = search rules
 
 taken-requires : tie.Need-taken-requires
 taken-requires c κs =
-    let test = c.before.before in
-    let at = read test.before in
+    let test = c in
+    let at = read test.before.before.before in
     let head = loaded (typed at) in
     let s = start head in
-    (s.pre.0, (head.load.ensures, ap length (bytes at) ∙ useful-length s.args.image.now ∙ block-90 head.load.result test.if2.false))
+    (s.requires.0, (head.load-head.ensures, ap length (bytes at) ∙ useful-length s.args.image.now ∙ block-90 head.load-head.result test.if-head-eq1.false))
 
-same-length-2 : tie.Need-same-length-2
+same-length-2 : tie.Need-shape_of-slot-then-head-eq1
 same-length-2 c = search rules
 
-returns-2 : tie.Need-returns-2
+returns-2 : tie.Need-returns-then-head-eq1
 returns-2 c =
-    let call = c.before.before in
-    let test = call.before.before.before in
-    let at = read test.before in
+    let call = c in
+    let test = call in
+    let at = read test.before.before.before.before.before.before in
     let head = loaded (typed at) in
     let s = start head in
-    taken_as _ _ head.load.result _ s.args.slot.now _ _
-    (reading-protected head.load.result s.args.slot.now s.args.image.now head.load.ensures (is-data at) _ _ (index at) (bytes at)
-    test.if2.true)
-    head.load.ensures call.protected.ensures
+    taken_as _ _ head.load-head.result _ s.args.slot.now _ _
+    (reading-protected head.load-head.result s.args.slot.now s.args.image.now head.load-head.ensures (is-data at) _ _ (index at) (bytes at)
+    test.if-head-eq1.true)
+    head.load-head.ensures call.protected.ensures
 
-same-length-3 : tie.Need-same-length-3
+same-length-3 : tie.Need-shape_of-slot-else-head-eq1
 same-length-3 c = search rules
 
-returns-3 : tie.Need-returns-3
+returns-3 : tie.Need-returns-else-head-eq1
 returns-3 c =
-    let call = c.before.before in
-    let test = call.before.before.before in
-    let at = read test.before in
+    let call = c in
+    let test = call in
+    let at = read test.before.before.before.before.before.before in
     let head = loaded (typed at) in
     let s = start head in
-    taken_as _ _ head.load.result _ s.args.slot.now _ _
-    (reading-plain head.load.result s.args.slot.now s.args.image.now head.load.ensures (is-data at) _ _ (index at) (bytes at)
-    test.if2.false)
-    head.load.ensures call.taken.ensures
+    taken_as _ _ head.load-head.result _ s.args.slot.now _ _
+    (reading-plain head.load-head.result s.args.slot.now s.args.image.now head.load-head.ensures (is-data at) _ _ (index at) (bytes at)
+    test.if-head-eq1.false)
+    head.load-head.ensures call.taken.ensures
 
-pub served-spec : {M : Type 1} → statement M
-served-spec =
+pub served_spec : {M : Type 1} → statement M
+served_spec =
     tie.close
     (tie.spec
     load-requires

@@ -4,14 +4,19 @@ use Rattle.feed.proofs.Fields.{header-handed}
 use Rattle.feed.proofs.feed_read_header_plain.Statement.{statement}
 use Rattle.feed.proofs.feed_read_header_plain.Tie as tie
 
-read-header-requires : tie.Need-read-header-requires
+read-header-requires : tie.Need-read_header-requires
 read-header-requires c κs = search rules
 
 hand-requires : tie.Need-hand-requires
 hand-requires c κs = search rules
 
 returns : tie.Need-returns
-returns c = header-handed c.before.before.before.before.read-header.ensures c.hand.ensures
+returns c = header-handed c.read_header.ensures c.hand.ensures
 
-pub feed-read-header-plain-spec : {M : Type 1} → statement M
-feed-read-header-plain-spec = tie.close (tie.spec read-header-requires hand-requires returns)
+pub feed_read_header_plain_spec : {M : Type 1} → statement M
+feed_read_header_plain_spec =
+    tie.close
+    (tie.spec
+    read-header-requires
+    hand-requires
+    returns)

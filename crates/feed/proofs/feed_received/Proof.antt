@@ -11,36 +11,36 @@ use Rattle.feed.proofs.Fed.{fed-20, fed-23, fed-read}
 use Rattle.feed.proofs.feed_received.Statement.{statement}
 use Rattle.feed.proofs.feed_received.Tie as tie
 
-returns : tie.Need-returns
-returns c = sym (fed-20 c.before.before.before.args.protection _ _ c.if1.true)
+returns : tie.Need-returns-then-bytes-ne-USEFUL
+returns c = sym (fed-20 c.args.protection _ _ c.if-bytes-ne-USEFUL.true)
 
-returns-2 : tie.Need-returns-2
-returns-2 c = sym (fed-23 c.before.before.before.before.args.protection _ _ c.before.if1.false c.if2.true)
+returns-2 : tie.Need-returns-then-protection-gt1
+returns-2 c = sym (fed-23 c.args.protection _ _ c.if-bytes-ne-USEFUL.false c.if-protection-gt1.true)
 
-received-requires : tie.Need-received-requires
+received-requires : tie.Need-received-reading-requires
 received-requires c κs = search rules
 
-slice-aggregate-copy : tie.Need-slice-aggregate-copy
+slice-aggregate-copy : tie.Need-slice_bounds-copy-end
 slice-aggregate-copy c = search rules
 
 copy-requires : tie.Need-copy-requires
-copy-requires c κs = omega (arith, slice-aggregate-copy c, c.before.before.before.before.before.if1.false)
+copy-requires c κs = omega (arith, slice-aggregate-copy c, c.if-bytes-ne-USEFUL.false)
 
-same_length : tie.Need-same-length
+same_length : tie.Need-shape_of-bytes
 same_length c = search rules
 
-returns-3 : tie.Need-returns-3
+returns-3 : tie.Need-returns
 returns-3 c =
-    let copied = c.before.before.copy in
-    let came = c.before.before.before.before.before.before in
-    let start = came.before.before.before.before.before in
-    let reading = came.received.result in
-    ap (λ (l : List ℕ). values reading.number reading.place reading.index l) (copied.ensures ∙ put_all _ _ (sym (slice-aggregate-copy c.before.before.before) ∙ sym came.before.before.if1.false))
-    ∙ came.received.ensures
-    ∙ sym (fed-read start.args.protection _ _ came.before.before.if1.false came.before.if2.false)
+    let copied = c.copy in
+    let came = c in
+    let start = came in
+    let reading = came.received-reading.result in
+    ap (λ (l : List ℕ). values reading.number reading.place reading.index l) (copied.ensures ∙ put_all _ _ (sym (slice-aggregate-copy c.before.before.before) ∙ sym came.if-bytes-ne-USEFUL.false))
+    ∙ came.received-reading.ensures
+    ∙ sym (fed-read start.args.protection _ _ came.if-bytes-ne-USEFUL.false came.if-protection-gt1.false)
 
-pub feed-received-spec : {M : Type 1} → statement M
-feed-received-spec =
+pub feed_received_spec : {M : Type 1} → statement M
+feed_received_spec =
     tie.close
     (tie.spec
     returns

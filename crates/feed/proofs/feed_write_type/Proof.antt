@@ -20,16 +20,21 @@ value-le : (byte : ℕ) → (type_written byte).value ≤ byte
 unfolding type_written
 value-le byte = given-le _ byte
 
-write-type-requires : tie.Need-write-type-requires
+write-type-requires : tie.Need-write_type-written-requires
 write-type-requires c κs = search rules
 
-cast-value : tie.Need-overflow-cast-value
+cast-value : tie.Need-overflow_cast-value
 cast-value c =
-    let e = ap (λ (w : Written). w.value) c.before.write-type.ensures in
-    omega (arith, value-le c.before.before.args.byte)
+    let e = ap (λ (w : Written). w.value) c.write_type-written.ensures in
+    omega (arith, value-le c.args.byte)
 
 returns : tie.Need-returns
-returns c = written-fields c.before.write-type.ensures
+returns c = written-fields c.write_type-written.ensures
 
-pub feed-write-type-spec : {M : Type 1} → statement M
-feed-write-type-spec = tie.close (tie.spec write-type-requires cast-value returns)
+pub feed_write_type_spec : {M : Type 1} → statement M
+feed_write_type_spec =
+    tie.close
+    (tie.spec
+    write-type-requires
+    cast-value
+    returns)

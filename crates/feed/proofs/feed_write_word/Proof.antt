@@ -4,11 +4,15 @@ use Rattle.feed.proofs.Fields.{written-fields}
 use Rattle.feed.proofs.feed_write_word.Statement.{statement}
 use Rattle.feed.proofs.feed_write_word.Tie as tie
 
-write-word-requires : tie.Need-write-word-requires
+write-word-requires : tie.Need-write_word-written-requires
 write-word-requires c κs = search rules
 
 returns : tie.Need-returns
-returns c = written-fields c.write_word.ensures
+returns c = written-fields c.write_word-written.ensures
 
-pub feed-write-word-spec : {M : Type 1} → statement M
-feed-write-word-spec = tie.close (tie.spec write-word-requires returns)
+pub feed_write_word_spec : {M : Type 1} → statement M
+feed_write_word_spec =
+    tie.close
+    (tie.spec
+    write-word-requires
+    returns)

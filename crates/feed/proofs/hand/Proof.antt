@@ -6,5 +6,8 @@ use Rattle.feed.proofs.hand.Tie as tie
 returns : tie.Need-returns
 returns c = (refl, (refl, (refl, refl)))
 
-pub hand-spec : {M : Type 1} → statement M
-hand-spec = tie.close (tie.spec returns)
+pub hand_spec : {M : Type 1} → statement M
+hand_spec =
+    tie.close
+    (tie.spec
+    returns)

@@ -5,11 +5,15 @@ use borrow.Author.Rules.{rules}
 use Rattle.feedmap.proofs.feed_map_heard.Statement.{statement}
 use Rattle.feedmap.proofs.feed_map_heard.Tie as tie
 
-heard-requires : tie.Need-heard-requires
+heard-requires : tie.Need-heard-gathered-requires
 heard-requires c κs = search rules
 
 returns : tie.Need-returns
-returns c = (ap (λ (x : Gathered). x.number) c.heard.ensures, (ap (λ (x : Gathered). x.at) c.heard.ensures, (ap (λ (x : Gathered). x.len) c.heard.ensures, ap (λ (x : Gathered). x.whole) c.heard.ensures)))
+returns c = (ap (λ (x : Gathered). x.number) c.heard-gathered.ensures, (ap (λ (x : Gathered). x.at) c.heard-gathered.ensures, (ap (λ (x : Gathered). x.len) c.heard-gathered.ensures, ap (λ (x : Gathered). x.whole) c.heard-gathered.ensures)))
 
-pub feed-map-heard-spec : {M : Type 1} → statement M
-feed-map-heard-spec = tie.close (tie.spec heard-requires returns)
+pub feed_map_heard_spec : {M : Type 1} → statement M
+feed_map_heard_spec =
+    tie.close
+    (tie.spec
+    heard-requires
+    returns)

@@ -11,5 +11,9 @@ returns : tie.Need-returns
 unfolding tdms_made
 returns c = (c.pack.ensures.1, c.pack.ensures.0)
 
-pub feed-map-pack-spec : {M : Type 1} → statement M
-feed-map-pack-spec = tie.close (tie.spec pack-requires returns)
+pub feed_map_pack_spec : {M : Type 1} → statement M
+feed_map_pack_spec =
+    tie.close
+    (tie.spec
+    pack-requires
+    returns)

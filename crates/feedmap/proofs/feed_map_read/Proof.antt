@@ -5,12 +5,16 @@ use borrow.Author.Rules.{rules}
 use Rattle.feedmap.proofs.feed_map_read.Statement.{statement}
 use Rattle.feedmap.proofs.feed_map_read.Tie as tie
 
-read-requires : tie.Need-read-requires
+read-requires : tie.Need-read-read-requires
 read-requires c κs = search rules
 
 returns : tie.Need-returns
 returns c =
-    (c.read.ensures.1, (ap (λ (x : Field). x.count) c.read.ensures.0, (ap (λ (x : Field). x.flag) c.read.ensures.0, (ap (λ (x : Field). x.id) c.read.ensures.0, (ap (λ (x : Field). x.tdms) c.read.ensures.0, ap (λ (x : Field). x.links) c.read.ensures.0)))))
+    (c.read-read.ensures.1, (ap (λ (x : Field). x.count) c.read-read.ensures.0, (ap (λ (x : Field). x.flag) c.read-read.ensures.0, (ap (λ (x : Field). x.id) c.read-read.ensures.0, (ap (λ (x : Field). x.tdms) c.read-read.ensures.0, ap (λ (x : Field). x.links) c.read-read.ensures.0)))))
 
-pub feed-map-read-spec : {M : Type 1} → statement M
-feed-map-read-spec = tie.close (tie.spec read-requires returns)
+pub feed_map_read_spec : {M : Type 1} → statement M
+feed_map_read_spec =
+    tie.close
+    (tie.spec
+    read-requires
+    returns)

@@ -7,12 +7,17 @@ use Rattle.feedmap.proofs.feed_map_write.Tie as tie
 write-requires : tie.Need-write-requires
 write-requires c κs = search rules
 
-same_length : tie.Need-same-length
+same_length : tie.Need-shape_of-out
 same_length c = search rules
 
 returns : tie.Need-returns
 unfolding field_made
-returns c = c.before.before.write.ensures
+returns c = c.write.ensures
 
-pub feed-map-write-spec : {M : Type 1} → statement M
-feed-map-write-spec = tie.close (tie.spec write-requires same_length returns)
+pub feed_map_write_spec : {M : Type 1} → statement M
+feed_map_write_spec =
+    tie.close
+    (tie.spec
+    write-requires
+    same_length
+    returns)

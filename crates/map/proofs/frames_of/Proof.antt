@@ -5,33 +5,33 @@ use borrow.Author.Rules.{rules}
 use Rattle.map.proofs.frames_of.Statement.{statement}
 use Rattle.map.proofs.frames_of.Tie as tie
 
-shared-slice-read-t3 : tie.Need-shared-slice-read-t3
+shared-slice-read-t3 : tie.Need-bounds-map-36352
 shared-slice-read-t3 c = search rules
 
-add-t4 : tie.Need-overflow-add-t4
+add-t4 : tie.Need-overflow_add-result
 add-t4 c = search rules
 
-shared-slice-read-t6 : tie.Need-shared-slice-read-t6
+shared-slice-read-t6 : tie.Need-bounds-map
 shared-slice-read-t6 c = search rules
 
-add-t7 : tie.Need-overflow-add-t7
+add-t7 : tie.Need-overflow_add-result-2
 add-t7 c = search rules
 
-shared-slice-read-t9 : tie.Need-shared-slice-read-t9
+shared-slice-read-t9 : tie.Need-bounds-map-2
 shared-slice-read-t9 c = search rules
 
-add-t10 : tie.Need-overflow-add-t10
+add-t10 : tie.Need-overflow_add-result-3
 add-t10 c = search rules
 
-shared-slice-read-t12 : tie.Need-shared-slice-read-t12
+shared-slice-read-t12 : tie.Need-bounds-map-3
 shared-slice-read-t12 c = search rules
 
 returns : tie.Need-returns
 unfolding frames_of
 returns c = refl
 
-pub frames-of-spec : {M : Type 1} → statement M
-frames-of-spec =
+pub frames_of_spec : {M : Type 1} → statement M
+frames_of_spec =
     tie.close
     (tie.spec
     shared-slice-read-t3

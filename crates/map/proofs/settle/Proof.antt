@@ -16,15 +16,15 @@ store-requires c κs = search rules
 spoil-requires : tie.Need-spoil-requires
 spoil-requires c κs = search rules
 
-same_length : tie.Need-same-length
+same_length : tie.Need-shape_of-s
 same_length c = search rules
 
 returns : tie.Need-returns
 returns c =
-    settled-stored c.before.before.before.before.before.before.before.before.before.before.before.before.args.sure c.before.before.before.before.before.before.before.before.before.before.before.before.args.s.now _ _ _ _ c.before.before.before.before.before.before.before.before.before.load.ensures c.before.before.before.before.before.before.before.before.settled.ensures c.before.before.before.before.before.before.store.ensures c.before.before.spoil.ensures
+    settled-stored c.args.sure c.args.s.now _ _ _ _ c.load.ensures c.settled.ensures c.store.ensures c.spoil.ensures
 
-pub settle-spec : {M : Type 1} → statement M
-settle-spec =
+pub settle_spec : {M : Type 1} → statement M
+settle_spec =
     tie.close
     (tie.spec
     load-requires

@@ -7,22 +7,28 @@ use borrow.Author.Rules.{rules}
 use Rattle.map.proofs.show.Statement.{statement}
 use Rattle.map.proofs.show.Tie as tie
 
-checked-requires : tie.Need-checked-requires
+checked-requires : tie.Need-checked-refused-requires
 checked-requires c κs = search rules
 
-returns : tie.Need-returns
+returns : tie.Need-returns-then-refused-ne0
 returns c =
-    let a = c.before.before.before.args in
-    show-refused a.map.now a.id a.count _ c.before.checked.ensures c.if1.true
+    let a = c.args in
+    show-refused a.map.now a.id a.count _ c.checked-refused.ensures c.if-refused-ne0.true
 
-shown-at-requires : tie.Need-shown-at-requires
-shown-at-requires c κs = ((passed c.before.before.before.args.map.now (sym c.before.checked.ensures ∙ c.if1.false)).size, omega arith)
+shown-at-requires : tie.Need-shown_at-requires
+shown-at-requires c κs = ((passed c.args.map.now (sym c.checked-refused.ensures ∙ c.if-refused-ne0.false)).size, omega arith)
 
-returns-2 : tie.Need-returns-2
+returns-2 : tie.Need-returns
 returns-2 c =
     let one = c.before in
-    let a = one.before.before.before.args in
-    show-found a.map.now a.id a.count _ one.before.checked.ensures one.if1.false _ c.shown-at.ensures
+    let a = one.args in
+    show-found a.map.now a.id a.count _ one.checked-refused.ensures one.if-refused-ne0.false _ c.shown_at.ensures
 
-pub show-spec : {M : Type 1} → statement M
-show-spec = tie.close (tie.spec checked-requires returns shown-at-requires returns-2)
+pub show_spec : {M : Type 1} → statement M
+show_spec =
+    tie.close
+    (tie.spec
+    checked-requires
+    returns
+    shown-at-requires
+    returns-2)

@@ -1,5 +1,4 @@
 -- `map::stay` meets its contract: it is spoiled where the change is not sure. Assumes nothing.
-use borrow.Author.Tests.{not-true, not-false}
 use Rattle.map.proofs.Moving.{stayed-sure, stayed-unsure}
 use borrow.Author.Rules.{rules}
 use Rattle.map.proofs.stay.Statement.{statement}
@@ -17,22 +16,22 @@ store-requires c κs = search rules
 spoil-requires : tie.Need-spoil-requires
 spoil-requires c κs = search rules
 
-same_length : tie.Need-same-length
+same_length : tie.Need-shape_of-s-then-not-sure
 same_length c = search rules
 
-returns : tie.Need-returns
+returns : tie.Need-returns-then-not-sure
 returns c =
-    stayed-unsure c.before.before.before.before.before.before.before.before.before.before.before.before.before.args.sure c.before.before.before.before.before.before.before.before.before.before.before.before.before.args.s.now _ _ _ c.before.before.before.before.before.before.before.before.before.before.load.ensures c.before.before.before.before.before.before.before.before.before.marked.ensures c.before.before.before.before.before.before.before.store.ensures (not-true _ c.before.before.before.before.if1.true) _ c.before.before.spoil.ensures
+    stayed-unsure c.args.sure c.args.s.now _ _ _ c.load.ensures c.marked.ensures c.store.ensures c.if-not-sure.true _ c.spoil.ensures
 
-same-length-2 : tie.Need-same-length-2
+same-length-2 : tie.Need-shape_of-s-else-not-sure
 same-length-2 c = search rules
 
-returns-2 : tie.Need-returns-2
+returns-2 : tie.Need-returns-else-not-sure
 returns-2 c =
-    stayed-sure c.before.before.before.before.before.before.before.before.before.args.sure c.before.before.before.before.before.before.before.before.before.args.s.now _ _ _ c.before.before.before.before.before.before.load.ensures c.before.before.before.before.before.marked.ensures c.before.before.before.store.ensures (not-false _ c.if1.false)
+    stayed-sure c.args.sure c.args.s.now _ _ _ c.load.ensures c.marked.ensures c.store.ensures c.if-not-sure.false
 
-pub stay-spec : {M : Type 1} → statement M
-stay-spec =
+pub stay_spec : {M : Type 1} → statement M
+stay_spec =
     tie.close
     (tie.spec
     load-requires

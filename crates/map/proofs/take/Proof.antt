@@ -12,120 +12,117 @@ use Rattle.map.proofs.Doing.{Fits, fits, flag-lt, changed-to, kept-to, changed-t
 use Rattle.map.proofs.take.Statement.{statement}
 use Rattle.map.proofs.take.Tie as tie
 
-fit : (c : tie.Else1)
-    → Fits c.before.before.before.before.before.args.map.now c.before.before.before.before.before.args.field.now
-fit c = fits _ _ _ c.before.take-answer.ensures c.if1.false
+fit : (c : tie.Else-answer-ne0)
+    → Fits c.args.map.now c.args.field.now
+fit c = fits _ _ _ c.take_answer-answer.ensures c.if-answer-ne0.false
 
 -- a change up to the field's frame
-changed : (c : tie.Joined3) → c.if3.map ≡ changed_to c.before.before.before.before.before.before.before.before.before.before.before.before.before.args.map.now c.before.before.before.before.before.before.before.load.result.count
+changed : (c : tie.Joined-changing) → c.if-changing.map ≡ changed_to c.args.map.now c.load-field.result.count
 unfolding ruled
 changed c =
-    let m = c.before.before.before.before.before.before.before.before.before.before.before.before.before.args.map.now in
-    let n = c.before.before.before.before.before.before.before.load.result.count in
-    let frames = c.before.before.before.before.before.frames-of in
-    ⊎_elim (λ w. changed-to m _ frames.ensures n _ c.before.changing.ensures w.0.taken _ w.2.ensures _ (w.6 ∙ w.3.ensures))
-    (λ w. w.1 ∙ kept-to m _ frames.ensures n _ c.before.changing.ensures w.0.left) c.if3.branch
+    let m = c.args.map.now in
+    let n = c.load-field.result.count in
+    let frames = c.frames_of-frames in
+    ⊎_elim (λ w. changed-to m _ frames.ensures n _ c.changing.ensures w.if-changing.true _ w.all_heard.ensures _ (w.map-is ∙ w.each.ensures))
+    (λ w. w.map-is ∙ kept-to m _ frames.ensures n _ c.changing.ensures w.if-changing.false) c.if-changing.branch-raw
 
-behind : (c : tie.Joined3) → length c.if3.map ≡ map_size
-behind c = ap length (changed c) ∙ changed-to-length _ _ (fit c.before.before.before.before.before.before.before.before).size
+behind : (c : tie.Joined-changing) → length c.if-changing.map ≡ map_size
+behind c = ap length (changed c) ∙ changed-to-length _ _ (fit c.before.before.before.before.before.before.before).size
 
 -- behind it, where a frame was missed, what is being gathered
-up-to : (c : tie.Joined4) → c.if4.map ≡ up_to c.before.before.before.before.before.before.before.before.before.before.before.before.before.before.args.map.now c.before.before.before.before.before.before.before.before.load.result.count
+up-to : (c : tie.Joined-missed) → c.if-missed.map ≡ up_to c.args.map.now c.load-field.result.count
 unfolding ruled
 up-to c =
-    let m = c.before.before.before.before.before.before.before.before.before.before.before.before.before.before.args.map.now in
-    let n = c.before.before.before.before.before.before.before.before.load.result.count in
-    let frames = c.before.before.before.before.before.before.frames-of in
-    let missed = c.before.before.before.skips in
-    ⊎_elim (λ w. gap-to m _ frames.ensures n _ missed.ensures _ (changed c.before) w.0.taken _ (w.5 ∙ w.2.ensures))
-    (λ w. w.1 ∙ none-to m _ frames.ensures n _ missed.ensures _ (changed c.before) w.0.left) c.if4.branch
+    let m = c.args.map.now in
+    let n = c.load-field.result.count in
+    let frames = c.frames_of-frames in
+    let missed = c.skips-missed in
+    ⊎_elim (λ w. gap-to m _ frames.ensures n _ missed.ensures _ (changed c.before) w.if-missed.true _ (w.map-is ∙ w.each-then-missed.ensures))
+    (λ w. w.map-is ∙ none-to m _ frames.ensures n _ missed.ensures _ (changed c.before) w.if-missed.false) c.if-missed.branch-raw
 
-sized : (c : tie.Joined4) → length c.if4.map ≡ map_size
-sized c = ap length (up-to c) ∙ up-to-length _ _ (fit c.before.before.before.before.before.before.before.before.before).size
+sized : (c : tie.Joined-missed) → length c.if-missed.map ≡ map_size
+sized c = ap length (up-to c) ∙ up-to-length _ _ (fit c.before.before.before.before.before.before.before.before).size
 
 -- the field into its structure
-taken : (c : tie.Joined5) → c.if5.map ≡ taken_in c.before.before.before.before.before.before.before.before.before.before.load.result c.before.before.if4.map
+taken : (c : tie.Joined-field) → c.if-field.map ≡ taken_in c.load-field.result c.if-missed.map
 taken c =
-    ⊎_elim (λ w. w.5 ∙ w.2.ensures) (λ w. w.1 ∙ taken_none c.before.before.before.before.before.before.before.before.before.before.load.result c.before.before.if4.map w.0.left) c.if5.branch
+    ⊎_elim (λ w. w.map-is ∙ w.put_in.ensures) (λ w. w.map-is ∙ taken_none c.load-field.result c.if-missed.map w.if-field.false) c.if-field.branch-raw
 
-kept : (c : tie.Joined5) → length c.if5.map ≡ map_size
+kept : (c : tie.Joined-field) → length c.if-field.map ≡ map_size
 kept c =
-    ⊎_elim (λ w. ap length w.5 ∙ omega (arith, sized c.before.before)) (λ w. ap length w.1 ∙ sized c.before.before) c.if5.branch
+    ⊎_elim (λ w. ap length w.map-is ∙ omega (arith, sized c.before.before)) (λ w. ap length w.map-is ∙ sized c.before.before) c.if-field.branch-raw
 
-take-answer-requires : tie.Need-take-answer-requires
+take-answer-requires : tie.Need-take_answer-answer-requires
 take-answer-requires c κs = search rules
 
-same_length : tie.Need-same-length
+same_length : tie.Need-shape_of-map-then-answer-ne0
 same_length c = search rules
 
-returns : tie.Need-returns
+returns : tie.Need-returns-then-answer-ne0
 unfolding take_after
-returns c = refused _ _ _ c.before.before.before.before.before.args.map.now c.before.take-answer.ensures c.if1.true
+returns c = refused _ _ _ c.args.map.now c.take_answer-answer.ensures c.if-answer-ne0.true
 
-load-requires : tie.Need-load-requires
+load-requires : tie.Need-load-field-requires
 load-requires c κs = (fit c).field-size
 
-frames-of-requires : tie.Need-frames-of-requires
-frames-of-requires c κs = (fit c.before.before).size
+frames-of-requires : tie.Need-frames_of-frames-requires
+frames-of-requires c κs = (fit c.before).size
 
 again-requires : tie.Need-again-requires
 again-requires c κs = search rules
 
-same-length-2 : tie.Need-same-length-2
+same-length-2 : tie.Need-shape_of-map-then-again
 same-length-2 c = search rules
 
-returns-2 : tie.Need-returns-2
+returns-2 : tie.Need-returns-then-again
 unfolding take_after
 returns-2 c =
-    let one = c.before.before.before.before.before in
-    let m = one.before.before.before.before.before.args.map.now in
-    accepted _ _ _ m one.before.take-answer.ensures _ one.if1.false
-    (frame-again m _ _ c.before.before.frames-of.ensures _ c.before.again.ensures c.if2.true
-    ∙ ap (frame_taken m) c.before.before.before.before.load.ensures)
+    let m = c.args.map.now in
+    accepted _ _ _ m c.take_answer-answer.ensures _ c.if-answer-ne0.false
+    (frame-again m _ _ c.frames_of-frames.ensures _ c.again.ensures c.if-again.true
+    ∙ ap (frame_taken m) c.load-field.ensures)
 
-skips-requires : tie.Need-skips-requires
+skips-requires : tie.Need-skips-missed-requires
 skips-requires c κs = search rules
 
 changing-requires : tie.Need-changing-requires
 changing-requires c κs = search rules
 
-all-heard-requires : tie.Need-all-heard-requires
+all-heard-requires : tie.Need-all_heard-requires
 all-heard-requires c κs = search rules
 
 each-requires : tie.Need-each-requires
-each-requires c κs = (fit c.before.before.before.before.before.before.before.before.before.before).size
+each-requires c κs = (fit c.before.before.before.before.before.before.before.before.before).size
 
-each-requires-2 : tie.Need-each-requires-2
+each-requires-2 : tie.Need-each-requires-then-missed
 each-requires-2 c κs = behind c.before.before
 
-put-in-requires : tie.Need-put-in-requires
+put-in-requires : tie.Need-put_in-requires
 put-in-requires c κs =
     let four = c.before.before.before in
-    (sized four, (flag-lt _ _ four.before.before.before.before.before.before.before.before.load.ensures, c.before.if5.true))
+    (sized four, (flag-lt _ _ four.load-field.ensures, c.if-field.true))
 
 after-requires : tie.Need-after-requires
 after-requires c κs = search rules
 
-put-frames-requires : tie.Need-put-frames-requires
+put-frames-requires : tie.Need-put_frames-requires
 put-frames-requires c κs = kept c.before.before
 
-same-length-3 : tie.Need-same-length-3
+same-length-3 : tie.Need-shape_of-map
 same-length-3 c =
     let five = c.before.before.before.before.before in
-    omega (arith, kept five, (fit five.before.before.before.before.before.before.before.before.before.before.before).size)
+    omega (arith, kept five, (fit five.before.before.before.before.before.before.before.before.before.before).size)
 
-returns-3 : tie.Need-returns-3
+returns-3 : tie.Need-returns
 unfolding take_after
 returns-3 c =
     let five = c.before.before.before.before.before in
     let four = five.before.before in
-    let two = four.before.before.before.before in
-    let one = two.before.before.before.before.before in
-    let m = one.before.before.before.before.before.args.map.now in
-    accepted _ _ _ m one.before.take-answer.ensures _ one.if1.false
-    (frame-taken m _ _ two.before.before.frames-of.ensures _ two.before.again.ensures two.if2.false _ _ _ _ (up-to four) (taken five)
-    c.before.before.before.after.ensures c.before.before.put-frames.ensures
-    ∙ ap (frame_taken m) two.before.before.before.before.load.ensures)
+    let m = c.args.map.now in
+    accepted _ _ _ m c.take_answer-answer.ensures _ c.if-answer-ne0.false
+    (frame-taken m _ _ c.frames_of-frames.ensures _ c.again.ensures c.if-again.false _ _ _ _ (up-to four) (taken five)
+    c.after.ensures c.put_frames.ensures
+    ∙ ap (frame_taken m) c.load-field.ensures)
 
 pub take_spec : {M : Type 1} → statement M
 take_spec =

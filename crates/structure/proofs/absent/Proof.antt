@@ -7,12 +7,17 @@ use Rattle.structure.proofs.absent.Tie as tie
 none-requires : tie.Need-none-requires
 none-requires c κs = search rules
 
-same_length : tie.Need-same-length
+same_length : tie.Need-shape_of-s
 same_length c = search rules
 
 returns : tie.Need-returns
 unfolding absence
 returns c = c.before.before.none.ensures
 
-pub absent-spec : {M : Type 1} → statement M
-absent-spec = tie.close (tie.spec none-requires same_length returns)
+pub absent_spec : {M : Type 1} → statement M
+absent_spec =
+    tie.close
+    (tie.spec
+    none-requires
+    same_length
+    returns)

@@ -7,12 +7,17 @@ use Rattle.structure.proofs.delete.Tie as tie
 none-requires : tie.Need-none-requires
 none-requires c κs = search rules
 
-same_length : tie.Need-same-length
+same_length : tie.Need-shape_of-s
 same_length c = search rules
 
 returns : tie.Need-returns
 unfolding deletion
 returns c = c.before.before.none.ensures
 
-pub delete-spec : {M : Type 1} → statement M
-delete-spec = tie.close (tie.spec none-requires same_length returns)
+pub delete_spec : {M : Type 1} → statement M
+delete_spec =
+    tie.close
+    (tie.spec
+    none-requires
+    same_length
+    returns)

@@ -7,13 +7,13 @@ use Rattle.structure.proofs.none.Tie as tie
 clear-requires : tie.Need-clear-requires
 clear-requires c κs = search rules
 
-slice-write-s : tie.Need-slice-write-s
+slice-write-s : tie.Need-bounds-s-3
 slice-write-s c = search rules
 
-slice-write-s-2 : tie.Need-slice-write-s-2
+slice-write-s-2 : tie.Need-bounds-s-6
 slice-write-s-2 c = search rules
 
-same_length : tie.Need-same-length
+same_length : tie.Need-shape_of-s
 same_length c = search rules
 
 returns : tie.Need-returns

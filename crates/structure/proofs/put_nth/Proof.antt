@@ -4,22 +4,28 @@ use borrow.Author.Rules.{rules}
 use Rattle.structure.proofs.put_nth.Statement.{statement}
 use Rattle.structure.proofs.put_nth.Tie as tie
 
-mul-put-eight : tie.Need-overflow-mul-put-eight
+mul-put-eight : tie.Need-overflow_mul-k
 mul-put-eight c = search rules
 
-add-put-eight : tie.Need-overflow-add-put-eight
+add-put-eight : tie.Need-overflow_add-k
 add-put-eight c = search rules
 
-put-eight-requires : tie.Need-put-eight-requires
+put-eight-requires : tie.Need-put_eight-requires
 put-eight-requires c κs = search rules
 
-same_length : tie.Need-same-length
+same_length : tie.Need-shape_of-s
 same_length c = search rules
 
 returns : tie.Need-returns
 unfolding with_nth
-returns c = c.before.before.put-eight.ensures
+returns c = c.before.before.put_eight.ensures
 
-pub put-nth-spec : {M : Type 1} → statement M
-put-nth-spec =
-    tie.close (tie.spec mul-put-eight add-put-eight put-eight-requires same_length returns)
+pub put_nth_spec : {M : Type 1} → statement M
+put_nth_spec =
+    tie.close
+    (tie.spec
+    mul-put-eight
+    add-put-eight
+    put-eight-requires
+    same_length
+    returns)

@@ -5,11 +5,15 @@ use borrow.Author.Rules.{rules}
 use Rattle.feed.proofs.calls.feed_ask.Statement.{statement}
 use Rattle.feed.proofs.calls.feed_ask.Tie as tie
 
-answer-requires : tie.Need-answer-requires
+answer-requires : tie.Need-answer-shown-requires
 answer-requires c κs = search rules
 
 returns : tie.Need-returns
-returns c = (ap (λ (x : Asked). x.number) c.answer.ensures, (ap (λ (x : Asked). x.at) c.answer.ensures, ap (λ (x : Asked). x.len) c.answer.ensures))
+returns c = (ap (λ (x : Asked). x.number) c.answer-shown.ensures, (ap (λ (x : Asked). x.at) c.answer-shown.ensures, ap (λ (x : Asked). x.len) c.answer-shown.ensures))
 
-pub feed-ask-spec : {M : Type 1} → statement M
-feed-ask-spec = tie.close (tie.spec answer-requires returns)
+pub feed_ask_spec : {M : Type 1} → statement M
+feed_ask_spec =
+    tie.close
+    (tie.spec
+    answer-requires
+    returns)

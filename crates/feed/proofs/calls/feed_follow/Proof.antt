@@ -11,14 +11,20 @@ new-requires c κs = search rules
 follow-requires : tie.Need-follow-requires
 follow-requires c κs = search rules
 
-same_length : tie.Need-same-length
+same_length : tie.Need-shape_of-state
 same_length c = search rules
 
 returns : tie.Need-returns
 returns c =
-    let made = c.before.before.before.new.ensures in
-    let s = c.before.before.before.before.before.before.args.state.now in
-    (c.before.before.follow.ensures.0 ∙ ap (follow_answer s) made, c.before.before.follow.ensures.1 ∙ ap (follow_after s) made)
+    let made = c.new.ensures in
+    let s = c.args.state.now in
+    (c.follow.ensures.0 ∙ ap (follow_answer s) made, c.follow.ensures.1 ∙ ap (follow_after s) made)
 
-pub feed-follow-spec : {M : Type 1} → statement M
-feed-follow-spec = tie.close (tie.spec new-requires follow-requires same_length returns)
+pub feed_follow_spec : {M : Type 1} → statement M
+feed_follow_spec =
+    tie.close
+    (tie.spec
+    new-requires
+    follow-requires
+    same_length
+    returns)

@@ -4,37 +4,37 @@ use borrow.Author.Rules.{rules}
 use Rattle.map.proofs.look.faults_at.Statement.{statement}
 use Rattle.map.proofs.look.faults_at.Tie as tie
 
-mul_at : tie.Need-overflow-mul-at
+mul_at : tie.Need-overflow_mul-at
 mul_at c = search rules
 
-add-faults-in-force : tie.Need-overflow-add-faults-in-force
+add-faults-in-force : tie.Need-overflow_add-at
 add-faults-in-force c = search rules
 
-sub-faults-in-force : tie.Need-overflow-sub-faults-in-force
+sub-faults-in-force : tie.Need-slice_bounds-faults_in_force-count
 sub-faults-in-force c = search rules
 
-part-faults-in-force-start : tie.Need-slice-bounds-faults-in-force-start
+part-faults-in-force-start : tie.Need-slice_bounds-faults_in_force-start
 part-faults-in-force-start c = search rules
 
-part-faults-in-force-end : tie.Need-slice-bounds-faults-in-force-end
+part-faults-in-force-end : tie.Need-slice_bounds-faults_in_force-end
 part-faults-in-force-end c = search rules
 
-faults-in-force-requires : tie.Need-faults-in-force-requires
+faults-in-force-requires : tie.Need-faults_in_force-force-requires
 faults-in-force-requires c κs = search rules
 
-add-faults : tie.Need-overflow-add-faults
+add-faults : tie.Need-overflow_add-at-2
 add-faults c = search rules
 
-add-faults-2 : tie.Need-overflow-add-faults-2
+add-faults-2 : tie.Need-overflow_add-at-3
 add-faults-2 c = search rules
 
-sub-faults : tie.Need-overflow-sub-faults
+sub-faults : tie.Need-slice_bounds-faults-count
 sub-faults c = search rules
 
-part-faults-start : tie.Need-slice-bounds-faults-start
+part-faults-start : tie.Need-slice_bounds-faults-start
 part-faults-start c = search rules
 
-part-faults-end : tie.Need-slice-bounds-faults-end
+part-faults-end : tie.Need-slice_bounds-faults-end
 part-faults-end c = search rules
 
 faults-requires : tie.Need-faults-requires
@@ -43,11 +43,11 @@ faults-requires c κs = search rules
 returns : tie.Need-returns
 returns c =
     let a = c.before.before.before.before.before.args in
-    faults-both a.id a.map.now c.before.before.faults-in-force.result c.faults.result _ _ c.before.before.faults-in-force.ensures
+    faults-both a.id a.map.now c.before.before.faults_in_force-force.result c.faults.result _ _ c.before.before.faults_in_force-force.ensures
     c.faults.ensures (force-lent a.id a.map.now) (coming-lent a.id a.map.now)
 
-pub faults-at-spec : {M : Type 1} → statement M
-faults-at-spec =
+pub faults_at_spec : {M : Type 1} → statement M
+faults_at_spec =
     tie.close
     (tie.spec
     mul_at

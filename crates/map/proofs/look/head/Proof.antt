@@ -6,25 +6,25 @@ use borrow.Author.Rules.{rules}
 use Rattle.map.proofs.look.head.Statement.{statement}
 use Rattle.map.proofs.look.head.Tie as tie
 
-mul_at : tie.Need-overflow-mul-at
+mul_at : tie.Need-overflow_mul-at
 mul_at c = search rules
 
-mul-at-2 : tie.Need-overflow-mul-at-2
+mul-at-2 : tie.Need-overflow_mul-at-2
 mul-at-2 c = search rules
 
-add_at : tie.Need-overflow-add-at
+add_at : tie.Need-overflow_add-at
 add_at c = search rules
 
-add-load : tie.Need-overflow-add-load
+add-load : tie.Need-overflow_add-at-2
 add-load c = search rules
 
-sub-load : tie.Need-overflow-sub-load
+sub-load : tie.Need-slice_bounds-load-count
 sub-load c = search rules
 
-part-load-start : tie.Need-slice-bounds-load-start
+part-load-start : tie.Need-slice_bounds-load-start
 part-load-start c = search rules
 
-part-load-end : tie.Need-slice-bounds-load-end
+part-load-end : tie.Need-slice_bounds-load-end
 part-load-end c = search rules
 
 load-requires : tie.Need-load-requires

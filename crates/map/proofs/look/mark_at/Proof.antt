@@ -16,9 +16,9 @@ behind : (c : tie.After-said) (count : ℕ) → c.before.before.before.args.chan
     → (c.before.before.before.args.change && c.said.result)
     ≡ (changing (frames_of c.before.before.before.args.map.now) count && said (announced c.before.before.before.args.id c.before.before.before.args.map.now))
 unfolding announced
-behind c count e = ap₂ ◌&&◌ e (c.said.ensures ∙ ap said c.before.head.ensures)
+behind c count e = ap₂ ◌&&◌ e (c.said.ensures ∙ ap said c.before.head-coming.ensures)
 
-head-requires : tie.Need-head-requires
+head-requires : tie.Need-head-coming-requires
 head-requires c κs = search rules
 
 said-requires : tie.Need-said-requires
@@ -27,39 +27,39 @@ said-requires c κs = search rules
 settled-requires : tie.Need-settled-requires
 settled-requires c κs = search rules
 
-mark-by-requires : tie.Need-mark-by-requires
+mark-by-requires : tie.Need-mark_by-requires
 mark-by-requires c κs = search rules
 
-returns : tie.Need-returns
+returns : tie.Need-returns-then-change-said
 unfolding announced
 returns c =
     let asked = c.before.before.before in
     let a = asked.before.before.before.args in
     let m = a.map.now in
-    λ count ec es eh. mark-then m a.id count c.mark-by.result c.before.settled.result
-    (c.before.settled.ensures ∙ ap₂ settled_head es asked.before.head.ensures
-    ∙ behind-then m a.id count (a.change && asked.said.result) (behind asked count ec) c.before.before.if1.true)
-    (c.mark-by.ensures (frames_of m) a.id (then_which m a.id count) (said (announced a.id m)) eh)
+    λ count ec es eh. mark-then m a.id count c.mark_by.result c.before.settled.result
+    (c.before.settled.ensures ∙ ap₂ settled_head es asked.before.head-coming.ensures
+    ∙ behind-then m a.id count (a.change && asked.said.result) (behind asked count ec) c.before.before.if-change-said.true)
+    (c.mark_by.ensures (frames_of m) a.id (then_which m a.id count) (said (announced a.id m)) eh)
 
-head-requires-2 : tie.Need-head-requires-2
+head-requires-2 : tie.Need-head-requires
 head-requires-2 c κs = search rules
 
-mark-by-requires-2 : tie.Need-mark-by-requires-2
+mark-by-requires-2 : tie.Need-mark_by-requires-2
 mark-by-requires-2 c κs = search rules
 
-returns-2 : tie.Need-returns-2
+returns-2 : tie.Need-returns
 unfolding in_force
 returns-2 c =
     let asked = c.before.before.before in
     let a = asked.before.before.before.args in
     let m = a.map.now in
-    λ count ec es eh. mark-then m a.id count c.mark-by2.result c.before.head2.result
-    (c.before.head2.ensures
-    ∙ force-then m a.id count (a.change && asked.said.result) (behind asked count ec) c.before.before.if1.false)
-    (c.mark-by2.ensures (frames_of m) a.id (then_which m a.id count) (said (announced a.id m)) eh)
+    λ count ec es eh. mark-then m a.id count c.mark_by-2.result c.before.head.result
+    (c.before.head.ensures
+    ∙ force-then m a.id count (a.change && asked.said.result) (behind asked count ec) c.before.before.if-change-said.false)
+    (c.mark_by-2.ensures (frames_of m) a.id (then_which m a.id count) (said (announced a.id m)) eh)
 
-pub mark-at-spec : {M : Type 1} → statement M
-mark-at-spec =
+pub mark_at_spec : {M : Type 1} → statement M
+mark_at_spec =
     tie.close
     (tie.spec
     head-requires

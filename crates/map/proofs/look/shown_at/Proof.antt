@@ -11,26 +11,26 @@ use Rattle.map.proofs.look.shown_at.Tie as tie
 head-requires : tie.Need-head-requires
 head-requires c κs = search rules
 
-said-requires : tie.Need-said-requires
+said-requires : tie.Need-said-said-requires
 said-requires c κs = search rules
 
-then-at-requires : tie.Need-then-at-requires
+then-at-requires : tie.Need-then_at-then-requires
 then-at-requires c κs = search rules
 
-frames-of-requires : tie.Need-frames-of-requires
+frames-of-requires : tie.Need-frames_of-requires
 frames-of-requires c κs = search rules
 
 found-requires : tie.Need-found-requires
 found-requires c κs =
-    (c.before.before.before.before.before.requires.1, omega (arith, c.before.then_at.ensures.0, which-lt c.before.before.before.before.before.args.map.now c.before.before.before.before.before.args.id c.before.before.before.before.before.args.count))
+    (c.requires.1, omega (arith, c.then_at-then.ensures.0, which-lt c.args.map.now c.args.id c.args.count))
 
 returns : tie.Need-returns
 unfolding announced
 returns c =
-    shown-then c.before.before.before.before.before.before.args.map.now c.before.before.before.before.before.before.args.id c.before.before.before.before.before.before.args.count _ _ _ _ _ c.before.frames-of.ensures c.before.before.then_at.ensures.0 c.before.before.then_at.ensures.1 (c.before.before.before.said.ensures ∙ ap said c.before.before.before.before.head.ensures) c.found.ensures
+    shown-then c.args.map.now c.args.id c.args.count _ _ _ _ _ c.frames_of.ensures c.then_at-then.ensures.0 c.then_at-then.ensures.1 (c.said-said.ensures ∙ ap said c.head.ensures) c.found.ensures
 
-pub shown-at-spec : {M : Type 1} → statement M
-shown-at-spec =
+pub shown_at_spec : {M : Type 1} → statement M
+shown_at_spec =
     tie.close
     (tie.spec
     head-requires

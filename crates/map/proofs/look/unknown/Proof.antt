@@ -11,8 +11,8 @@ returns : tie.Need-returns
 returns c =
     unknown-tests c.before.before.before.args.frames c.before.before.before.args.head _ c.enough.ensures
 
-pub unknown-spec : {M : Type 1} → statement M
-unknown-spec =
+pub unknown_spec : {M : Type 1} → statement M
+unknown_spec =
     tie.close
     (tie.spec
     enough-requires

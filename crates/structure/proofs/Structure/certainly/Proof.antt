@@ -8,5 +8,8 @@ returns : tie.Need-returns
 unfolding certainly
 returns c = refl
 
-pub certainly-spec : {M : Type 1} → statement M
-certainly-spec = tie.close (tie.spec returns)
+pub certainly_spec : {M : Type 1} → statement M
+certainly_spec =
+    tie.close
+    (tie.spec
+    returns)

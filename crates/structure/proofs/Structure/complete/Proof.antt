@@ -8,5 +8,8 @@ returns : tie.Need-returns
 unfolding complete
 returns c = refl
 
-pub complete-spec : {M : Type 1} → statement M
-complete-spec = tie.close (tie.spec returns)
+pub complete_spec : {M : Type 1} → statement M
+complete_spec =
+    tie.close
+    (tie.spec
+    returns)

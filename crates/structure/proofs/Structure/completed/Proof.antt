@@ -8,5 +8,8 @@ returns : tie.Need-returns
 unfolding completed_head
 returns c = refl
 
-pub completed-spec : {M : Type 1} → statement M
-completed-spec = tie.close (tie.spec returns)
+pub completed_spec : {M : Type 1} → statement M
+completed_spec =
+    tie.close
+    (tie.spec
+    returns)

@@ -4,38 +4,38 @@ use borrow.Author.Rules.{rules}
 use Rattle.structure.proofs.Structure.faults.Statement.{statement}
 use Rattle.structure.proofs.Structure.faults.Tie as tie
 
-four-at-requires : tie.Need-four-at-requires
+four-at-requires : tie.Need-four_at-low-requires
 four-at-requires c κs = search rules
 
-four-at-requires-2 : tie.Need-four-at-requires-2
+four-at-requires-2 : tie.Need-four_at-high-requires
 four-at-requires-2 c κs = search rules
 
-add-many : tie.Need-overflow-add-many
+add-many : tie.Need-overflow_add-many
 add-many c = search rules
 
-mul-many : tie.Need-overflow-mul-many
+mul-many : tie.Need-overflow_mul-many
 mul-many c = search rules
 
-add-many-2 : tie.Need-overflow-add-many-2
+add-many-2 : tie.Need-overflow_add-many-2
 add-many-2 c = search rules
 
-add-many-3 : tie.Need-overflow-add-many-3
+add-many-3 : tie.Need-overflow_add-many-3
 add-many-3 c = search rules
 
-add-few : tie.Need-overflow-add-few
+add-few : tie.Need-overflow_add-few
 add-few c = search rules
 
-sub-few : tie.Need-overflow-sub-few
+sub-few : tie.Need-overflow_sub-few
 sub-few c = search rules
 
 returns : tie.Need-returns
 returns c =
     let begin = c.before.before in
-    faults-good begin.before.args.s.now (λ k. (begin.shared-slice-known.given k).fits) c.before.four-at.result c.four-at2.result
-    c.before.four-at.ensures c.four-at2.ensures
+    faults-good begin.before.args.s.now (λ k. (begin.shared_slice_known-1.given k).fits) c.before.four_at-low.result c.four_at-high.result
+    c.before.four_at-low.ensures c.four_at-high.ensures
 
-pub faults-spec : {M : Type 1} → statement M
-faults-spec =
+pub faults_spec : {M : Type 1} → statement M
+faults_spec =
     tie.close
     (tie.spec
     four-at-requires

@@ -14,7 +14,7 @@ faults-requires c κs = search rules
 load-requires : tie.Need-load-requires
 load-requires c κs = search rules
 
-cast-result : tie.Need-overflow-cast-result
+cast-result : tie.Need-overflow_cast-result
 cast-result c = search rules
 
 returns : tie.Need-returns
@@ -22,5 +22,11 @@ returns c =
     or-test c.before.before.faults.result c.before.load.result.deleted
     ∙ ap₂ ◌&&◌ c.before.before.faults.ensures (ap (λ (h : Structure). eqb h.deleted 0) c.before.load.ensures)
 
-pub faults-in-force-spec : {M : Type 1} → statement M
-faults-in-force-spec = tie.close (tie.spec faults-requires load-requires cast-result returns)
+pub faults_in_force_spec : {M : Type 1} → statement M
+faults_in_force_spec =
+    tie.close
+    (tie.spec
+    faults-requires
+    load-requires
+    cast-result
+    returns)

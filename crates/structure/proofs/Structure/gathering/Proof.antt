@@ -8,5 +8,8 @@ returns : tie.Need-returns
 unfolding gathering_head
 returns c = refl
 
-pub gathering-spec : {M : Type 1} → statement M
-gathering-spec = tie.close (tie.spec returns)
+pub gathering_spec : {M : Type 1} → statement M
+gathering_spec =
+    tie.close
+    (tie.spec
+    returns)

@@ -8,5 +8,8 @@ returns : tie.Need-returns
 unfolding marked_head
 returns c = refl
 
-pub marked-spec : {M : Type 1} → statement M
-marked-spec = tie.close (tie.spec returns)
+pub marked_spec : {M : Type 1} → statement M
+marked_spec =
+    tie.close
+    (tie.spec
+    returns)

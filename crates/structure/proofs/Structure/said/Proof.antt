@@ -8,5 +8,8 @@ returns : tie.Need-returns
 unfolding said
 returns c = refl
 
-pub said-spec : {M : Type 1} → statement M
-said-spec = tie.close (tie.spec returns)
+pub said_spec : {M : Type 1} → statement M
+said_spec =
+    tie.close
+    (tie.spec
+    returns)

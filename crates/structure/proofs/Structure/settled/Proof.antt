@@ -8,22 +8,22 @@ use Rattle.structure.proofs.Structure.settled.Statement.{statement}
 use Rattle.structure.proofs.Structure.settled.Tie as tie
 
 -- what the first test left
-came : (c : tie.Joined1) → ((c.before.before.args.sure && c.before.complete.result) ≡ true × c.if1.whole ≡ 1) ⊎ ((c.before.before.args.sure && c.before.complete.result) ≡ false × c.if1.whole ≡ c.before.before.args.self.whole)
-came c = ⊎_elim (λ w. inl (w.0.taken, w.1)) (λ w. inr (w.0.left, w.1)) c.if1.branch
+came : (c : tie.Joined-sure-complete) → ((c.before.before.args.sure && c.before.complete.result) ≡ true × c.if-sure-complete.whole ≡ 1) ⊎ ((c.before.before.args.sure && c.before.complete.result) ≡ false × c.if-sure-complete.whole ≡ c.before.before.args.self.whole)
+came c = ⊎_elim (λ w. inl (w.if-sure-complete.true, w.whole-is)) (λ w. inr (w.if-sure-complete.false, w.whole-is)) c.if-sure-complete.branch-raw
 
 complete-requires : tie.Need-complete-requires
 complete-requires c κs = search rules
 
-returns : tie.Need-returns
+returns : tie.Need-returns-then-sure
 returns c =
-    settled-mark c.before.before.before.args.sure c.before.before.before.args.self _ c.before.before.complete.ensures true c.if2.true _ (came c.before)
+    settled-mark c.before.before.before.args.sure c.before.before.before.args.self _ c.before.before.complete.ensures true c.if-sure.true _ (came c.before)
 
-returns-2 : tie.Need-returns-2
+returns-2 : tie.Need-returns-else-sure
 returns-2 c =
-    settled-mark c.before.before.before.args.sure c.before.before.before.args.self _ c.before.before.complete.ensures false c.if2.false _ (came c.before)
+    settled-mark c.before.before.before.args.sure c.before.before.before.args.self _ c.before.before.complete.ensures false c.if-sure.false _ (came c.before)
 
-pub settled-spec : {M : Type 1} → statement M
-settled-spec =
+pub settled_spec : {M : Type 1} → statement M
+settled_spec =
     tie.close
     (tie.spec
     complete-requires
