@@ -1,6 +1,6 @@
 -- A turn of the program, on its values: what is told of a read, and the progress after it.
 --
---   cut-some, cut-none          35 where bytes are kept at the end of the file
+--   cut_some, cut_none          35 where bytes are kept at the end of the file
 --   told-end, next-end          a read that gives nothing
 --   told-some, next-some        a read that gives bytes
 --   held-turned                 what a buffer's answers leave is the progress after it
@@ -11,7 +11,7 @@
 use mathlib.Core.Path.{◌≡◌, refl, sym, ap, ◌∙◌, subst}
 use mathlib.Core.Bool.{Bool, true, false, true≢false}
 use mathlib.Core.List.{List, [], ◌∷◌, ◌++◌}
-use Prim.Native.Nat.{ℕ, ◌+◌, ◌-◌, ◌≤◌, ◌<◌}
+use Prim.Native.Nat.{ℕ, ◌+◌, ◌≤◌, ◌<◌}
 use native.Mathlib.Omega.{arith}
 use lib.ListN.{length, take, drop, length-take, length-drop}
 use lib.Seq.{length-take-le, take_at, take-add}
@@ -26,15 +26,15 @@ use Rattle.answers.proofs.Telling.{after-snoc}
 
 -- ---- the end of the file
 
-pub cut-some : (b : List ℕ) → (length b ≡ 0 → ⊥) → cut b ≡ 35 ∷ []
+pub cut_some : (b : List ℕ) → (length b ≡ 0 → ⊥) → cut b ≡ 35 ∷ []
 unfolding cut
-cut-some [] h = absurd (h refl)
-cut-some (x ∷ b) h = refl
+cut_some [] h = absurd (h refl)
+cut_some (x ∷ b) h = refl
 
-pub cut-none : (b : List ℕ) → length b ≡ 0 → cut b ≡ []
+pub cut_none : (b : List ℕ) → length b ≡ 0 → cut b ≡ []
 unfolding cut
-cut-none [] h = refl
-cut-none (x ∷ b) h = absurd (omega arith)
+cut_none [] h = refl
+cut_none (x ∷ b) h = absurd (omega arith)
 
 module _ (t buffer : List ℕ) (kept more number : ℕ) (none : more ≡ 0) where
   pub told-end : told (held t buffer kept number true) (take more (drop kept buffer)) ≡ lines number (cut (take kept buffer))

@@ -51,7 +51,7 @@ pub fn answered(
         return ended(&buffer[..kept], number, out);
     }
     let n = kept + more;
-    let mut answers = io::buffer();
+    let mut answers = [0u8; 4096];
     let told = speak(state, &buffer[..n], &mut answers);
     let count = told.count;
     let len = text::put_lines(out, number, &answers[..count]);
@@ -65,6 +65,7 @@ pub fn answered(
 }
 
 // The end of the file: what is kept is a record cut short.
+#[tactic(auto, using(crate::proofs::Turning::cut_some, crate::proofs::Turning::cut_none), unfolding(crate::specs::Text::lines))]
 fn ended(kept: &[u8], number: u64, out: &mut [u8]) -> Progress
     requires out_len { length out.old ≡ 65536 }
     requires number_bound { number + 1025 < 18446744073709551616 }

@@ -9,25 +9,32 @@ ghost use Rattle.std.specs.Prelude.{◌≡◌, true, ◌+◌, ◌≤◌, ◌<◌
 ghost use Rattle.answers.specs.Said.{held, Reached, Offered};
 
 use chunk::Progress;
-use libc::{STDERR_FILENO, STDIN_FILENO, STDOUT_FILENO};
+use std::io;
+use std::io::Read;
 use table::Table;
 
 mod chunk;
 mod text;
 
-fn main() {
+fn main(rt: HostRuntime) {
     let mut state = [0u8; Table::SIZE];
     table::start(&mut state);
-    let mut buffer = io::buffer();
-    let mut out = io::large_buffer();
-    if print(b"answers 1\n") {
-        run(&mut state, &mut buffer, &mut out);
+    let mut buffer = [0u8; 4096];
+    let mut out = [0u8; 65536];
+    if print(&rt, b"answers 1\n") {
+        run(&rt, &mut rt.stdin(), &mut state, &mut buffer, &mut out);
     }
 }
 
 // A proved loop has to end, and nothing says that a file does: it counts its turns down from a number that no run uses up. A turn has
 // 1,025 lines at most, so that the records' numbers stay within their 64 bits.
-fn run(state: &mut [u8], buffer: &mut [u8], out: &mut [u8])
+fn run<R: Print + Eprint, I: Read>(
+    rt: &R,
+    input: &mut I,
+    state: &mut [u8],
+    buffer: &mut [u8],
+    out: &mut [u8],
+)
     requires reached { Reached (held state.old buffer.old 0 1 true) }
     requires buffer_len { length buffer.old ≡ 4096 }
     requires out_len { length out.old ≡ 65536 }
@@ -43,18 +50,25 @@ fn run(state: &mut [u8], buffer: &mut [u8], out: &mut [u8])
         if !progress.going {
             return;
         }
-        progress = turn(state, buffer, out, progress);
+        progress = turn(rt, input, state, buffer, out, progress);
         turns -= 1;
     }
-    endless();
+    endless(rt);
 }
 
-fn endless() {
-    io::write_all(STDERR_FILENO, b"answers: standard input does not end\n");
+fn endless(rt: &impl Eprint) {
+    let _said = eprintln!(rt; "answers: standard input does not end");
 }
 
 // One read, and what is to be printed for it.
-fn turn(state: &mut [u8], buffer: &mut [u8], out: &mut [u8], progress: Progress) -> Progress
+fn turn<R: Print + Eprint, I: Read>(
+    rt: &R,
+    input: &mut I,
+    state: &mut [u8],
+    buffer: &mut [u8],
+    out: &mut [u8],
+    progress: Progress,
+) -> Progress
     requires reached { Reached (held state.old buffer.old progress.kept progress.number true) }
     requires buffer_len { length buffer.old ≡ 4096 }
     requires out_len { length out.old ≡ 65536 }
@@ -71,31 +85,45 @@ fn turn(state: &mut [u8], buffer: &mut [u8], out: &mut [u8], progress: Progress)
         going: false,
         len: 0,
     };
-    let got = libc::read(STDIN_FILENO, &mut buffer[kept..]);
-    if got < 0 {
-        os::fail(b"answers: reading standard input");
-        return stopped;
-    }
-    let more = io::count(got, &buffer[kept..]);
+    let more = match input.read(&mut buffer[kept..]) {
+        Ok(more) => more,
+        Err(error) => {
+            unread(rt, error);
+            return stopped;
+        }
+    };
     let next = chunk::answered(state, buffer, kept, more, progress.number, out);
     let len = next.len;
-    if print(&out[..len]) {
+    if print(rt, &out[..len]) {
         return next;
     }
     stopped
 }
 
+// Nothing is left to be done where standard error takes nothing either.
+fn unread(rt: &impl Eprint, error: io::Error) {
+    let _said = eprintln!(rt; "answers: reading standard input: {error}");
+}
+
 // The one function that writes on standard output. It offers what is not taken yet until nothing is left, and stops at the first call
 // that takes nothing.
-fn print(out: &[u8]) -> bool
+fn print<R: Print + Eprint>(rt: &R, out: &[u8]) -> bool
     requires { Offered out.now }
 {
     let mut done: usize = 0;
     while done < out.len() {
-        let got = libc::write(STDOUT_FILENO, &out[done..]);
-        let taken = io::count(got, &out[done..]);
+        let taken = match rt.write_some(&out[done..]) {
+            Ok(taken) => taken,
+            Err(error) => {
+                refused(rt, error);
+                return false;
+            }
+        };
         if taken == 0 {
-            refused(got);
+            refused(
+                rt,
+                io::Error::new(io::ErrorKind::WriteZero, "nothing is taken"),
+            );
             return false;
         }
         done += taken;
@@ -103,14 +131,7 @@ fn print(out: &[u8]) -> bool
     true
 }
 
-// Why a write took nothing. One that failed says so by errno.
-fn refused(got: isize) {
-    if got < 0 {
-        os::fail(b"answers: writing standard output");
-    } else {
-        io::write_all(
-            STDERR_FILENO,
-            b"answers: writing standard output: nothing is taken\n",
-        );
-    }
+// Why a write took nothing.
+fn refused(rt: &impl Eprint, error: io::Error) {
+    let _said = eprintln!(rt; "answers: writing standard output: {error}");
 }

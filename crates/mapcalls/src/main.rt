@@ -8,49 +8,56 @@
 #![tactic(auto)]
 
 use field::Field;
-use libc::{STDIN_FILENO, STDOUT_FILENO};
 use map::Map;
-use rows::tell;
 use rows::tell::Progress;
+use rows::{tell, text};
+use std::io;
 
 mod hand;
 mod taking;
 
 // There is a byte more than a call takes of the map and of a field, so that too many can be lent.
-fn main() {
-    io::write_all(STDOUT_FILENO, b"mapcalls 1\n");
-    let mut text = [0u8; 262144];
-    let len = io::read_full(STDIN_FILENO, &mut text);
-    tell::fits(len, 262144);
+fn main(rt: HostRuntime) -> io::Result<()> {
+    println!(rt; "mapcalls 1")?;
+    let mut bytes = [0u8; 262144];
+    let len = text::filled(&mut rt.stdin(), &mut bytes)?;
+    tell::fits(&rt, len, 262144)?;
     let mut map = [0u8; Map::SIZE + 1];
     let mut kept = [0u8; Map::SIZE + 1];
     let mut field = [0u8; Field::SIZE + 1];
-    run(&text[..len], &mut map, &mut kept, &mut field);
+    run(&rt, &bytes[..len], &mut map, &mut kept, &mut field)
 }
 
-fn run(text: &[u8], map: &mut [u8], kept: &mut [u8], field: &mut [u8]) {
+fn run(
+    rt: &impl Print,
+    text: &[u8],
+    map: &mut [u8],
+    kept: &mut [u8],
+    field: &mut [u8],
+) -> io::Result<()> {
     let mut progress = Progress::new(Map::SIZE);
     let mut k: usize = 0;
     while k < text.len() {
-        progress = step(progress, text[k], map, kept, field);
+        progress = step(rt, progress, text[k], map, kept, field)?;
         k += 1;
     }
-    progress.summed();
+    progress.summed(rt)
 }
 
 // One byte more: a line's last byte runs its row.
 fn step(
+    rt: &impl Print,
     progress: Progress,
     byte: u8,
     map: &mut [u8],
     kept: &mut [u8],
     field: &mut [u8],
-) -> Progress {
+) -> io::Result<Progress> {
     if byte != b'\n' {
-        return progress.fed(byte);
+        return Ok(progress.fed(byte));
     }
     let row = progress.closed();
     let lent = tell::lent(row, progress.lent, map.len());
     let answer = hand::called(row, &mut map[0..lent], kept, field);
-    progress.judged(row, answer, lent)
+    progress.judged(rt, row, answer, lent)
 }

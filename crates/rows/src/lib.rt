@@ -6,6 +6,7 @@
 // A row is a line: a name, up to 15 numbers, and behind `=` up to 8 numbers that are to come. A number is decimal, or hexadecimal behind
 // 0x; bytes are numbers in a row. A digest is FNV-1a of 32 bits.
 //
+// text     all of the rows, read into a buffer
 // read     a row, byte by byte
 // bytes    what a row does to bytes, and their digest
 // tell     a row's answer against what it awaits, what is printed, and how many rows there were
@@ -14,6 +15,7 @@
 pub mod bytes;
 pub mod read;
 pub mod tell;
+pub mod text;
 
 // A line after some of its bytes: its number in the text, what its last byte stands in, the word that is open, the digest of its name,
 // or 0 where none came yet; how many arguments it has, known from `=` on, and where its next number goes. Arguments stand from 0 on,

@@ -3,7 +3,7 @@ ghost use Rattle.std.specs.Prelude.{◌≡◌, ◌≤◌, true};
 ghost use Rattle.rows.specs.Passed.{Same};
 
 use crate::{Answer, Row, bytes, read};
-use libc::STDOUT_FILENO;
+use std::io;
 
 // How far a program has come: the line that it reads, how many rows were run and passed, and how many bytes of its state, or map, are
 // lent.
@@ -48,36 +48,42 @@ impl Progress {
 
     // The next line, behind a row and its answer. An empty line, or one of a comment, is no row. The counts cannot wrap: they are no
     // more than the bytes read.
-    pub fn judged(mut self, row: Row, answer: Answer, lent: usize) -> Self {
+    pub fn judged(
+        mut self,
+        rt: &impl Print,
+        row: Row,
+        answer: Answer,
+        lent: usize,
+    ) -> io::Result<Self> {
         self.lent = lent;
         let next = Row::new(std::num::wrapping_add_u64(row.line, 1));
         self.row = next;
         if (row.name == 0) & (row.within != Row::BAD) {
-            return self;
+            return Ok(self);
         }
         self.run = std::num::wrapping_add_u64(self.run, 1);
         if agrees(row, answer) {
             self.passed = std::num::wrapping_add_u64(self.passed, 1);
         } else {
-            told(row, answer);
+            told(rt, row, answer)?;
         }
-        self
+        Ok(self)
     }
 
     // The last line.
-    pub fn summed(self) {
-        io::print_decimal(STDOUT_FILENO, self.run);
-        io::write_all(STDOUT_FILENO, b" rows, ");
-        io::print_decimal(STDOUT_FILENO, self.passed);
-        io::write_all(STDOUT_FILENO, b" passed\n");
+    pub fn summed(self, rt: &impl Print) -> io::Result<()> {
+        let run = self.run;
+        let passed = self.passed;
+        println!(rt; "{run} rows, {passed} passed")
     }
 }
 
 // A text that fills the room for it may have been cut off: that is said.
-pub fn fits(len: usize, room: usize) {
+pub fn fits(rt: &impl Print, len: usize, room: usize) -> io::Result<()> {
     if room <= len {
-        io::write_all(STDOUT_FILENO, b"the rows are too long\n");
+        println!(rt; "the rows are too long")?;
     }
+    Ok(())
 }
 
 // How many bytes are lent to a row, of as many as there are: as many as before, but for `lend LENGTH = LENT`.
@@ -147,34 +153,33 @@ fn readable(row: Row, answer: Answer) -> bool {
 }
 
 // A row that fails: its line, what came and what was awaited.
-fn told(row: Row, answer: Answer) {
-    io::write_all(STDOUT_FILENO, b"line ");
-    io::print_decimal(STDOUT_FILENO, row.line);
+fn told(rt: &impl Print, row: Row, answer: Answer) -> io::Result<()> {
+    let line = row.line;
+    print!(rt; "line {line}")?;
     if !readable(row, answer) {
-        io::write_all(STDOUT_FILENO, b", no such row");
+        print!(rt; ", no such row")?;
     }
     let values = answer.values;
     let wants = row.values;
-    numbers(b": came", &values, 0);
-    numbers(b"  awaited", &wants, Row::WANTED);
+    numbers(rt, ": came", &values, 0)?;
+    numbers(rt, "  awaited", &wants, Row::WANTED)
 }
 
-fn numbers(label: &[u8], values: &[u64], from: usize) {
-    io::write_all(STDOUT_FILENO, label);
+fn numbers(rt: &impl Print, label: &str, values: &[u64], from: usize) -> io::Result<()> {
+    print!(rt; "{label}")?;
     let mut k = from;
     while k < values.len() {
-        number(values[k]);
+        number(rt, values[k])?;
         k += 1;
     }
-    io::write_all(STDOUT_FILENO, b"\n");
+    println!(rt)
 }
 
 // Large numbers are digests, or structures.
-fn number(n: u64) {
-    io::write_all(STDOUT_FILENO, b" ");
+fn number(rt: &impl Print, n: u64) -> io::Result<()> {
     if n < 65536 {
-        io::print_decimal(STDOUT_FILENO, n);
+        print!(rt; " {n}")
     } else {
-        io::print_hex(STDOUT_FILENO, n, 8);
+        print!(rt; " {n:08x}")
     }
 }
