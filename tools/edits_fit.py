@@ -3,7 +3,7 @@
 
     python3 tools/edits_fit.py        at the top; ends with 1 where an edit does not fit
 
-It reads an edit as `rt must-fail` does, and looks at the edits below must-fail/more/ too, which the gate does not try.
+It reads an edit as `rt must-fail` does, and looks at the edits in must-fail-more/ too, which the gate does not try.
 """
 import glob
 import os
@@ -12,7 +12,7 @@ import sys
 
 def misfit(edit):
     """Why the edit cannot be applied, or nothing."""
-    crate = edit[: edit.index("/must-fail/")]
+    crate = os.path.dirname(os.path.dirname(edit))
     path, old, pairs, texts, was = "", None, 0, {}, {}
     for line in open(edit, encoding="utf-8").read().split("\n"):
         if line.startswith("file: "):
@@ -41,7 +41,7 @@ def misfit(edit):
 
 
 def main():
-    edits = sorted(glob.glob("crates/*/must-fail/**/*.edit", recursive=True))
+    edits = sorted(glob.glob("crates/*/must-fail*/*.edit"))
     found = [(edit, misfit(edit)) for edit in edits]
     for edit, why in found:
         if why:
