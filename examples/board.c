@@ -2,7 +2,7 @@
  * A small board: it follows an address, takes in packets, ends subframes, and shows the platform list only while the adapter
  * has reason to call it fresh. Here the packets are made by the library's own writer; one of them is damaged on the way.
  *
- *   cc -Iinclude examples/board.c target/staticlib/libfeed.a -o board && ./board
+ *   cc -Iinclude examples/board.c crates/feed/out/libfeed.a -o board && ./board
  */
 #include <stdio.h>
 #include <string.h>

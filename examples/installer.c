@@ -2,7 +2,7 @@
  * An installer at a silent board: packets come, and the board shows nothing new. Which packets were they? A control packet, after which
  * nothing is lost; one of type C7; one out of step; one with a protected word that cannot be read.
  *
- *   cc -Iinclude examples/installer.c target/staticlib/libfeed.a -o installer && ./installer
+ *   cc -Iinclude examples/installer.c crates/feed/out/libfeed.a -o installer && ./installer
  */
 #include <stdio.h>
 #include <string.h>

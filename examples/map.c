@@ -2,7 +2,7 @@
  * A teletext component moves and goes, and a sound component comes: each is seen before it happens. Then a frame is missed, and the map
  * says what it does not know any more.
  *
- *   cc -Iinclude examples/map.c target/staticlib/libfeedmap.a -o map && ./map
+ *   cc -Iinclude examples/map.c crates/feedmap/out/libfeedmap.a -o map && ./map
  */
 #include <inttypes.h>
 #include <stdio.h>
