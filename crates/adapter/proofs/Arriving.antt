@@ -5,28 +5,28 @@
 --   AtPlace                      an answer with the state after it, past those rows
 --   image-refused, image-placed       the answer with the bytes after, by the answer of those rows
 --   place-49                     49 by the code's test
---   place-27, place-lt           27 by the code's test; where that fails, there is a slot of the address
+--   no-address, no-slot, some-slot    the code's tests of an address and of what was found of it
+--   place-27                     27 by them
 --   slot-served                  the answer with the state after, by what the lent slot answered
 --   reading-typed, reading-protected, reading-plain     the reading by the packet's type and the slot's protection
 --   taken_as                     an answer with the slot after it, by another name of the reading
 --
 -- Assumes nothing.
-use mathlib.Core.Path.{◌≡◌, refl, sym, ap, ap₂, ◌∙◌, subst}
+use mathlib.Core.Path.{◌≡◌, refl, sym, ap, ap₂, ◌∙◌}
 use mathlib.Core.Bool.{Bool, true, false, not, ◌&&◌, ◌||◌}
 use mathlib.Core.List.{List, [], ◌∷◌, ◌++◌}
 use Prim.Native.Nat.{ℕ, zero, suc, ◌*◌, ◌≤◌, ◌<◌}
 use native.Mathlib.Omega.{arith}
 use native.Mathlib.Decide.{dec_lt}
-use borrow.Author.Tests.{ltb-true, lt-ltb, le-ltb, eq-eqb, ne_eqb, eqb-true, not-false}
+use borrow.Author.Tests.{lt-ltb, le-ltb, eq-eqb, ne_eqb, eqb-true, not-false}
 use lib.Dec.{ltb, eqb}
 use lib.ListN.{length, take, drop}
 use Rattle.bits.specs.Rows.{Row, row, refusal, further, done}
 use Rattle.bits.proofs.Rows.{refusal-hit, refusal-miss, refusal-passed, refusal-none, further-refused, further-passed, done_refused, done-passed}
-use Rattle.bits.proofs.Search.{and_right}
 use Rattle.image.specs.Image.{spare_of}
 use Rattle.words.specs.Protected.{data_read}
 use Rattle.packet.specs.Received.{useful_of, received, refused_as, readable_as, data_as}
-use Rattle.packet.specs.declared.Reading.{Reading}
+use Rattle.packet.specs.Received.{ReadingAnswer}
 use Rattle.packet.proofs.Answers.{index_of, type_number, IsData, answer-type, answer-plain, answer-protected}
 use Rattle.slot.specs.Slot.{slot_size, head_of}
 use Rattle.head.specs.declared.Head.{Head}
@@ -155,6 +155,16 @@ module _ (s image : List ℕ) (m f : ℕ) (em : m ≡ setting s) (ef : f ≡ fli
   pub within-few : f ≤ m → beyond s image ≡ false
   within-few t = more ∙ le-ltb m f t
 
+-- the tests of an address and of what was found of it
+pub no-address : (a k : ℕ) → a ≡ 0 → (eqb a 0 || eqb k slots) ≡ true
+no-address a k z = ap (λ (x : Bool). x || eqb k slots) (eq-eqb a 0 z)
+
+pub no-slot : (a : ℕ) → (a ≡ 0 → ⊥) → (eqb a 0 || eqb slots slots) ≡ true
+no-slot a n = ap (λ (x : Bool). x || true) (ne_eqb a 0 n)
+
+pub some-slot : (a k : ℕ) → (a ≡ 0 → ⊥) → k < slots → (eqb a 0 || eqb k slots) ≡ false
+some-slot a k n h = ap₂ (λ (x y : Bool). x || y) (ne_eqb a 0 n) (ne_eqb k slots (λ q. omega (arith, q, h)))
+
 module _ (s image : List ℕ) (few : beyond s image ≡ false) (a k : ℕ) (ea : a ≡ address_of image) (ek : k ≡ find s a) where
   test : (eqb a 0 || eqb k slots) ≡ not (followed s (address_of image))
   test = ap (λ (x : ℕ). eqb a 0 || eqb x slots) ek ∙ no_place s a ∙ ap (λ (x : ℕ). not (followed s x)) ea
@@ -163,13 +173,6 @@ module _ (s image : List ℕ) (few : beyond s image ≡ false) (a k : ℕ) (ea :
   place-27 t x =
       at-refused s image 26 x
       (refusal-miss (beyond s image) 49 _ few ∙ refusal-hit (not (followed s (address_of image))) 27 [] (sym test ∙ t))
-
-  pub place-lt : (eqb a 0 || eqb k slots) ≡ false → k < slots
-  unfolding followed
-  place-lt t =
-      subst (λ (x : ℕ). x < slots) (sym (ek ∙ ap (find s) ea))
-      (ltb-true (find s (address_of image)) slots
-      (and_right (ltb 0 (address_of image)) _ (not-false (followed s (address_of image)) (sym test ∙ t))))
 
   place_found : (eqb a 0 || eqb k slots) ≡ false → refusal (place_rows s image) ≡ 0
   place_found t =
@@ -194,7 +197,7 @@ module _ (s image : List ℕ) (few : beyond s image ≡ false) (a k : ℕ) (ea :
 -- ---- the reading, by the packet's type and the slot's protection
 
 module _ (h : Head) (x image : List ℕ) (e : h ≡ head_of x) where
-  reading-at : (r : Reading) → r ≡ received (eqb h.wish.protection 1) image → r ≡ reading_at x image
+  reading-at : (r : ReadingAnswer) → r ≡ received (eqb h.wish.protection 1) image → r ≡ reading_at x image
   unfolding reading_at
   reading-at r q = q ∙ ap (λ (y : Head). received (eqb y.wish.protection 1) image) e
 
@@ -214,6 +217,6 @@ module _ (h : Head) (x image : List ℕ) (e : h ≡ head_of x) where
         (ap₂ readable_as ei eu ∙ sym (answer-plain image d) ∙ ap (λ (b : Bool). received b image) (sym (ne_eqb h.wish.protection 1 p)))
 
 -- an answer with the slot after it, by another name of the reading and of the head
-pub taken_as : (r q : Reading) (h g : Head) (s : List ℕ) (y : Answer) (t : List ℕ) → r ≡ q → h ≡ g
+pub taken_as : (r q : ReadingAnswer) (h g : Head) (s : List ℕ) (y : Answer) (t : List ℕ) → r ≡ q → h ≡ g
     → (y ≡ taken r h) × (t ≡ taken_after r s) → (y ≡ taken q g) × (t ≡ taken_after q s)
-taken_as r q h g s y t er eh e = (e.0 ∙ ap₂ taken er eh, e.1 ∙ ap (λ (z : Reading). taken_after z s) er)
+taken_as r q h g s y t er eh e = (e.0 ∙ ap₂ taken er eh, e.1 ∙ ap (λ (z : ReadingAnswer). taken_after z s) er)

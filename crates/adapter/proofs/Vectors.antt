@@ -29,8 +29,8 @@ use Rattle.golay.specs.Code.{less, line, divide, remainder, word23, word24, near
 use Rattle.golay.proofs.Reading.{nearest24-is}
 use Rattle.golay.proofs.Vectors as golay
 use Rattle.bare.specs.Bare.{header_read, type_near}
-use Rattle.bare.specs.declared.Header.{Header}
-use Rattle.bare.specs.declared.Word.{Word}
+use Rattle.bare.specs.Bare.{HeaderAnswer}
+use Rattle.bare.specs.Bare.{WordAnswer}
 use Rattle.bare.proofs.Theorems.{word-unreadable}
 use Rattle.bare.proofs.Bare.{within-three}
 use Rattle.bare.proofs.Vectors.{header-17, within-each, zero-far}
@@ -40,7 +40,7 @@ use Rattle.words.specs.Protected.{words_of, informations, failed, words_read, da
 use Rattle.words.proofs.Vectors as words
 use Rattle.packet.specs.Received.{type_of, useful_of, received_number, received, refused_as, readable_as, written}
 use Rattle.packet.specs.Damage.{sent_image}
-use Rattle.packet.specs.declared.Reading.{Reading}
+use Rattle.packet.specs.Received.{ReadingAnswer}
 use Rattle.packet.proofs.Answers.{index_of, answer-protected, is_data, data-short}
 use Rattle.packet.proofs.Damages.{received-sent}
 use Rattle.packet.proofs.Vectors.{shielded, shielded-sent}
@@ -120,12 +120,12 @@ spoiled-34 = refusal-miss (not (eqb (length marked) 94)) 20 _ refl ∙ state-34 
 -- read as 17
 address-17 : (image : List ℕ) → header_of image ≡ 0x75F011 → calls.address_of image ≡ 17
 unfolding calls.address_of
-address-17 image e = ap (λ (n : ℕ). (header_read n).address) e ∙ ap (λ (h : Header). h.address) header-17
+address-17 image e = ap (λ (n : ℕ). (header_read n).address) e ∙ ap (λ (h : HeaderAnswer). h.address) header-17
 
 -- and with no flip
 flips-17 : (image : List ℕ) → header_of image ≡ 0x75F011 → calls.flips_of image ≡ 0
 unfolding calls.flips_of
-flips-17 image e = ap (λ (n : ℕ). (header_read n).flips) e ∙ ap (λ (h : Header). h.flips) header-17
+flips-17 image e = ap (λ (n : ℕ). (header_read n).flips) e ∙ ap (λ (h : HeaderAnswer). h.flips) header-17
 
 -- which is within every setting
 clean-within : (s image : List ℕ) → header_of image ≡ 0x75F011 → calls.beyond s image ≡ false
@@ -158,20 +158,20 @@ packets = λ i.
 abbrev pub turned : List ℕ
 turned = 0x10 ∷ drop 1 image.plain
 
-abbrev one-flip : Header
+abbrev one-flip : HeaderAnswer
 one-flip = record { number = 0; address = 17; index = 0; flips = 1 }
 
 turned-read : header_read (header_of turned) ≡ one-flip
 unfolding header_of number sent bits_of
-turned-read = sym (within-three 0x75F010) ∙ ap (λ (hs : List Header). get_or hs 2 one-flip) within-each.1
+turned-read = sym (within-three 0x75F010) ∙ ap (λ (hs : List HeaderAnswer). get_or hs 2 one-flip) within-each.1
 
 pub turned-flips : calls.flips_of turned ≡ 1
 unfolding calls.flips_of
-turned-flips = ap (λ (h : Header). h.flips) turned-read
+turned-flips = ap (λ (h : HeaderAnswer). h.flips) turned-read
 
 pub turned-address : calls.address_of turned ≡ 17
 unfolding calls.address_of
-turned-address = ap (λ (h : Header). h.address) turned-read
+turned-address = ap (λ (h : HeaderAnswer). h.address) turned-read
 
 pub turned-spare : spare_of turned ≡ 0
 unfolding spare_of number sent bits_of
@@ -273,7 +273,7 @@ shielded-read = ap (received true) (sym shielded-sent) ∙ received-sent true 17
 
 pub starts : calls.packet_answer followed shielded ≡ 1
 unfolding taken_number further per_of needs_of row_of move_of move_number header_of spare_of number sent bits_of
-starts = arrived shielded refl refl refl ∙ ap (λ (r : Reading). taken_number r (new_head (wish_of 17 1 2))) shielded-read
+starts = arrived shielded refl refl refl ∙ ap (λ (r : ReadingAnswer). taken_number r (new_head (wish_of 17 1 2))) shielded-read
 
 -- ---- 31: the first two words are that of 0, and the third is it with four flips
 
@@ -282,7 +282,7 @@ unfolding flips ones ones_in
 near = nearest24-is 0x800000 0 (lit< tt) (subst (λ (ws : List ℕ). flips (get_or ws 0 0) 0x800000 ≤ 3) (sym golay.words) (lit≤ tt))
 
 far : nearest word24 0x80000F ≡ 4096
-far = word-unreadable 0x80000F (lit< tt) (λ e. omega (arith, e, ap (λ (w : Word). w.number) zero-far))
+far = word-unreadable 0x80000F (lit< tt) (λ e. omega (arith, e, ap (λ (w : WordAnswer). w.number) zero-far))
 
 abbrev third : List ℕ
 third = written 17 0 0x00 (0x00 ∷ 0x00 ∷ 0x80 ∷ 0x00 ∷ 0x00 ∷ 0x80 ∷ 0x0F ∷ 0x00 ∷ 0x80 ∷ blank 81)
@@ -302,7 +302,7 @@ third-read =
 
 pub word-told : calls.packet_answered followed third ≡ answer 31 2 0
 unfolding taken_number further header_of spare_of written image_of numbers_in number bits_of sent blank word23 remainder divide line less
-word-told = arrived-told third refl refl refl ∙ ap (λ (r : Reading). group.taken r (new_head (wish_of 17 1 2))) third-read
+word-told = arrived-told third refl refl refl ∙ ap (λ (r : ReadingAnswer). group.taken r (new_head (wish_of 17 1 2))) third-read
 
 -- ---- 32: at any slot that awaits 2, protected, the packet with index 3
 
@@ -322,5 +322,5 @@ module _ (s : List ℕ) (placed : Placed s late) where
   unfolding taken_number further per_of needs_of row_of move_of move_number
   out-told p w =
       answered-passed (calls.unplaced s late) (calls.slot_answered s late) (placed-zero s late placed)
-      ∙ ap₂ (λ (r : Reading) (a : ℕ). answer_of (further r.number (move_number (move_of 4 4 a r.index))) r.place a r.index)
+      ∙ ap₂ (λ (r : ReadingAnswer) (a : ℕ). answer_of (further r.number (move_number (move_of 4 4 a r.index))) r.place a r.index)
       (late-read p) w

@@ -7,15 +7,17 @@
 --   data-45, data-90             how many bytes a packet carries; data-le: at most 90
 --   fourth-ends, fourth-length   a fourth of the message that is lent: where it ends, and its length
 --   one-put                      the image of such a fourth, written into its place
+--   put_to                       the output with so many images put into it; put-more: one more
 --   images-put                   the four images, put one after the other
 --
 -- Assumes nothing.
-use mathlib.Core.Path.{◌≡◌, sym, ap, ap₂, ◌∙◌, subst}
+use mathlib.Core.Path.{◌≡◌, refl, sym, ap, ap₂, ◌∙◌, subst}
 use mathlib.Core.Bool.{Bool, true, false, not, ◌||◌}
 use mathlib.Core.List.{List, [], ◌∷◌, ◌++◌, append-nil, append_assoc}
-use Prim.Native.Nat.{ℕ, ◌+◌, ◌-◌, ◌*◌, ◌≤◌, ◌<◌}
+use Prim.Native.Nat.{ℕ, zero, suc, ◌+◌, ◌-◌, ◌*◌, ◌≤◌, ◌<◌}
 use native.Mathlib.Omega.{arith}
 use native.Mathlib.Nat.{mul-le-mul_right}
+use native.Mathlib.Numerals.{add-one}
 use borrow.Author.Tests.{lt-ltb, le-ltb, leb-true, eq-eqb, ne_eqb, eqb-true, not-false}
 use lib.Dec.{leb, ltb, eqb}
 use lib.ListN.{length, take, drop, length-append}
@@ -171,6 +173,15 @@ four-put a b c d o s t u v la lb lc lo es et eu ev =
     four ∙ ap (λ (x : List ℕ). (((a ++ b) ++ c) ++ d) ++ x) none ∙ append-nil (((a ++ b) ++ c) ++ d)
     ∙ append_assoc (a ++ b) c d ∙ append_assoc a b (c ++ d)
 
+module _ (p : Bool) (a : ℕ) (m o : List ℕ) where
+  unfoldable pub put_to : ℕ → List ℕ
+  put_to zero = o
+  put_to (suc k) = put (k * 94) 94 (packet_of p a m k) (put_to k)
+
+  pub put-more : (k : ℕ) (t u : List ℕ) → t ≡ put_to k → u ≡ put (k * 94) 94 (packet_of p a m k) t → u ≡ put_to (k + 1)
+  unfolding put_to
+  put-more k t u e f = f ∙ ap (put (k * 94) 94 (packet_of p a m k)) e ∙ ap put_to (sym (add-one k))
+
 module _ (p : Bool) (a : ℕ) (m : List ℕ) where
   pub packet-length : (i : ℕ) → length (packet_of p a m i) ≡ 94
   unfolding packet_of
@@ -182,3 +193,7 @@ module _ (p : Bool) (a : ℕ) (m : List ℕ) where
   images-put o s t u v l =
       four-put (packet_of p a m 0) (packet_of p a m 1) (packet_of p a m 2) (packet_of p a m 3) o s t u v
       (packet-length 0) (packet-length 1) (packet-length 2) l
+
+  pub put-all : (o t : List ℕ) → length o ≡ 376 → (k : ℕ) → k ≡ 4 → t ≡ put_to p a m o k → t ≡ group_images p a m
+  unfolding put_to
+  put-all o t l k e f = images-put o _ _ _ t l refl refl refl (f ∙ ap (put_to p a m o) e)

@@ -20,7 +20,7 @@ use Rattle.bare.specs.Bare.{header_read}
 use Rattle.image.specs.Image.{header_of, spare_of}
 use Rattle.packet.specs.Received.{received}
 use Rattle.packet.specs.Damage.{data_size, sent_image}
-use Rattle.packet.specs.declared.Reading.{Reading}
+use Rattle.packet.specs.Received.{ReadingAnswer}
 use Rattle.runs.specs.Part.{part}
 use Rattle.slot.specs.Slot.{head_of}
 use Rattle.head.specs.Head.{within}
@@ -54,7 +54,7 @@ place_rows s image = row (beyond s image) 49 ∷ row (not (followed s (address_o
 unfoldable pub unplaced : List ℕ → List ℕ → ℕ
 unplaced s image = refusal (image_rows s image (place_rows s image))
 
-unfoldable pub reading_at : List ℕ → List ℕ → Reading
+unfoldable pub reading_at : List ℕ → List ℕ → ReadingAnswer
 reading_at x image = received (eqb (head_of x).wish.protection 1) image
 
 -- what the slot of the address answers, and the state with it after

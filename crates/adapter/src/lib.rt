@@ -3,9 +3,11 @@
 // write    the four images of a group
 #![tactic(auto)]
 
-ghost use Rattle.std.specs.Prelude.{◌≡◌, [], length};
+ghost use Rattle.std.specs.Prelude.{◌≡◌, [], length, Ok};
 ghost use Rattle.bits.specs.Rows.{refusal, done};
 ghost use Rattle.bare.specs.Bare.{header_read};
+ghost use Rattle.bare.specs.Told.{told_header};
+ghost use Rattle.faults.specs.Refusals.{number_of, told};
 ghost use Rattle.image.specs.Image.{header_of};
 ghost use Rattle.words.specs.Protected.{data_read};
 ghost use Rattle.packet.specs.Received.{data_as};
@@ -15,13 +17,12 @@ ghost use Rattle.group.specs.Group.{taken, taken_after};
 ghost use Rattle.adapter.specs.Calls.{reading_at, slot_answered, slot_after, refused_answer, answered_by, packet_answered, packet_answer, packet_after, image_rows, place_rows};
 
 use bare::Header;
-use faults::Faults;
+use faults::Refusal;
 use group::Answer;
 use head::Head;
 use image::Packet;
 use slot::Slot;
-use table::{Table, look};
-use words::Data;
+use table::look;
 
 pub mod write;
 
@@ -38,34 +39,33 @@ pub fn answered(state: &mut [u8], image: &[u8]) -> Answer
     ensures value { result ≡ packet_answered state.old image.now }
     ensures state_after { state.new ≡ packet_after state.old image.now }
 {
-    let number = checked(state, image);
-    if number != 0 {
-        return refused(number);
+    if let Err(refusal) = checked(state, image) {
+        return refused(refusal);
     }
     let header = bare::near_header(image::header(image));
     arrived(state, header, image)
 }
 
 // The rows that need no slot: 20, 34, 21.
-fn checked(state: &[u8], image: &[u8]) -> u8
-    ensures { result ≡ refusal (image_rows state.now image.now []) }
+fn checked(state: &[u8], image: &[u8]) -> Result<(), Refusal>
+    ensures { told result ≡ refusal (image_rows state.now image.now []) }
 {
     if image.len() != Packet::IMAGE {
-        return 20;
+        return Err(Refusal::Length);
     }
-    let refused = look::checked(state);
-    if refused != 0 {
-        return refused;
+    look::checked(state)?;
+    if image::spare(image) == 1 {
+        return Err(Refusal::SpareBit);
     }
-    if image::spare(image) == 1 { 21 } else { 0 }
+    Ok(())
 }
 
 // A call that is refused before its slot is found: nothing is told of the packet.
-fn refused(number: u8) -> Answer
-    ensures { result ≡ refused_answer number }
+fn refused(refusal: Refusal) -> Answer
+    ensures { result ≡ refused_answer (number_of refusal) }
 {
     Answer {
-        number,
+        number: refusal.into(),
         detail: 0,
         came: 0,
     }
@@ -74,20 +74,22 @@ fn refused(number: u8) -> Answer
 // 49, 27, or what the slot of the address answers.
 fn arrived(state: &mut [u8], header: Header, image: &[u8]) -> Answer
     requires state_len { length state.old ≡ state_size }
-    requires header_value { header ≡ header_read (header_of image.now) }
+    requires header_value { told_header (Ok header) ≡ header_read (header_of image.now) }
     requires image_len { length image.now ≡ 94 }
     ensures value { result ≡ answered_by (refusal (place_rows state.old image.now)) (slot_answered state.old image.now) }
     ensures state_after { state.new
         ≡ done (refusal (place_rows state.old image.now)) (slot_after state.old image.now) state.old }
 {
     if look::setting(state) < header.flips {
-        return refused(49);
+        return refused(Refusal::BeyondSetting);
     }
     let address = header.address as u32;
-    let k = look::find(state, address);
-    if (address == 0) | (k == Table::SLOTS) {
-        return refused(27);
+    if address == 0 {
+        return refused(Refusal::NotFollowed);
     }
+    let Some(k) = look::find(state, address) else {
+        return refused(Refusal::NotFollowed);
+    };
     let at = k * Slot::SIZE;
     served(&mut state[at..at + Slot::SIZE], header, image)
 }
@@ -95,15 +97,14 @@ fn arrived(state: &mut [u8], header: Header, image: &[u8]) -> Answer
 // What the slot of its address answers to an image, by its type, and then by the slot's protection.
 fn served(slot: &mut [u8], header: Header, image: &[u8]) -> Answer
     requires slot_len { length slot.old ≡ slot_size }
-    requires header_value { header ≡ header_read (header_of image.now) }
+    requires header_value { told_header (Ok header) ≡ header_read (header_of image.now) }
     requires image_len { length image.now ≡ 94 }
     ensures value { result ≡ taken (reading_at slot.old image.now) (head_of slot.old) }
     ensures slot_after { slot.new ≡ taken_after (reading_at slot.old image.now) slot.old }
 {
     let head = Slot::load(slot);
-    let number = packet::type_refusal(image);
-    if number != 0 {
-        return group::refused(slot, head, number, 0);
+    if let Err(refusal) = packet::type_refusal(image) {
+        return group::refused(slot, head, refusal.into(), 0);
     }
     let useful = image::useful(image);
     if head.wish.protection == 1 {
@@ -122,11 +123,11 @@ fn protected(slot: &mut [u8], head: Head, index: u8, useful: &[u8]) -> Answer
     ensures value { result ≡ taken (data_as index (data_read useful.now)) head }
     ensures slot_after { slot.new ≡ taken_after (data_as index (data_read useful.now)) slot.old }
 {
-    let data = words::unprotect(useful);
-    let place = data.place;
-    if place < Data::ALL {
-        return group::refused(slot, head, Faults::WORD_UNREADABLE, place);
+    match words::unprotect(useful) {
+        Ok(data) => {
+            let bytes = data.bytes;
+            group::taken(slot, head, index, &bytes)
+        }
+        Err(word) => group::refused(slot, head, Refusal::WordUnreadable.into(), word.place),
     }
-    let bytes = data.bytes;
-    group::taken(slot, head, index, &bytes)
 }

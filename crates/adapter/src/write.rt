@@ -1,37 +1,41 @@
 // The four images of a group.
 ghost use Rattle.std.specs.Prelude.{◌≡◌, ◌*◌, ◌<◌, length};
+ghost use Rattle.faults.specs.Refusals.{told};
 ghost use Rattle.runs.specs.Part.{put};
 ghost use Rattle.packet.specs.Damage.{data_size, sent_image};
 ghost use Rattle.adapter.specs.Calls.{packet_of, group_images, write_answer, write_after};
 
-use bare::TypeByte;
+use bare::Kind;
+use faults::Refusal;
 use group::Group;
 use head::Wish;
 use image::Packet;
 use slot::Slot;
 
 // 22, 23, 20: the message is not 360 bytes plain or 180 protected, or the output is not 376.
-pub fn group(address: u32, protection: u32, message: &[u8], output: &mut [u8]) -> u8
-    ensures value { result ≡ write_answer address protection (length message.now) (length output.old) }
+pub fn group(
+    address: u32,
+    protection: u32,
+    message: &[u8],
+    output: &mut [u8],
+) -> Result<(), Refusal>
+    ensures value { told result ≡ write_answer address protection (length message.now) (length output.old) }
     ensures output_after { output.new ≡ write_after address protection message.now output.old }
 {
-    let refused = answer(address, protection, message.len(), output.len());
-    if refused != 0 {
-        return refused;
-    }
+    answer(address, protection, message.len(), output.len())?;
     images(address, protection == 1, message, output);
-    0
+    Ok(())
 }
 
 // By the lengths of the message and of the output.
-fn answer(address: u32, protection: u32, message: usize, output: usize) -> u8
-    ensures { result ≡ write_answer address protection message output }
+fn answer(address: u32, protection: u32, message: usize, output: usize) -> Result<(), Refusal>
+    ensures { told result ≡ write_answer address protection message output }
 {
     if (address < 1) | (Wish::LAST_ADDRESS < address) {
-        return 22;
+        return Err(Refusal::Address);
     }
     if 1 < protection {
-        return 23;
+        return Err(Refusal::Protection);
     }
     let right = if protection == 1 {
         Slot::PROTECTED
@@ -39,9 +43,13 @@ fn answer(address: u32, protection: u32, message: usize, output: usize) -> u8
         Slot::ROOM
     };
     if message != right {
-        return 20;
+        return Err(Refusal::Length);
     }
-    if output != Group::IMAGES { 20 } else { 0 }
+    if output != Group::IMAGES {
+        Err(Refusal::Length)
+    } else {
+        Ok(())
+    }
 }
 
 // All four.
@@ -51,10 +59,9 @@ fn images(address: u32, protected: bool, message: &[u8], output: &mut [u8])
     requires output_len { length output.old ≡ 376 }
     ensures { output.new ≡ group_images protected address message.now }
 {
-    one(address, protected, message, 0, output);
-    one(address, protected, message, 1, output);
-    one(address, protected, message, 2, output);
-    one(address, protected, message, 3, output);
+    for index in 0..Group::PACKETS as u32 {
+        one(address, protected, message, index, output);
+    }
 }
 
 // The image of one packet, at its place.
@@ -91,8 +98,8 @@ fn sent(address: u32, index: u32, protected: bool, bytes: &[u8], out: &mut [u8])
 {
     if protected {
         let coded = words::protect(bytes);
-        packet::write(address, index, TypeByte::DATA, &coded, out);
+        packet::write(address, index, Kind::Data.into(), &coded, out);
     } else {
-        packet::write(address, index, TypeByte::DATA, bytes, out);
+        packet::write(address, index, Kind::Data.into(), bytes, out);
     }
 }

@@ -1,9 +1,8 @@
 -- Laws of the text.
 --
---   lowest k n           the k lowest digits of a number
---   decimal-lowest       a number's digits are its lowest ones, as many as they are
---   more, digits_more    how many digits there are besides the last; decimal-most: twenty at most
---   Spelt, spelt-none, spelt-more, spelt-all     digits stored in a buffer, from the last one on
+--   decimal-most         a number has twenty digits at most
+--   decimal-same         they are what the library prints for it
+--   digits-put           they are copied into a buffer
 --   line-put             a line stored in a buffer, piece by piece
 --   line-most            a line has 42 bytes at most
 --   lines-append, lines_more     lines for answers and for further ones; for one more answer
@@ -12,25 +11,25 @@
 --
 -- Assumes nothing.
 use mathlib.Core.Path.{◌≡◌, refl, sym, ap, ◌∙◌}
-use mathlib.Core.Bool.{Bool, true, false, cond}
+use mathlib.Core.Bool.{Bool, cond}
 use mathlib.Core.List.{List, [], ◌∷◌, ◌++◌, append-nil, append_assoc}
-use Prim.Native.Nat.{ℕ, zero, suc, ◌+◌, ◌-◌, ◌*◌, ◌/◌, ◌%◌, ◌≤◌, ◌<◌}
+use Prim.Native.Nat.{ℕ, zero, suc, ◌+◌, ◌-◌, ◌*◌, ◌/◌, ◌%◌, ◌^◌, ◌≤◌, ◌<◌}
 use native.Mathlib.Omega.{arith}
 use native.Mathlib.Nat.{add-zero}
 use native.Mathlib.Decide.{dec_le}
 use native.Mathlib.Numerals.{add-one}
-use borrow.Author.Tests.{lt-ltb, le-ltb, eq-eqb, ne_eqb}
-use lib.Dec.{eqb}
-use lib.ListN.{length, take, get_or, set, length-append}
-use lib.Seq.{take-suc, length-take-le, append_snoc, sets}
+use borrow.Author.Tests.{lt-ltb, le-ltb}
+use lib.ListN.{length, take, drop, get_or, set, length-append}
+use lib.Seq.{take-suc, length-take-le, sets, sets-eq}
+use borrow.Rule.Slice.PartMut.{put_mid}
+use Rattle.std.specs.Fmt as fmt
+use Rattle.std.proofs.lemmas.Fmt.{decimal_from_appends, length-decimal-le}
+use Rattle.std.proofs.lemmas.List.Edits.{paste_all}
+use Rattle.std.proofs.lemmas.Slice.{put_mid-paste}
 use Rattle.answers.specs.Text.{digits, decimal, line, lines}
-use Rattle.answers.proofs.Stores.{sets-append, set_before}
+use Rattle.answers.proofs.Stores.{sets-append}
 
 -- ---- digits
-
-unfoldable pub lowest : ℕ → ℕ → List ℕ
-lowest zero n = []
-lowest (suc k) n = lowest k (n / 10) ++ ((48 + n % 10) ∷ [])
 
 abbrev split : ℕ → ℕ → Bool → List ℕ
 split f n few = cond few ((48 + n) ∷ []) (digits f (n / 10) ++ ((48 + n % 10) ∷ []))
@@ -42,79 +41,6 @@ digits-one f n h = ap (split f n) (lt-ltb n 10 h)
 digits-many : (f n : ℕ) → 10 ≤ n → digits (suc f) n ≡ digits f (n / 10) ++ ((48 + n % 10) ∷ [])
 unfolding digits
 digits-many f n h = ap (split f n) (le-ltb n 10 h)
-
-lowest-as : (n : ℕ) (xs ys : List ℕ) → xs ≡ ys → ys ≡ lowest (length ys) n → xs ≡ lowest (length xs) n
-lowest-as n xs ys e q = e ∙ q ∙ ap (λ (x : List ℕ). lowest (length x) n) (sym e)
-
-lowest-one : (n : ℕ) → n < 10 → (48 + n) ∷ [] ≡ lowest 1 n
-unfolding lowest
-lowest-one n h =
-    let e : 48 + n ≡ 48 + n % 10 = omega arith in
-    ap (λ (d : ℕ). d ∷ []) e
-
-lowest-more : (n : ℕ) (xs : List ℕ) → xs ≡ lowest (length xs) (n / 10)
-    → xs ++ ((48 + n % 10) ∷ []) ≡ lowest (length (xs ++ ((48 + n % 10) ∷ []))) n
-unfolding lowest
-lowest-more n xs e =
-    ap (λ (x : List ℕ). x ++ ((48 + n % 10) ∷ [])) e
-    ∙ ap (λ (k : ℕ). lowest k n) (sym (length-append xs ((48 + n % 10) ∷ []) ∙ add-one (length xs)))
-
-digits-lowest : (f n : ℕ) → digits f n ≡ lowest (length (digits f n)) n
-unfolding digits lowest
-digits-lowest zero n = refl
-digits-lowest (suc f) n = go (dec_le 10 n) (digits-lowest f (n / 10))
-  where
-    go : Dec (10 ≤ n) → digits f (n / 10) ≡ lowest (length (digits f (n / 10))) (n / 10)
-        → digits (suc f) n ≡ lowest (length (digits (suc f) n)) n
-    go (yes h) on = lowest-as n _ _ (digits-many f n h) (lowest-more n (digits f (n / 10)) on)
-    go (no h) on = lowest-as n _ _ (digits-one f n (omega arith)) (lowest-one n (omega arith))
-
-pub decimal-lowest : (n : ℕ) → decimal n ≡ lowest (length (decimal n)) n
-unfolding decimal
-decimal-lowest n = digits-lowest 20 n
-
--- how many digits there are, where a number has none if it is 0
-unfoldable pub more : ℕ → ℕ → ℕ
-more f n = cond (eqb n 0) 0 (length (digits f n))
-
-pub more-none : (f : ℕ) → more f 0 ≡ 0
-unfolding more
-more-none f = refl
-
-pub more-zero : (n : ℕ) → more 0 n ≡ 0
-unfolding more digits
-more-zero n = go (eqb n 0)
-  where
-    go : (b : Bool) → ◌≡◌ {A = ℕ} (cond b 0 0) 0
-    go true = refl
-    go false = refl
-
-digits_more : (f n : ℕ) → length (digits (suc f) n) ≡ suc (more f (n / 10))
-unfolding more
-digits_more f n = go (dec_le 10 n)
-  where
-    go : Dec (10 ≤ n) → length (digits (suc f) n) ≡ suc (more f (n / 10))
-    go (yes h) =
-        ap length (digits-many f n h) ∙ length-append (digits f (n / 10)) _ ∙ add-one (length (digits f (n / 10)))
-        ∙ ap (λ (b : Bool). suc (cond b 0 (length (digits f (n / 10))))) (sym (ne_eqb (n / 10) 0 (λ e. omega (arith, e))))
-    go (no h) =
-        ap length (digits-one f n (omega arith))
-        ∙ ap (λ (b : Bool). suc (cond b 0 (length (digits f (n / 10))))) (sym (eq-eqb (n / 10) 0 (omega arith)))
-
-pub decimal-more : (n : ℕ) → length (decimal n) ≡ 1 + more 19 (n / 10)
-unfolding decimal
-decimal-more n =
-    let e = digits_more 19 n in
-    omega (arith, e)
-
-pub more-on : (count n : ℕ) → (n ≡ 0 → ⊥) → count < 20 → more (20 - count) n ≡ 1 + more (20 - (count + 1)) (n / 10)
-unfolding more
-more-on count n h l =
-    let f : 20 - count ≡ suc (20 - (count + 1)) = omega arith in
-    ap (λ (b : Bool). cond b 0 (length (digits (20 - count) n))) (ne_eqb n 0 h)
-    ∙ ap (λ (k : ℕ). length (digits k n)) f
-    ∙ digits_more (20 - (count + 1)) n
-    ∙ omega arith
 
 digits-most : (f n : ℕ) → length (digits f n) ≤ f
 unfolding digits
@@ -129,42 +55,22 @@ pub decimal-most : (n : ℕ) → length (decimal n) ≤ 20
 unfolding decimal
 decimal-most n = digits-most 20 n
 
--- ---- digits in a buffer
+-- what the library prints for a number
+pub decimal-same : (n : ℕ) → n < 2 ^ 64 → fmt.decimal n ≡ decimal n
+unfolding decimal
+decimal-same n h = sym (decimal_from_appends digits (record { one = digits-one; more = digits-many }) 20 n h (length-decimal-le 20 n (omega arith) (omega (arith, h)) h))
 
--- digits are stored from the last one on: the lowest k of what is left are to come
-pub record Spelt (first : List ℕ) (at n : ℕ) (out : List ℕ) (rest k : ℕ) : Type 0 where
-  pub tail : List ℕ
-  pub whole : decimal n ≡ lowest k rest ++ tail
-  pub stored : out ≡ sets first (at + k) tail
-
-module _ (first : List ℕ) (at n : ℕ) where
-  pub spelt-none : (count : ℕ) → count ≡ length (decimal n) → Spelt first at n first n count
-  spelt-none count e = record {
-    tail = [];
-    whole = decimal-lowest n ∙ ap (λ (k : ℕ). lowest k n) (sym e) ∙ sym (append-nil (lowest count n));
-    stored = refl;
-  }
-
-  pub spelt-more : (out : List ℕ) (rest k : ℕ) → 0 < k → Spelt first at n out rest k
-      → Spelt first at n (set out (at + (k - 1)) (48 + rest % 10)) (rest / 10) (k - 1)
-  unfolding lowest
-  spelt-more out rest k h x =
-      let d = 48 + rest % 10 in
-      let e : k ≡ suc (k - 1) = omega arith in
-      record {
-        tail = d ∷ x.tail;
-        whole = x.whole ∙ ap (λ (j : ℕ). lowest j rest ++ x.tail) e ∙ append_snoc (lowest (k - 1) (rest / 10)) d x.tail;
-        stored =
-            ap (λ (o : List ℕ). set o (at + (k - 1)) d) x.stored ∙ set_before first (at + (k - 1)) (at + k) d x.tail (omega arith);
-      }
-
-  pub spelt-all : (out : List ℕ) (rest k : ℕ) → k ≡ 0 → Spelt first at n out rest k → out ≡ sets first at (decimal n)
-  unfolding lowest
-  spelt-all out rest k e x =
-      x.stored
-      ∙ (λ i. sets first (at + e i) x.tail)
-      ∙ ap (λ (j : ℕ). sets first j x.tail) (add-zero at)
-      ∙ ap (sets first at) (sym (x.whole ∙ ap (λ (j : ℕ). lowest j rest ++ x.tail) e))
+-- the digits copied into a buffer
+pub digits-put : (out part given : List ℕ) (at n : ℕ) → n < 2 ^ 64 → at + 20 ≤ length out → given ≡ fmt.decimal n → part ≡ given
+    → put_mid at (at + length given - at) out part ≡ sets out at (decimal n)
+digits-put out part given at n h room e copied =
+    let same = e ∙ decimal-same n h in
+    let few : length given ≤ 20 = omega (arith, ap length same, decimal-most n) in
+    put_mid-paste at _ out part given (length given) copied (omega arith) refl
+    ∙ paste_all out at given (length given) refl
+    ∙ sym (append_assoc (take at out) given (drop (at + length given) out))
+    ∙ sym (sets-eq given out at (omega (arith, few)))
+    ∙ ap (sets out at) same
 
 pub line-put : (l one two : List ℕ) (at k n b e : ℕ) → (b ≡ at + length (decimal k)) × (one ≡ sets l at (decimal k))
     → (e ≡ b + 1 + length (decimal n)) × (two ≡ sets (set one b 32) (b + 1) (decimal n))

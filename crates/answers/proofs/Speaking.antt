@@ -2,6 +2,7 @@
 --
 --   pass-many                 a pass over 4,096 bytes serves 1,024 records at most
 --   pass-few                  and leaves at most 97 bytes where it goes on
+--   goes-other                it goes on where no bad record stands
 --   spoken-on, spoken-bad     the answers in a row are all, or all but 35
 --
 -- Assumes nothing.
@@ -37,6 +38,13 @@ on-going Bad e = absurd (true≢false (sym e))
 not-bad : (x : Step) → goes x ≡ true → x ≡ Bad → ⊥
 unfolding goes
 not-bad x e q = true≢false (sym e ∙ ap goes q)
+
+pub goes-other : (x : Step) → (x ≡ Bad → ⊥) → goes x ≡ true
+unfolding goes
+goes-other (Record kind body) h = refl
+goes-other End h = refl
+goes-other More h = refl
+goes-other Bad h = absurd (h refl)
 
 module _ (t s answers : List ℕ) (count : ℕ) (given : take count answers ≡ (pass (length s) s 0 t).answers) (room : count ≤ length answers) where
   pub pass-many : Below 256 s → 4 * count ≤ (pass (length s) s 0 t).at

@@ -4,7 +4,7 @@
 --   told-end, next-end          a read that gives nothing
 --   told-some, next-some        a read that gives bytes
 --   held-turned                 what a buffer's answers leave is the progress after it
---   held-read                   a read puts its bytes behind those kept
+--   reached-read                a read puts its bytes behind those kept
 --   reached-first, reached-next     the progress before the first read, and after one read more
 --
 -- Assumes nothing.
@@ -15,6 +15,7 @@ use Prim.Native.Nat.{ℕ, ◌+◌, ◌≤◌, ◌<◌}
 use native.Mathlib.Omega.{arith}
 use lib.ListN.{length, take, drop, length-take, length-drop}
 use lib.Seq.{length-take-le, take_at, take-add}
+use borrow.Rule.Slice.PartMut.{put_mid}
 use Rattle.bits.proofs.Rows.{done-passed}
 use Rattle.table.specs.State.{state_size, started_state}
 use Rattle.table.specs.Calls.{start_answer, start_after}
@@ -86,12 +87,12 @@ held-turned t u s answers buffer number count at kept going state left place goe
 
 -- ---- the progress reached
 
-pub held-read : (t buffer read : List ℕ) (kept k number : ℕ) (going : Bool) → kept ≤ length buffer
-    → held t buffer kept number going ≡ held t (take kept buffer ++ (read ++ drop k (drop kept buffer))) kept number going
+pub reached-read : (t buffer read : List ℕ) (kept k number : ℕ) → kept ≤ length buffer → Reached (held t buffer kept number true)
+    → Reached (held t (put_mid kept k buffer read) kept number true)
 unfolding held
-held-read t buffer read kept k number going h =
+reached-read t buffer read kept k number h =
     let same = sym (take_at (take kept buffer) (read ++ drop k (drop kept buffer)) kept (length-take-le kept buffer h)) in
-    λ i. record { state = t; kept = same i; number = number; going = going }
+    subst Reached (λ i. record { state = t; kept = same i; number = number; going = true })
 
 pub reached-first : (t u buffer : List ℕ) → length t ≡ state_size → u ≡ start_after t → Reached (held u buffer 0 1 true)
 unfolding held after after_from begun start_after

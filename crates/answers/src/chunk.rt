@@ -1,4 +1,4 @@
-// What the program does with what a read gave, on slices: nothing is read or written here.
+// What the program does with what a read gave, on its own values: nothing is read or written here.
 ghost use Rattle.std.specs.Prelude.{◌≡◌, true, false, ◌+◌, ◌-◌, ◌≤◌, ◌<◌, length, take, drop};
 ghost use Rattle.serving.specs.Served.{pass, cut};
 ghost use Rattle.answers.specs.Text.{lines};
@@ -6,18 +6,23 @@ ghost use Rattle.answers.specs.Said.{held, goes, spoken, told, next};
 
 use crate::text;
 use records::Step;
+use table::Table;
 
-// How far the program has come: the number of the next record, how many bytes are kept at the buffer's front, whether it goes on; and
-// how many bytes of the output are to be printed.
-#[derive(Clone, Copy)]
+// The program's values: a state, the buffer that reads fill, how many bytes are kept at its front, room for the lines that are printed,
+// the number of the next record, and whether it goes on. `going` stands beside the rest, since what is kept and the number are also
+// told of a progress that does not go on.
+#[derive(Drop)]
 pub struct Progress {
-    pub number: u64,
+    pub state: [u8; Table::SIZE],
+    pub buffer: [u8; 4096],
     pub kept: usize,
+    pub out: [u8; 65536],
+    pub number: u64,
     pub going: bool,
-    pub len: usize,
 }
 
-// How many answers there are for a buffer, the place behind its last whole record, and whether no bad record stands there.
+// How many answers there are for a buffer, the place behind its last whole record, and whether no bad record stands there: all three
+// of them in either case.
 #[derive(Clone, Copy)]
 struct Spoken {
     count: usize,
@@ -25,65 +30,49 @@ struct Spoken {
     going: bool,
 }
 
-// What is to be printed for what a read put behind the kept bytes, and the progress after it: the lines for what the buffer now holds,
-// of which the bytes behind the last whole record are kept. A read that gives nothing is the end of the file.
-pub fn answered(
-    state: &mut [u8],
-    buffer: &mut [u8],
-    kept: usize,
-    more: usize,
-    number: u64,
-    out: &mut [u8],
-) -> Progress
-    requires more_in_bounds { kept + more ≤ length buffer.old }
-    requires buffer_len { length buffer.old ≡ 4096 }
-    requires out_len { length out.old ≡ 65536 }
-    requires number_bound { number + 1025 < 18446744073709551616 }
-    ensures out_after { take result.len out.new
-        ≡ told (held state.old buffer.old kept number true) (take more (drop kept buffer.old)) }
-    ensures going_after { held state.new buffer.new result.kept result.number result.going
-        ≡ next (held state.old buffer.old kept number true) (take more (drop kept buffer.old)) }
-    ensures len_in_bounds { result.len ≤ length out.new }
-    ensures number_bound_2 { result.number ≤ number + 1025 }
-    ensures kept_bound { result.going ≡ true → result.kept ≤ 97 }
-{
-    if more == 0 {
-        return ended(&buffer[..kept], number, out);
-    }
-    let n = kept + more;
-    let mut answers = [0u8; 4096];
-    let told = speak(state, &buffer[..n], &mut answers);
-    let count = told.count;
-    let len = text::put_lines(out, number, &answers[..count]);
-    let left = moved(buffer, told.at, n);
-    Progress {
-        number: number + count as u64,
-        kept: left,
-        going: told.going,
-        len,
+impl Progress {
+    // Puts what is to be printed for what a read put behind the kept bytes at the front of `out`, and answers how many bytes that is:
+    // the lines for what the buffer now holds, of which the bytes behind the last whole record are kept. A read that gives nothing is
+    // the end of the file.
+    pub fn answered(&mut self, more: usize) -> usize
+        requires more_in_bounds { self.old.kept + more ≤ length self.old.buffer }
+        requires number_bound { self.old.number + 1025 < 18446744073709551616 }
+        ensures out_after { take result self.new.out
+            ≡ told (held self.old.state self.old.buffer self.old.kept self.old.number true) (take more (drop self.old.kept self.old.buffer)) }
+        ensures going_after { held self.new.state self.new.buffer self.new.kept self.new.number self.new.going
+            ≡ next (held self.old.state self.old.buffer self.old.kept self.old.number true) (take more (drop self.old.kept self.old.buffer)) }
+        ensures len_in_bounds { result ≤ 65536 }
+        ensures number_bound_2 { self.new.number ≤ self.old.number + 1025 }
+        ensures kept_bound { self.new.going ≡ true → self.new.kept ≤ 97 }
+    {
+        if more == 0 {
+            self.going = false;
+            return ended(&self.buffer[..self.kept], self.number, &mut self.out);
+        }
+        let end = self.kept + more;
+        let mut answers = [0u8; 4096];
+        let told = speak(&mut self.state, &self.buffer[..end], &mut answers);
+        let len = text::put_lines(&mut self.out, self.number, &answers[..told.count]);
+        self.buffer.copy_within(told.at..end, 0);
+        self.kept = end - told.at;
+        self.number += told.count as u64;
+        self.going = told.going;
+        len
     }
 }
 
 // The end of the file: what is kept is a record cut short.
-#[tactic(auto, using(crate::proofs::Turning::cut_some, crate::proofs::Turning::cut_none), unfolding(crate::specs::Text::lines))]
-fn ended(kept: &[u8], number: u64, out: &mut [u8]) -> Progress
+#[tactic(auto, using(crate::proofs::Turning::cut_none), unfolding(crate::specs::Text::lines))]
+fn ended(kept: &[u8], number: u64, out: &mut [u8]) -> usize
     requires out_len { length out.old ≡ 65536 }
     requires number_bound { number + 1025 < 18446744073709551616 }
-    ensures out_after { take result.len out.new ≡ lines number (cut kept.now) }
-    ensures len_in_bounds { result.len ≤ length out.new }
-    ensures kept_value { (result.kept ≡ length kept.now) × (result.number ≡ number) × (result.going ≡ false) }
+    ensures out_after { take result out.new ≡ lines number (cut kept.now) }
+    ensures len_in_bounds { result ≤ length out.new }
 {
-    let mut len: usize = 0;
-    if kept.len() != 0 {
-        let answers = [35u8; 1];
-        len = text::put_lines(out, number, &answers);
+    if kept.is_empty() {
+        return 0;
     }
-    Progress {
-        number,
-        kept: kept.len(),
-        going: false,
-        len,
-    }
+    text::put_lines(out, number, &[35])
 }
 
 // The answers for a buffer: those of its whole records, and 35 where the record behind them is bad.
@@ -98,20 +87,18 @@ fn speak(state: &mut [u8], s: &[u8], answers: &mut [u8]) -> Spoken
     ensures at_in_bounds { result.at ≤ length s.now }
     ensures s_len_bound_2 { result.going ≡ true → length s.now ≤ result.at + 97 }
 {
-    let mut count: usize = 0;
-    let mut at: usize = 0;
-    let last = serving::serve_all(state, s, answers, &mut count, &mut at);
-    if goes_on(last) {
+    let pass = serving::serve_all(state, s, answers);
+    if goes_on(pass.last) {
         return Spoken {
-            count,
-            at,
+            count: pass.served,
+            at: pass.at,
             going: true,
         };
     }
-    answers[count] = 35;
+    answers[pass.served] = 35;
     Spoken {
-        count: count + 1,
-        at,
+        count: pass.served + 1,
+        at: pass.at,
         going: false,
     }
 }
@@ -119,25 +106,5 @@ fn speak(state: &mut [u8], s: &[u8], answers: &mut [u8]) -> Spoken
 fn goes_on(last: Step) -> bool
     ensures { result ≡ goes last }
 {
-    match last {
-        Step::Bad => false,
-        Step::Record(_, _) => true,
-        Step::End => true,
-        Step::More => true,
-    }
-}
-
-// Moves what is behind a place of the buffer's first n bytes to the front, and answers how many bytes these are.
-fn moved(buffer: &mut [u8], at: usize, n: usize) -> usize
-    requires at_le_n { at ≤ n }
-    requires n_in_bounds { n ≤ length buffer.old }
-    ensures value { result ≡ n - at }
-    ensures buffer_after { take result buffer.new ≡ drop at (take n buffer.old) }
-{
-    let mut k: usize = 0;
-    while at + k < n {
-        buffer[k] = buffer[at + k];
-        k += 1;
-    }
-    k
+    !matches!(last, Step::Bad)
 }

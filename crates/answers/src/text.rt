@@ -10,11 +10,9 @@ pub fn put_lines(out: &mut [u8], first: u64, answers: &[u8]) -> usize
     ensures out_after { take result out.new ≡ lines first answers.now }
     ensures upper_bound { result ≤ length out.new }
 {
-    let mut len: usize = 0;
-    let mut k: usize = 0;
-    while k < answers.len() {
-        len = put_line(out, len, first + k as u64, answers[k]);
-        k += 1;
+    let mut len = 0;
+    for (k, answer) in answers.iter().enumerate() {
+        len = put_line(out, len, first + k as u64, *answer);
     }
     len
 }
@@ -38,29 +36,9 @@ fn spell(out: &mut [u8], at: usize, n: u64) -> usize
     ensures value { result ≡ at + length (decimal n) }
     ensures out_after { out.new ≡ sets out.old at (decimal n) }
 {
-    let count = places(n);
-    let mut rest = n;
-    let mut k = count;
-    while 0 < k {
-        k -= 1;
-        out[at + k] = b'0' + (rest % 10) as u8;
-        rest = rest / 10;
-    }
-    at + count
-}
-
-// How many digits a number has: a u64 has twenty at most.
-fn places(n: u64) -> usize
-    ensures { result ≡ length (decimal n) }
-{
-    let mut count: usize = 1;
-    let mut rest = n / 10;
-    while count < 20 {
-        if rest == 0 {
-            break;
-        }
-        rest = rest / 10;
-        count += 1;
-    }
-    count
+    let mut buffer = itoa::Buffer::new();
+    let digits = buffer.format(n).as_bytes();
+    let end = at + digits.len();
+    out[at..end].copy_from_slice(digits);
+    end
 }

@@ -3,12 +3,13 @@
 --   shown-*, asked-group, asked-none, length-*    what ask says of a head
 --   asked-refused, asked-found    ask's answer, by the answer of the rows
 --   asked-within, asked-part      the group's place is in the state, and the slice is that part
---   board-notice, board-group     the board text, by the number
+--   asked-empty, asked-shown      the part, where nothing is shown and where a group is
+--   board-notice, board-group     the board text, by the number; is-fresh .. board-aside, by the answer
 --
 -- Assumes nothing.
 use mathlib.Core.Path.{◌≡◌, refl, sym, ap, ◌∙◌, subst}
 use mathlib.Core.Bool.{Bool, true, false, cond}
-use mathlib.Core.List.{List}
+use mathlib.Core.List.{List, []}
 use Prim.Native.Nat.{ℕ, zero, suc, ◌+◌, ◌-◌, ◌*◌, ◌≤◌, ◌<◌}
 use native.Mathlib.Omega.{arith}
 use borrow.Author.Tests.{le-leb, lt-leb, eq-eqb, ne_eqb}
@@ -21,8 +22,17 @@ use Rattle.head.specs.declared.Head.{Head}
 use Rattle.table.specs.State.{state_size, slots, slot_at, find}
 use Rattle.table.specs.Calls.{leave_answer}
 use Rattle.table.proofs.Kept.{leave-passed}
-use Rattle.asking.specs.Asking.{group_length, asked_at, asked_by, asked, ask_part, board_text}
-use Rattle.asking.specs.declared.Asked.{Asked}
+use Rattle.faults.specs.Refusals.{number_of}
+use Rattle.faults.specs.declared.refusal.Refusal.{Refusal}
+use Rattle.faults.proofs.Refusals.{number-from-20}
+use Rattle.std.specs.Prelude.{Option, Some, Ok}
+use Rattle.asking.specs.contracts.Freshness.{the_type}
+use denote.Enum.Bare.{sameb}
+use Rattle.bits.proofs.Search.{clash}
+use Rattle.asking.specs.declared.Shown.{Shown}
+use Rattle.asking.specs.declared.Freshness.{Freshness}
+use Rattle.asking.specs.declared.Freshness.TheVariants.{Fresh, Doubtful, Stale}
+use Rattle.asking.specs.Asking.{Asked, freshness_number, told_asked, group_length, asked_at, asked_by, asked, ask_part, board_text}
 
 -- ---- what ask says of a head
 
@@ -100,11 +110,19 @@ asked-within s a r e = subst (λ (x : Asked). ends x ≤ length s) (sym e) (go (
     go zero q = omega (arith, (leave-passed s a q).0.size, group-ends (find s a) (head_of (slot_at (find s a) s)) (leave-passed s a q).2)
     go (suc m) q = omega arith
 
+-- a group that is shown is in the state
+pub asked-shown : (s : List ℕ) (a : ℕ) (o : Option Shown) (x : Shown) → o ≡ Some x → told_asked (Ok o) ≡ asked s a → x.at + x.len ≤ length s
+asked-shown s a o x q e = asked-within s a (told_asked (Ok (Some x))) (ap (λ (y : Option Shown). told_asked (Ok y)) (sym q) ∙ e)
+
 pub asked-part : (s : List ℕ) (a : ℕ) (r : Asked) → r ≡ asked s a → take (r.at + r.len - r.at) (drop r.at s) ≡ ask_part s a
 unfolding ask_part part
 asked-part s a r e =
     let n : r.at + r.len - r.at ≡ r.len = omega arith in
     ap (λ (m : ℕ). take m (drop r.at s)) n ∙ ap (λ (x : Asked). part x.at x.len s) e
+
+pub asked-empty : (s : List ℕ) (a n : ℕ) → bare n ≡ asked s a → [] ≡ ask_part s a
+unfolding ask_part part
+asked-empty s a n e = ap (λ (x : Asked). part x.at x.len s) e
 
 -- ---- board text
 
@@ -116,5 +134,37 @@ module _ (s : List ℕ) (a : ℕ) (notice : List ℕ) (r : Asked) (e : r ≡ ask
   pub board-notice : (r.number ≡ 5 → ⊥) → notice ≡ board_text s a notice
   board-notice ne = by_number false (ne_eqb r.number 5 ne)
 
-  pub board-group : r.number ≡ 5 → take (r.at + r.len - r.at) (drop r.at s) ≡ board_text s a notice
-  board-group q = asked-part s a r e ∙ by_number true (eq-eqb r.number 5 q)
+  pub board-group : r.number ≡ 5 → ask_part s a ≡ board_text s a notice
+  board-group q = by_number true (eq-eqb r.number 5 q)
+
+-- the code's test of a freshness
+pub is-fresh : (f : Freshness) → sameb the_type f Fresh ≡ true → f ≡ Fresh
+is-fresh Fresh e = refl
+is-fresh Doubtful e = clash (sym e)
+is-fresh Stale e = clash (sym e)
+
+pub not-fresh : (f : Freshness) → sameb the_type f Fresh ≡ false → f ≡ Fresh → ⊥
+not-fresh f e q = clash (sym (ap (λ (x : Freshness). sameb the_type x Fresh) q) ∙ e)
+
+-- by the answer: nothing yet, a refusal, a group
+module _ (s : List ℕ) (a : ℕ) (notice : List ℕ) where
+  other : (n : ℕ) → n ≡ (asked s a).number → (n ≡ 5 → ⊥) → notice ≡ board_text s a notice
+  other n e ne = board-notice s a notice (asked s a) refl (λ q. ne (e ∙ q))
+
+  pub board-none : 4 ≡ (asked s a).number → notice ≡ board_text s a notice
+  board-none e = other 4 e (λ q. omega (arith, q))
+
+  pub board-refused : (r : Refusal) → number_of r ≡ (asked s a).number → notice ≡ board_text s a notice
+  board-refused r e = other (number_of r) e (λ q. omega (arith, q, number-from-20 r))
+
+  pub board-fresh : (f : Freshness) → f ≡ Fresh → freshness_number f ≡ (asked s a).number → (g : List ℕ) → g ≡ ask_part s a
+      → g ≡ board_text s a notice
+  board-fresh f q e g p = p ∙ board-group s a notice (asked s a) refl (sym e ∙ ap freshness_number q)
+
+  pub board-aside : (f : Freshness) → (f ≡ Fresh → ⊥) → freshness_number f ≡ (asked s a).number → notice ≡ board_text s a notice
+  board-aside f ne e = other (freshness_number f) e (not-5 f ne)
+    where
+      not-5 : (f : Freshness) → (f ≡ Fresh → ⊥) → freshness_number f ≡ 5 → ⊥
+      not-5 Fresh ne q = ne refl
+      not-5 Doubtful ne q = omega (arith, q)
+      not-5 Stale ne q = omega (arith, q)

@@ -19,8 +19,7 @@ use Rattle.table.specs.Calls.{leave_answer}
 use Rattle.table.proofs.Looking.{leave-22}
 use Rattle.table.proofs.Shows.{start-shows, find-place, follow-head}
 use Rattle.table.proofs.Vectors.{spoiled, started, followed, one, nobody, ok, unknown, known, leave-20, leave-34, followed-17, followed-shows}
-use Rattle.asking.specs.Asking.{group_length, asked_at, asked, board_text}
-use Rattle.asking.specs.declared.Asked.{Asked}
+use Rattle.asking.specs.Asking.{Asked, group_length, asked_at, asked, board_text}
 use Rattle.asking.proofs.Laws.{bare, asked-refused, asked-found, asked-none, board-notice}
 
 -- ---- a head in slot 0: address 17, limit 2

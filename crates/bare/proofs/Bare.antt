@@ -22,9 +22,9 @@ use Rattle.bits.proofs.Flips.{flips-same}
 use Rattle.bits.proofs.Rows.{refusal-hit, refusal-miss}
 use Rattle.bare.specs.Bare.{header_read, most_flips, header_within, header_refused, header_written, word_read, word_written, Judged}
 use Rattle.golay.specs.Code.{remainder, word23, word24, check, nearest}
-use Rattle.bare.specs.declared.Header.{Header}
-use Rattle.bare.specs.declared.Word.{Word}
-use Rattle.bare.specs.declared.Written.{Written}
+use Rattle.bare.specs.Bare.{HeaderAnswer}
+use Rattle.bare.specs.Bare.{WordAnswer}
+use Rattle.bare.specs.Bare.{Written}
 use native.Mathlib.Decide.{dec_lt}
 use Rattle.golay.proofs.Nearest.{nearest-near}
 use Rattle.golay.proofs.Reading.{clean-word, clean-nearest, nearest23-lt, nearest24-is, nearest24-none}
@@ -32,7 +32,7 @@ use Rattle.golay.proofs.Words.{word23-first}
 
 -- ---- headers
 
-unfoldable pub header_as : ℕ → ℕ → ℕ → Header
+unfoldable pub header_as : ℕ → ℕ → ℕ → HeaderAnswer
 header_as answer i n = record {
   number = answer;
   address = given answer (i % 1024);
@@ -90,7 +90,7 @@ within-33 n most h = within-answer n most 33 (refusal-hit (leb (2 ^ 23) n) 33 _ 
 
 pub header-flips : (n : ℕ) → n < 2 ^ 23 → (header_read n).flips ≡ flips (word23 (nearest word23 n)) n
 unfolding header_as given
-header-flips n h = ap (λ (x : Header). x.flips) (header-small n h)
+header-flips n h = ap (λ (x : HeaderAnswer). x.flips) (header-small n h)
 
 -- a header of 23 bits lies within three flips of its word
 pub header-few : (n : ℕ) → n < 2 ^ 23 → (header_read n).flips ≤ most_flips
@@ -159,7 +159,7 @@ header-written a i h l =
 
 -- ---- words
 
-word_as : ℕ → ℕ → ℕ → Word
+word_as : ℕ → ℕ → ℕ → WordAnswer
 word_as answer i n = record { number = answer; information = given answer i; flips = given answer (flips (word24 i) n) }
 
 abbrev word_rows : ℕ → ℕ → ℕ

@@ -16,7 +16,7 @@ use Rattle.bits.proofs.Flips.{ones-in}
 use Rattle.bits.specs.All.{All}
 use Rattle.bare.specs.Bare.{type_read, type_near}
 use Rattle.golay.specs.Code.{less, line, divide, remainder, word23, nearest}
-use Rattle.bare.specs.declared.Header.{Header}
+use Rattle.bare.specs.Bare.{HeaderAnswer}
 use Rattle.bare.specs.Edges.{Edge, reads, reads_not, typed, untyped, Reads, Holds, edges}
 use Rattle.golay.proofs.Nearest.{nearest-is}
 use Rattle.bare.proofs.Theorems.{header-reads, header-exactly}
@@ -55,15 +55,15 @@ module _ (n a i : ℕ) (t : T (fit n a i)) where
       let k : a + 1024 * i < 4096 = omega (arith, fits.1, fits.2) in
       let near : flips (word23 (a + 1024 * i)) n ≤ 3 = omega (arith, word-flips (a + 1024 * i) n k fits.0) in
       let r = header-reads n (a + 1024 * i) fits.0 (nearest-is word23 word23-apart n (a + 1024 * i) k near) in (
-        ap (λ (h : Header). h.number) r,
-        ap (λ (h : Header). h.address) r ∙ omega (arith, fits.1),
-        ap (λ (h : Header). h.index) r ∙ omega (arith, fits.1),
+        ap (λ (h : HeaderAnswer). h.number) r,
+        ap (λ (h : HeaderAnswer). h.address) r ∙ omega (arith, fits.1),
+        ap (λ (h : HeaderAnswer). h.index) r ∙ omega (arith, fits.1),
       )
 
   reads_not-holds : 3 < word_flips (a + 1024 * i) n → Reads n a i → ⊥
   reads_not-holds far read =
       let e = header-exactly n fits.0 in
-      let at : nearest word23 n ≡ a + 1024 * i = same (nearest word23 n) (sym (ap (λ (h : Header). h.address) e.reads) ∙ read.1) (sym (ap (λ (h : Header). h.index) e.reads) ∙ read.2) in
+      let at : nearest word23 n ≡ a + 1024 * i = same (nearest word23 n) (sym (ap (λ (h : HeaderAnswer). h.address) e.reads) ∙ read.1) (sym (ap (λ (h : HeaderAnswer). h.index) e.reads) ∙ read.2) in
       let k : a + 1024 * i < 4096 = omega (arith, fits.1, fits.2) in
       omega (arith, e.near, ap (λ (x : ℕ). flips (word23 x) n) at, word-flips (a + 1024 * i) n k fits.0)
     where

@@ -25,7 +25,7 @@ use Rattle.golay.proofs.Nearest.{nearest-is}
 use Rattle.golay.proofs.Reading.{nearest23-lt}
 use Rattle.golay.proofs.Words.{word23-apart, word23-lt}
 use Rattle.bare.specs.Bare.{header_within}
-use Rattle.bare.specs.declared.Header.{Header}
+use Rattle.bare.specs.Bare.{HeaderAnswer}
 use Rattle.bare.specs.Noise.{counted, readable, read_as, settings, Noise}
 use Rattle.bare.proofs.Theorems.{within-exactly}
 use Rattle.bare.proofs.Counting.{counted-agree, counted-xor, volume, counted-ones, counted-classes}
@@ -43,11 +43,11 @@ module _ (n most : ℕ) (h : n < 2 ^ 23) (l : most ≤ 3) where
 
   number-far : most < corrected n → (header_within n most).number ≡ 49
   unfolding corrected
-  number-far f = ap (λ (x : Header). x.number) ((within-exactly n most h l).refuses f)
+  number-far f = ap (λ (x : HeaderAnswer). x.number) ((within-exactly n most h l).refuses f)
 
   address-near : corrected n ≤ most → (header_within n most).address ≡ nearest word23 n % 1024
   unfolding corrected
-  address-near f = let e = within-exactly n most h l in ap (λ (x : Header). x.address) (e.reads f ∙ e.word.reads)
+  address-near f = let e = within-exactly n most h l in ap (λ (x : HeaderAnswer). x.address) (e.reads f ∙ e.word.reads)
 
   pub readable-near : readable most n ≡ leb (corrected n) most
   unfolding readable

@@ -22,9 +22,9 @@ use Rattle.bits.specs.Rows.{given}
 use Rattle.bits.proofs.Flips.{flips-of, ones-zero}
 use Rattle.bare.specs.Bare.{header_read, most_flips, header_within, header_refused, header_written, word_read, word_written}
 use Rattle.golay.specs.Code.{word23, word24, nearest}
-use Rattle.bare.specs.declared.Header.{Header}
-use Rattle.bare.specs.declared.Word.{Word}
-use Rattle.bare.specs.declared.Written.{Written}
+use Rattle.bare.specs.Bare.{HeaderAnswer}
+use Rattle.bare.specs.Bare.{WordAnswer}
+use Rattle.bare.specs.Bare.{Written}
 use Rattle.bare.proofs.Bare.{header_as, header-small, header-flips, within-49, within-0, header-written, word-near, word_none, word-written}
 use Rattle.golay.proofs.Nearest.{nearest-near, nearest-le, nearest-one, nearest-read, nearest-far}
 use Rattle.golay.proofs.Reading.{nearest23-lt}
@@ -88,7 +88,7 @@ pub record ReadWithin (n most i : ℕ) : Type 0 where
 pub within-exactly : (n most : ℕ) → n < 2 ^ 23 → most ≤ most_flips → ReadWithin n most (nearest word23 n)
 within-exactly n most h l = record {
   word = header-exactly n h;
-  accepted = (λ e. go e (dec_lt most (flips (word23 (nearest word23 n)) n)), λ f. ap (λ (x : Header). x.number) (near f) ∙ zero);
+  accepted = (λ e. go e (dec_lt most (flips (word23 (nearest word23 n)) n)), λ f. ap (λ (x : HeaderAnswer). x.number) (near f) ∙ zero);
   reads = near;
   refuses = far;
 }
@@ -103,10 +103,10 @@ within-exactly n most h l = record {
     far f = within-49 n most h l (subst (λ (x : ℕ). most < x) (sym same) f)
 
     zero : (header_read n).number ≡ 0
-    zero = ap (λ (x : Header). x.number) (header-exactly n h).reads
+    zero = ap (λ (x : HeaderAnswer). x.number) (header-exactly n h).reads
 
     go : (header_within n most).number ≡ 0 → Dec (most < flips (word23 (nearest word23 n)) n) → flips (word23 (nearest word23 n)) n ≤ most
-    go e (yes f) = absurd (omega (arith, e, ap (λ (x : Header). x.number) (far f)))
+    go e (yes f) = absurd (omega (arith, e, ap (λ (x : HeaderAnswer). x.number) (far f)))
     go e (no f) = omega (arith, f)
 
 -- a written header with at most three flips, at a setting
@@ -121,7 +121,7 @@ module _ (a i e most : ℕ) (ha : a ≤ 1023) (hi : i ≤ 3) (he : e < 2 ^ 23) (
 
   turned : (header_read flipped).flips ≡ ones e
   unfolding flipped
-  turned = ap (λ (x : Header). x.flips) (header-flipped a i e ha hi he few)
+  turned = ap (λ (x : HeaderAnswer). x.flips) (header-flipped a i e ha hi he few)
 
   pub within-flipped : ones e ≤ most
       → header_within (bit_xor (header_written a i).value e) most ≡ record { number = 0; address = a; index = i; flips = ones e }
@@ -156,19 +156,19 @@ word-readable n h e = go (dec_lt (nearest word24 n) 4096)
     go : Dec (nearest word24 n < 4096)
         → (nearest word24 n < 4096) × (word_read n ≡ record { number = 0; information = nearest word24 n; flips = flips (word24 (nearest word24 n)) n })
     go (yes l) = (l, word-near n (nearest word24 n) h l (nearest-near word24 n l))
-    go (no l) = absurd (omega (arith, e, ap (λ (w : Word). w.number) (word_none n h (omega (arith, nearest-le word24 n)))))
+    go (no l) = absurd (omega (arith, e, ap (λ (w : WordAnswer). w.number) (word_none n h (omega (arith, nearest-le word24 n)))))
 
 pub word-unreadable : (n : ℕ) → n < 2 ^ 24 → ((word_read n).number ≡ 0 → ⊥) → nearest word24 n ≡ 4096
 word-unreadable n h e = go (dec_lt (nearest word24 n) 4096)
   where
     go : Dec (nearest word24 n < 4096) → nearest word24 n ≡ 4096
-    go (yes l) = absurd (e (ap (λ (w : Word). w.number) (word-near n (nearest word24 n) h l (nearest-near word24 n l))))
+    go (yes l) = absurd (e (ap (λ (w : WordAnswer). w.number) (word-near n (nearest word24 n) h l (nearest-near word24 n l))))
     go (no l) = omega (arith, nearest-le word24 n)
 
 pub word-exactly : (n : ℕ) → n < 2 ^ 24 → ((word_read n).number ≡ 0) ↔ ((i : ℕ) × Near n i)
 word-exactly n h = (
   λ e. let l = (word-readable n h e).0 in (nearest word24 n, record { information = l; near = nearest-near word24 n l }),
-  λ near. ap (λ (w : Word). w.number) (word_read_lem n near.0 h near.1),
+  λ near. ap (λ (w : WordAnswer). w.number) (word_read_lem n near.0 h near.1),
 )
 
 pub word-flipped : (i e : ℕ) → i < 4096 → e < 2 ^ 24 → ones e ≤ 3

@@ -27,8 +27,8 @@ use Rattle.bits.specs.Rows.{row, refusal, given}
 use Rattle.bits.proofs.Rows.{refusal-hit, refusal-miss}
 use Rattle.bits.proofs.Search.{truth}
 use Rattle.bare.specs.Bare.{types, type_near, type_read, type_as, among, type_written}
-use Rattle.bare.specs.declared.TypeByte.{TypeByte}
-use Rattle.bare.specs.declared.Written.{Written}
+use Rattle.bare.specs.Bare.{TypeAnswer}
+use Rattle.bare.specs.Bare.{Written}
 
 pub near-hit : (t : ℕ) (ts : List ℕ) (b : ℕ) → flips t b ≤ 2 → type_near (t ∷ ts) b ≡ t
 unfolding type_near
@@ -45,7 +45,7 @@ near-end b = refl
 unread : ℕ → ℕ
 unread t = refusal (row (leb 256 t) 28 ∷ [])
 
-as_read : ℕ → ℕ → ℕ → TypeByte
+as_read : ℕ → ℕ → ℕ → TypeAnswer
 as_read k t b = record { number = k; value = given k t; flips = given k (flips t b) }
 
 type-answer : (b t k : ℕ) → type_near types b ≡ t → refusal (row (leb 256 t) 28 ∷ []) ≡ k → type_read b ≡ as_read k t b
@@ -57,7 +57,7 @@ unfolding as_read given refusal
 type-near b t p h = type-answer b t 0 p (refusal-miss (leb 256 t) 28 [] (lt-leb 256 t h))
 
 -- the same of what a reader has found
-pub type-found : (b t f : ℕ) (r : TypeByte) → r ≡ type_as t f → f ≡ flips t b → type_near types b ≡ t → t < 256 → r ≡ type_read b
+pub type-found : (b t f : ℕ) (r : TypeAnswer) → r ≡ type_as t f → f ≡ flips t b → type_near types b ≡ t → t < 256 → r ≡ type_read b
 type-found b t f r e g p h = e ∙ ap (type_as t) g ∙ sym (type-near b t p h)
 
 pub type-none : (b : ℕ) → 256 ≤ type_near types b → type_read b ≡ record { number = 28; value = 0; flips = 0 }
@@ -69,14 +69,14 @@ pub type-readable : (b : ℕ) → (type_read b).number ≡ 0 → (type_near type
 type-readable b e = go (dec_lt (type_near types b) 256)
   where
     go : Dec (type_near types b < 256) → (type_near types b < 256) × ((type_read b).value ≡ type_near types b)
-    go (yes h) = (h, ap (λ (r : TypeByte). r.value) (type-near b (type_near types b) refl h))
-    go (no h) = absurd (omega (arith, e, ap (λ (r : TypeByte). r.number) (type-none b (omega arith))))
+    go (yes h) = (h, ap (λ (r : TypeAnswer). r.value) (type-near b (type_near types b) refl h))
+    go (no h) = absurd (omega (arith, e, ap (λ (r : TypeAnswer). r.number) (type-none b (omega arith))))
 
 pub type-unreadable : (b : ℕ) → ((type_read b).number ≡ 0 → ⊥) → 256 ≤ type_near types b
 type-unreadable b ne = go (dec_lt (type_near types b) 256)
   where
     go : Dec (type_near types b < 256) → 256 ≤ type_near types b
-    go (yes h) = absurd (ne (ap (λ (r : TypeByte). r.number) (type-near b (type_near types b) refl h)))
+    go (yes h) = absurd (ne (ap (λ (r : TypeAnswer). r.number) (type-near b (type_near types b) refl h)))
     go (no h) = omega arith
 
 -- one of four tests, as the definition asks them and as the code joins them

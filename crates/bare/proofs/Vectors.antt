@@ -22,9 +22,9 @@ use Rattle.bits.proofs.Flips.{ones-in}
 use Rattle.golay.specs.Code.{less, line, divide, remainder, word23}
 use Rattle.golay.proofs.Vectors.{words}
 use Rattle.bare.specs.Bare.{header_read, header_within, header_refused, header_written, word_read, word_written, type_near, type_as, type_read, among, type_written}
-use Rattle.bare.specs.declared.Header.{Header}
-use Rattle.bare.specs.declared.Word.{Word}
-use Rattle.bare.specs.declared.Written.{Written}
+use Rattle.bare.specs.Bare.{HeaderAnswer}
+use Rattle.bare.specs.Bare.{WordAnswer}
+use Rattle.bare.specs.Bare.{Written}
 use Rattle.bare.proofs.Bare.{word-written}
 use Rattle.bare.proofs.Theorems.{header-back, within-flipped, within-beyond, word-flipped, word-four}
 
@@ -44,7 +44,7 @@ headers-written = refl
 
 -- and read: no flips
 
-abbrev pub clean : ℕ → ℕ → Header
+abbrev pub clean : ℕ → ℕ → HeaderAnswer
 clean address index = record { number = 0; address = address; index = index; flips = 0 }
 
 pub header-17 : header_read 0x75F011 ≡ clean 17 0
@@ -61,7 +61,7 @@ headers-read = λ i.
 
 -- ---- headers with a setting: address 17, index 0, as it is sent, and with bit 0, bits 0 and 5, bits 0, 5 and 22 turned over
 
-abbrev turned : ℕ → Header
+abbrev turned : ℕ → HeaderAnswer
 turned flips = record { number = 0; address = 17; index = 0; flips = flips }
 
 module _ (e k most : ℕ) (h : e < 2 ^ 23) (c : ones_in 23 e ≡ k) (few : k ≤ 3) (l : most ≤ 3) where
@@ -113,7 +113,7 @@ words-written = ap (map written) words
 zero-written : word_written 0 ≡ written 0x800000
 zero-written = word-written 0 (lit< tt) ∙ ap (λ (ws : List ℕ). written (get_or ws 0 0)) words
 
-abbrev zero-with : ℕ → Word
+abbrev zero-with : ℕ → WordAnswer
 zero-with flips = record { number = 0; information = 0; flips = flips }
 
 zero-read : (e k : ℕ) → e < 2 ^ 24 → ones_in 24 e ≡ k → k ≤ 3 → word_read (bit_xor 0x800000 e) ≡ zero-with k

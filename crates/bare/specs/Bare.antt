@@ -10,13 +10,30 @@ use Rattle.std.specs.Prelude.{◌≡◌, Bool, true, false, cond, not, List, [],
 use Rattle.bits.specs.Bits.{flips}
 use Rattle.bits.specs.Rows.{row, refusal, given}
 use Rattle.golay.specs.Code.{word23, word24, nearest}
-use Rattle.bare.specs.declared.Header.{Header}
-use Rattle.bare.specs.declared.Word.{Word}
-use Rattle.bare.specs.declared.TypeByte.{TypeByte}
-use Rattle.bare.specs.declared.Written.{Written}
+
+-- what is answered: the number, 0 or a refusal's, and the values
+pub record HeaderAnswer : Type 0 where
+  pub number : ℕ
+  pub address : ℕ
+  pub index : ℕ
+  pub flips : ℕ
+
+pub record WordAnswer : Type 0 where
+  pub number : ℕ
+  pub information : ℕ
+  pub flips : ℕ
+
+pub record TypeAnswer : Type 0 where
+  pub number : ℕ
+  pub value : ℕ
+  pub flips : ℕ
+
+pub record Written : Type 0 where
+  pub number : ℕ
+  pub value : ℕ
 
 -- 33: header 2^23 or more. Bits 0 to 9 are the address, 10 and 11 the index.
-unfoldable pub header_read : ℕ → Header
+unfoldable pub header_read : ℕ → HeaderAnswer
 header_read n =
     let answer = refusal (row (leb (2 ^ 23) n) 33 ∷ []) in
     let i = nearest word23 n in
@@ -27,14 +44,14 @@ abbrev pub most_flips : ℕ
 most_flips = 3
 
 -- 33: header 2^23 or more; 48: a setting above 3; 49: more flips than the setting
-unfoldable pub header_within : ℕ → ℕ → Header
+unfoldable pub header_within : ℕ → ℕ → HeaderAnswer
 header_within n most =
     let i = nearest word23 n in
     let answer = refusal (row (leb (2 ^ 23) n) 33 ∷ row (ltb most_flips most) 48 ∷ row (ltb most (flips (word23 i) n)) 49 ∷ []) in
     record { number = answer; address = given answer (i % 1024); index = given answer (i / 1024); flips = given answer (flips (word23 i) n) }
 
 -- a header that is refused
-abbrev pub header_refused : ℕ → Header
+abbrev pub header_refused : ℕ → HeaderAnswer
 header_refused number = record { number = number; address = 0; index = 0; flips = 0 }
 
 -- 33: address above 1,023, index above 3
@@ -44,7 +61,7 @@ header_written address index =
     record { number = answer; value = given answer (word23 (address + 1024 * index)) }
 
 -- 33: word 2^24 or more; 31: no word within three flips
-unfoldable pub word_read : ℕ → Word
+unfoldable pub word_read : ℕ → WordAnswer
 word_read n =
     let i = nearest word24 n in
     let answer = refusal (row (leb (2 ^ 24) n) 33 ∷ row (leb 4096 i) 31 ∷ []) in
@@ -71,11 +88,11 @@ type_near [] b = 256
 type_near (t ∷ ts) b = cond (leb (flips t b) 2) t (type_near ts b)
 
 -- a readable type byte: its type and its flips
-abbrev pub type_as : ℕ → ℕ → TypeByte
+abbrev pub type_as : ℕ → ℕ → TypeAnswer
 type_as t f = record { number = 0; value = t; flips = f }
 
 -- 28: type unreadable
-unfoldable pub type_read : ℕ → TypeByte
+unfoldable pub type_read : ℕ → TypeAnswer
 type_read b =
     let t = type_near types b in
     let answer = refusal (row (leb 256 t) 28 ∷ []) in

@@ -1,3 +1,4 @@
 pub mod Bare
 pub mod Edges
 pub mod Noise
+pub mod Told

@@ -1,45 +1,41 @@
-// The codes of ETS 300 352 as bare calls: numbers in, a number and values out. Every number is answered.
+// The codes of ETS 300 352 as bare calls: numbers in, values or a refusal out. Every number is answered.
 //
+// kind    the four types of a packet
 // code    what the calls are made of: words, remainder, the nearest word by the table
 #![tactic(auto)]
 
 ghost use Rattle.std.specs.Prelude.{◌≡◌, ◌%◌, ◌^◌, ◌<◌, ◌≤◌};
 ghost use Rattle.bits.specs.Bits.{flips};
 ghost use Rattle.golay.specs.Code.{word23, remainder, nearest};
-ghost use Rattle.bare.specs.Bare.{header_read, header_within, header_refused, header_written, word_read, word_written, Judged, type_read, type_as, type_written};
+ghost use Rattle.bare.specs.Bare.{header_read, header_within, header_written, word_read, word_written, Judged, type_read, type_written};
+ghost use Rattle.bare.specs.Told.{told_header, told_word, told_type, told_number, told_kind};
+
+use faults::Refusal;
+pub use kind::Kind;
 
 pub mod code;
+pub mod kind;
 
-// A header of 23 bits as it is read: number 0, 33, 48 or 49, address, index, and how many bits were flipped.
+// A header of 23 bits as it is read, and how many bits were flipped.
 #[derive(Clone, Copy)]
 pub struct Header {
-    pub number: u8,
     pub address: u16,
     pub index: u8,
     pub flips: u8,
 }
 
-// A word of 24 bits as it is read: number 0, 31 or 33, its twelve bits of information, its flips.
+// A word of 24 bits as it is read: its twelve bits of information, its flips.
 #[derive(Clone, Copy)]
 pub struct Word {
-    pub number: u8,
     pub information: u16,
     pub flips: u8,
 }
 
-// A type byte as it is read: number 0 or 28, one of the four values, its flips.
+// A type byte as it is read, and its flips.
 #[derive(Clone, Copy)]
 pub struct TypeByte {
-    pub number: u8,
-    pub value: u8,
+    pub kind: Kind,
     pub flips: u8,
-}
-
-// What a bare writing gives: its number and the header, word or type.
-#[derive(Clone, Copy)]
-pub struct Written {
-    pub number: u8,
-    pub value: u32,
 }
 
 impl Header {
@@ -66,70 +62,51 @@ impl Word {
 }
 
 impl TypeByte {
-    // 7.4.2.3, and the house rule on flips.
-    pub const DATA: u8 = 0x00;
-
-    pub const CONTROL: u8 = 0x3F;
-
-    pub const RESERVED: u8 = 0xC7;
-
-    pub const SCRAMBLED: u8 = 0xF8;
-
+    // The house rule on flips.
     pub const CORRECTED: u32 = 2;
 }
 
 // 33: a header of 2^23 or more. Below it none is refused: each lies within three flips of a word. It is the reader below at 3, and is written
 // out so that what is set up for a damaged header stands apart from both: a clean one is then read in a few steps.
-pub fn read_header(n: u32) -> Header
-    ensures { result ≡ header_read n }
+pub fn read_header(n: u32) -> Result<Header, Refusal>
+    ensures { told_header result ≡ header_read n }
 {
     if Header::NUMBERS <= n {
-        return refused(33);
+        return Err(Refusal::TooLarge);
     }
     let rest = code::remainder(n);
     if rest == 0 {
-        return header_of(n, n);
+        return Ok(header_of(n, n));
     }
-    by_table(n, rest)
+    Ok(by_table(n, rest))
 }
 
 // 33: a header of 2^23 or more; 48: a setting above 3; 49: more flips than the setting.
-pub fn read_header_within(n: u32, most: u32) -> Header
-    ensures { result ≡ header_within n most }
+pub fn read_header_within(n: u32, most: u32) -> Result<Header, Refusal>
+    ensures { told_header result ≡ header_within n most }
 {
     if Header::NUMBERS <= n {
-        return refused(33);
+        return Err(Refusal::TooLarge);
     }
     if Header::CORRECTED < most {
-        return refused(48);
+        return Err(Refusal::Setting);
     }
     let rest = code::remainder(n);
     if rest == 0 {
-        return header_of(n, n);
+        return Ok(header_of(n, n));
     }
     let header = by_table(n, rest);
     if most < header.flips as u32 {
-        return refused(49);
+        return Err(Refusal::BeyondSetting);
     }
-    header
-}
-
-fn refused(number: u8) -> Header
-    ensures { result ≡ header_refused number }
-{
-    Header {
-        number,
-        address: 0,
-        index: 0,
-        flips: 0,
-    }
+    Ok(header)
 }
 
 // The nearest header by the constant table of patterns, which is set up for it, and the remainder.
 fn by_table(n: u32, rest: u32) -> Header
     requires n_bound { n < 2 ^ 23 }
     requires rest_value { rest ≡ remainder n }
-    ensures { result ≡ header_read n }
+    ensures { told_header (Ok result) ≡ header_read n }
 {
     let patterns = lookup::patterns();
     header_of(n, code::corrected(&patterns, n, rest))
@@ -139,7 +116,7 @@ fn by_table(n: u32, rest: u32) -> Header
 // is read as it stands and needs no row.
 pub fn near_header(n: u32) -> Header
     requires { n < 2 ^ 23 }
-    ensures { result ≡ header_read n }
+    ensures { told_header (Ok result) ≡ header_read n }
 {
     let left = code::remainder(n);
     if left == 0 {
@@ -148,7 +125,6 @@ pub fn near_header(n: u32) -> Header
     let entry = fours::entry(left);
     let i = n % Word::INFORMATIONS ^ entry % Word::INFORMATIONS;
     Header {
-        number: 0,
         address: (i % Header::ADDRESSES) as u16,
         index: (i / Header::ADDRESSES) as u8,
         flips: (entry / Word::INFORMATIONS) as u8,
@@ -159,10 +135,9 @@ pub fn near_header(n: u32) -> Header
 fn header_of(n: u32, word: u32) -> Header
     requires n_bound { n < 2 ^ 23 }
     requires word_value { word ≡ word23 (nearest word23 n) }
-    ensures { result ≡ header_read n }
+    ensures { told_header (Ok result) ≡ header_read n }
 {
     Header {
-        number: 0,
         address: (word % Header::ADDRESSES) as u16,
         index: (word / Header::ADDRESSES % Header::INDICES) as u8,
         flips: u32::count_ones(n ^ word) as u8,
@@ -170,52 +145,34 @@ fn header_of(n: u32, word: u32) -> Header
 }
 
 // 33: an address above 1,023, an index above 3.
-pub fn write_header(address: u32, index: u32) -> Written
-    ensures { result ≡ header_written address index }
+pub fn write_header(address: u32, index: u32) -> Result<u32, Refusal>
+    ensures { told_number result ≡ header_written address index }
 {
     if Header::ADDRESSES <= address {
-        return Written {
-            number: 33,
-            value: 0,
-        };
+        return Err(Refusal::TooLarge);
     }
     if Header::INDICES <= index {
-        return Written {
-            number: 33,
-            value: 0,
-        };
+        return Err(Refusal::TooLarge);
     }
-    Written {
-        number: 0,
-        value: code::header_word(address + Header::ADDRESSES * index),
-    }
+    Ok(code::header_word(address + Header::ADDRESSES * index))
 }
 
 // 33: a word of 2^24 or more; 31: no word lies within three flips.
-pub fn read_word(n: u32) -> Word
-    ensures { result ≡ word_read n }
+pub fn read_word(n: u32) -> Result<Word, Refusal>
+    ensures { told_word result ≡ word_read n }
 {
     if Word::NUMBERS <= n {
-        return Word {
-            number: 33,
-            information: 0,
-            flips: 0,
-        };
+        return Err(Refusal::TooLarge);
     }
     let word = judged(n);
     let flips = word / Word::INFORMATIONS;
     if Word::CORRECTED < flips {
-        return Word {
-            number: 31,
-            information: 0,
-            flips: 0,
-        };
+        return Err(Refusal::WordUnreadable);
     }
-    Word {
-        number: 0,
+    Ok(Word {
         information: (word % Word::INFORMATIONS) as u16,
         flips: flips as u8,
-    }
+    })
 }
 
 // What 24 bits are read as, as one number, which needs no memory: as they stand where the check bits are right, otherwise by
@@ -245,19 +202,13 @@ fn damaged(n: u32, r: u32) -> u32
 }
 
 // 33: an information of 4,096 or more.
-pub fn write_word(information: u32) -> Written
-    ensures { result ≡ word_written information }
+pub fn write_word(information: u32) -> Result<u32, Refusal>
+    ensures { told_number result ≡ word_written information }
 {
     if Word::INFORMATIONS <= information {
-        return Written {
-            number: 33,
-            value: 0,
-        };
+        return Err(Refusal::TooLarge);
     }
-    Written {
-        number: 0,
-        value: code::data_word(information),
-    }
+    Ok(code::data_word(information))
 }
 
 // In how many bits two bytes differ.
@@ -268,58 +219,24 @@ fn turned(value: u8, byte: u8) -> u32
 }
 
 // 28: no type lies within two flips.
-pub fn read_type(byte: u8) -> TypeByte
-    ensures { result ≡ type_read byte }
+pub fn read_type(byte: u8) -> Result<TypeByte, Refusal>
+    ensures { told_type result ≡ type_read byte }
 {
-    let data = turned(TypeByte::DATA, byte);
-    if data <= TypeByte::CORRECTED {
-        return type_of(TypeByte::DATA, data);
+    for kind in Kind::ALL {
+        let flips = turned(kind.into(), byte);
+        if flips <= TypeByte::CORRECTED {
+            return Ok(TypeByte {
+                kind,
+                flips: flips as u8,
+            });
+        }
     }
-    let control = turned(TypeByte::CONTROL, byte);
-    if control <= TypeByte::CORRECTED {
-        return type_of(TypeByte::CONTROL, control);
-    }
-    let reserved = turned(TypeByte::RESERVED, byte);
-    if reserved <= TypeByte::CORRECTED {
-        return type_of(TypeByte::RESERVED, reserved);
-    }
-    let scrambled = turned(TypeByte::SCRAMBLED, byte);
-    if scrambled <= TypeByte::CORRECTED {
-        return type_of(TypeByte::SCRAMBLED, scrambled);
-    }
-    TypeByte {
-        number: 28,
-        value: 0,
-        flips: 0,
-    }
-}
-
-fn type_of(value: u8, flips: u32) -> TypeByte
-    requires { flips ≤ 2 }
-    ensures { result ≡ type_as value flips }
-{
-    TypeByte {
-        number: 0,
-        value,
-        flips: flips as u8,
-    }
+    Err(Refusal::TypeUnreadable)
 }
 
 // 28: not one of the four values; nothing is corrected on writing.
-pub fn write_type(byte: u8) -> Written
-    ensures { result ≡ type_written byte }
+pub fn write_type(byte: u8) -> Result<Kind, Refusal>
+    ensures { told_kind result ≡ type_written byte }
 {
-    let open = (TypeByte::DATA == byte) | (TypeByte::CONTROL == byte);
-    let known = open | (TypeByte::RESERVED == byte) | (TypeByte::SCRAMBLED == byte);
-    if known {
-        Written {
-            number: 0,
-            value: byte as u32,
-        }
-    } else {
-        Written {
-            number: 28,
-            value: 0,
-        }
-    }
+    Kind::try_from(byte)
 }

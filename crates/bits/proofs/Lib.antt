@@ -1,4 +1,3 @@
-pub mod Arms
 pub mod Determined
 pub mod Every
 pub mod Flips

@@ -5,20 +5,27 @@
 //     fill-state FROM STEP   fill-images FROM STEP   fill-message FROM STEP    every byte: FROM, FROM + STEP, FROM + 2 STEP, ..
 //     turn FROM BIT ..                                                         bits of the images turned over, counted from one
 use crate::state;
-use rows::bytes::{fill, put};
-use rows::{Answer, Row, tell};
+use rows::bytes::{fill, put, turn};
+use rows::{Answer, Row};
 
-pub fn called(row: Row, state: &mut [u8], images: &mut [u8], message: &mut [u8]) -> Answer {
-    let names = b"lend state images message fill-state fill-images fill-message turn ";
-    match tell::place(names, row.name) {
-        0 => Answer::one(1, state.len() as u64),
-        1 => put(state, row, false),
-        2 => put(images, row, false),
-        3 => put(message, row, false),
-        4 => fill(state, row),
-        5 => fill(images, row),
-        6 => fill(message, row),
-        7 => put(images, row, true),
-        _ => state::called(row, state, images, message),
+pub fn called(row: Row, state: &mut [u8], images: &mut [u8], message: &mut [u8]) -> Option<Answer> {
+    if row.is("lend") {
+        Some(Answer::new(1, [state.len() as u64]))
+    } else if row.is("state") {
+        Some(put(state, row))
+    } else if row.is("images") {
+        Some(put(images, row))
+    } else if row.is("message") {
+        Some(put(message, row))
+    } else if row.is("fill-state") {
+        Some(fill(state, row))
+    } else if row.is("fill-images") {
+        Some(fill(images, row))
+    } else if row.is("fill-message") {
+        Some(fill(message, row))
+    } else if row.is("turn") {
+        Some(turn(images, row))
+    } else {
+        state::called(row, state, images, message)
     }
 }

@@ -10,120 +10,115 @@
 //     board ADDRESS LENGTH = NUMBER LENGTH SHOWN           so many bytes of the message are the notice
 //     write ADDRESS PROTECTION LENGTH OUTPUT = NUMBER IMAGES    so many bytes of the message and of the images are lent
 use coderows::images;
+use faults::refusal::told;
 use head::Wish;
-use rows::bytes::{START, behind, digested, front};
-use rows::{Answer, Row, tell};
+use rows::bytes::{Digest, front};
+use rows::{Answer, Row};
 
-pub fn called(row: Row, state: &mut [u8], images: &mut [u8], message: &mut [u8]) -> Answer {
-    let names = b"start follow leave end packet ask board write set-header-flips detail ";
-    let v = row.values;
-    match tell::place(names, row.name) {
-        0 => behind(0, table::start(state), state),
-        1 => follow(v, state),
-        2 => behind(1, table::leave(state, (v[0] % Row::WIDE) as u32), state),
-        3 => behind(0, table::subframe_end(state), state),
-        4 => packet(v, state, images),
-        5 => ask(v, state),
-        6 => board(v, state, message),
-        7 => write(v, images, message),
-        8 => behind(
-            1,
-            table::set_header_flips(state, (v[0] % Row::WIDE) as u32),
-            state,
-        ),
-        9 => detail(v, state, images),
-        _ => images::called(row, images, message),
+pub fn called(row: Row, state: &mut [u8], images: &mut [u8], message: &mut [u8]) -> Option<Answer> {
+    if row.is("start") {
+        Some(Answer::behind(0, told(&table::start(state)), state))
+    } else if row.is("follow") {
+        Some(follow(row, state))
+    } else if row.is("leave") {
+        Some(Answer::behind(1, told(&table::leave(state, row.wide(0))), state))
+    } else if row.is("end") {
+        Some(Answer::behind(0, told(&table::subframe_end(state)), state))
+    } else if row.is("packet") {
+        Some(packet(row, state, images))
+    } else if row.is("ask") {
+        Some(ask(row, state))
+    } else if row.is("board") {
+        Some(board(row, state, message))
+    } else if row.is("write") {
+        write(row, images, message)
+    } else if row.is("set-header-flips") {
+        Some(Answer::behind(1, told(&table::set_header_flips(state, row.wide(0))), state))
+    } else if row.is("detail") {
+        Some(detail(row, state, images))
+    } else {
+        images::called(row, images, message)
     }
 }
 
-fn follow(v: [u64; 24], state: &mut [u8]) -> Answer {
-    let wish = Wish::new(
-        (v[0] % Row::WIDE) as u32,
-        (v[1] % Row::WIDE) as u32,
-        (v[2] % Row::WIDE) as u32,
-    );
-    let number = table::follow(state, wish);
-    behind(3, number, state)
+fn follow(row: Row, state: &mut [u8]) -> Answer {
+    let wish = Wish::new(row.wide(0), row.wide(1), row.wide(2));
+    let answer = table::follow(state, wish);
+    Answer::behind(3, told(&answer), state)
 }
 
-fn packet(v: [u64; 24], state: &mut [u8], images: &[u8]) -> Answer {
-    let number = adapter::packet(state, image(v, images));
-    behind(2, number, state)
+fn packet(row: Row, state: &mut [u8], images: &[u8]) -> Answer {
+    let number = adapter::packet(state, image(row, images));
+    Answer::behind(2, number, state)
 }
 
-fn detail(v: [u64; 24], state: &mut [u8], images: &[u8]) -> Answer {
-    let answer = adapter::answered(state, image(v, images));
-    let digest = digested(START, state);
-    Answer {
-        args: 2,
-        len: 4,
-        values: [
-            answer.number as u64,
-            answer.detail as u64,
-            answer.came as u64,
-            digest,
-            0,
-            0,
-            0,
-            0,
+fn detail(row: Row, state: &mut [u8], images: &[u8]) -> Answer {
+    let answer = adapter::answered(state, image(row, images));
+    Answer::new(
+        2,
+        [
+            answer.number.into(),
+            answer.detail.into(),
+            answer.came.into(),
+            Digest::of(state).into(),
         ],
-    }
+    )
 }
 
 // The image that a row names, and as many of its bytes as it lends.
-fn image(v: [u64; 24], images: &[u8]) -> &[u8] {
-    let from = (v[0] % 4) as usize * 94;
-    if images.len() < from {
-        return &images[0..0];
+fn image(row: Row, images: &[u8]) -> &[u8] {
+    let from = (row.values[0] % 4) as usize * 94;
+    match images.get(from..) {
+        Some(rest) => front(rest, row.values[1]),
+        None => &[],
     }
-    front(&images[from..], v[1])
 }
 
-fn ask(v: [u64; 24], state: &[u8]) -> Answer {
-    let mut number: u8 = 0;
-    let address = (v[0] % Row::WIDE) as u32;
-    let part = asking::ask(state, address, &mut number);
-    let at = asking::answer(state, address).at;
-    shown(1, number, at, part)
+fn ask(row: Row, state: &[u8]) -> Answer {
+    let address = row.wide(0);
+    let answer = asking::answer(state, address);
+    let at = match answer {
+        Ok(Some(shown)) => shown.at,
+        Ok(None) | Err(_) => 0,
+    };
+    let part = match asking::ask(state, address) {
+        Ok(Some((_, part))) => part,
+        Ok(None) | Err(_) => &[],
+    };
+    shown(1, asking::told(answer), at, part)
 }
 
-fn board<'a>(v: [u64; 24], state: &'a [u8], message: &'a [u8]) -> Answer {
-    let mut number: u8 = 0;
-    let address = (v[0] % Row::WIDE) as u32;
-    let part = asking::board_text(state, address, front(message, v[1]), &mut number);
-    shown(2, number, 0, part)
+fn board(row: Row, state: &[u8], message: &[u8]) -> Answer {
+    let notice = front(message, row.values[1]);
+    let (answer, text) = asking::board_text(state, row.wide(0), notice);
+    let number = match answer {
+        Ok(Some(freshness)) => freshness.into(),
+        Ok(None) => 4,
+        Err(refusal) => refusal.into(),
+    };
+    shown(2, number, 0, text)
 }
 
 fn shown(args: usize, number: u8, at: usize, part: &[u8]) -> Answer {
-    let digest = digested(START, part);
-    Answer {
+    Answer::new(
         args,
-        len: 4,
-        values: [
-            number as u64,
+        [
+            number.into(),
             at as u64,
             part.len() as u64,
-            digest,
-            0,
-            0,
-            0,
-            0,
+            Digest::of(part).into(),
         ],
-    }
+    )
 }
 
-fn write(v: [u64; 24], images: &mut [u8], message: &[u8]) -> Answer {
-    let address = (v[0] % Row::WIDE) as u32;
-    let protection = (v[1] % Row::WIDE) as u32;
-    let out = v[3] as usize;
-    if images.len() < out {
-        return Answer::unknown();
-    }
-    let number = adapter::write::group(
-        address,
-        protection,
-        front(message, v[2]),
-        &mut images[0..out],
+// No call is made where more bytes of the images are lent than there are.
+fn write(row: Row, images: &mut [u8], message: &[u8]) -> Option<Answer> {
+    let out = images.get_mut(..row.values[3] as usize)?;
+    let written = adapter::write::group(
+        row.wide(0),
+        row.wide(1),
+        front(message, row.values[2]),
+        out,
     );
-    behind(4, number, images)
+    Some(Answer::behind(4, told(&written), images))
 }

@@ -10,109 +10,139 @@
 // read-header-plain 7. Of many, a header to be written is one number: its address, and 1,024 for each index; and one to be read at a setting,
 // by either reader: the header, and 2^23 for each flip of the setting. Their digest goes over the numbers of each answer, four of them and
 // four bytes a number, lowest first.
-use bare::{Header, Written};
-use rows::bytes::{START, with};
-use rows::{Answer, Row, tell};
+ghost use Rattle.std.specs.Prelude.{◌<◌, ◌≤◌};
 
-pub fn called(row: Row) -> Answer {
-    let names =
-        b"read-header write-header read-word write-word read-type write-type read-header-within read-header-plain many ";
-    let v = row.values;
-    let call = tell::place(names, row.name);
-    if call == 8 {
-        return Answer::one(4, many(v));
-    }
-    one(call, (v[0] % Row::WIDE) as u32, (v[1] % Row::WIDE) as u32)
+use bare::Header;
+use faults::Refusal;
+use rows::bytes::Digest;
+use rows::{Answer, Row};
+
+#[derive(Clone, Copy)]
+enum Call {
+    ReadHeader,
+    WriteHeader,
+    ReadWord,
+    WriteWord,
+    ReadType,
+    WriteType,
+    ReadHeaderWithin,
+    ReadHeaderPlain,
 }
 
-fn one(call: u8, n: u32, second: u32) -> Answer {
-    match call {
-        0 => header(1, bare::read_header(n)),
-        1 => written(2, bare::write_header(n, second)),
-        2 => word(n),
-        3 => written(1, bare::write_word(n)),
-        4 => kind((n % 256) as u8),
-        5 => written(1, bare::write_type((n % 256) as u8)),
-        6 => header(2, bare::read_header_within(n, second)),
-        7 => header(2, plain::read_header(n, second)),
-        _ => Answer::unknown(),
+// In the order of their numbers.
+const CALLS: [(&str, Call); 8] = [
+    ("read-header", Call::ReadHeader),
+    ("write-header", Call::WriteHeader),
+    ("read-word", Call::ReadWord),
+    ("write-word", Call::WriteWord),
+    ("read-type", Call::ReadType),
+    ("write-type", Call::WriteType),
+    ("read-header-within", Call::ReadHeaderWithin),
+    ("read-header-plain", Call::ReadHeaderPlain),
+];
+
+pub fn called(row: Row) -> Option<Answer> {
+    if row.is("many") {
+        return Some(Answer::new(4, [many(row).into()]));
+    }
+    let (_, call) = CALLS.iter().find(|(name, _)| row.is(name))?;
+    Some(call.answered(row.wide(0), row.wide(1)))
+}
+
+impl Call {
+    fn answered(self, n: u32, second: u32) -> Answer {
+        match self {
+            Self::ReadHeader => header(1, bare::read_header(n)),
+            Self::WriteHeader => written(2, bare::write_header(n, second)),
+            Self::ReadWord => word(n),
+            Self::WriteWord => written(1, bare::write_word(n)),
+            Self::ReadType => kind((n % 256) as u8),
+            Self::WriteType => written(
+                1,
+                bare::write_type((n % 256) as u8).map(|kind| u8::from(kind).into()),
+            ),
+            Self::ReadHeaderWithin => header(2, bare::read_header_within(n, second)),
+            Self::ReadHeaderPlain => header(2, plain::read_header(n, second)),
+        }
+    }
+
+    // The same of one number.
+    fn answered_one(self, n: u32) -> Answer {
+        match self {
+            Self::WriteHeader => self.answered(n % Header::ADDRESSES, n / Header::ADDRESSES),
+            Self::ReadHeaderWithin | Self::ReadHeaderPlain => {
+                self.answered(n % Header::NUMBERS, n / Header::NUMBERS)
+            }
+            _ => self.answered(n, 0),
+        }
     }
 }
 
-fn header(args: usize, read: Header) -> Answer {
-    Answer {
+fn header(args: usize, read: Result<Header, Refusal>) -> Answer {
+    told(
         args,
-        len: 4,
-        values: [
-            read.number as u64,
-            read.address as u64,
-            read.index as u64,
-            read.flips as u64,
-            0,
-            0,
-            0,
-            0,
-        ],
-    }
+        read.map(|header| {
+            [
+                0,
+                header.address.into(),
+                header.index.into(),
+                header.flips.into(),
+            ]
+        }),
+    )
 }
 
 fn word(n: u32) -> Answer {
     let read = bare::read_word(n);
-    three(read.number, read.information, read.flips)
+    told(
+        1,
+        read.map(|word| [0, word.information.into(), word.flips.into()]),
+    )
 }
 
 fn kind(byte: u8) -> Answer {
     let read = bare::read_type(byte);
-    three(read.number, read.value as u16, read.flips)
-}
-
-fn three(number: u8, value: u16, flips: u8) -> Answer {
-    Answer {
-        args: 1,
-        len: 3,
-        values: [number as u64, value as u64, flips as u64, 0, 0, 0, 0, 0],
-    }
-}
-
-fn written(args: usize, written: Written) -> Answer {
-    Answer::two(args, written.number, written.value as u64)
-}
-
-fn many(v: [u64; 24]) -> u64 {
-    let call = (v[0] % Row::BYTE) as u8;
-    let step = (v[2] % Row::WIDE) as u32;
-    let times = v[3] % Row::WIDE;
-    let mut n = (v[1] % Row::WIDE) as u32;
-    let mut hash = START;
-    let mut k: u64 = 0;
-    while k < times {
-        hash = with_answer(hash, one_of(call, n));
-        n = std::num::wrapping_add_u32(n, step);
-        k += 1;
-    }
-    hash
-}
-
-fn one_of(call: u8, n: u32) -> Answer {
-    match call {
-        1 => one(call, n % Header::ADDRESSES, n / Header::ADDRESSES),
-        6 | 7 => one(call, n % Header::NUMBERS, n / Header::NUMBERS),
-        _ => one(call, n, 0),
-    }
-}
-
-fn with_answer(hash: u64, answer: Answer) -> u64 {
-    let v = answer.values;
-    with_four(
-        with_four(with_four(with_four(hash, v[0]), v[1]), v[2]),
-        v[3],
+    told(
+        1,
+        read.map(|read| [0, u8::from(read.kind).into(), read.flips.into()]),
     )
 }
 
-fn with_four(hash: u64, n: u64) -> u64 {
-    let low = with(with(hash, (n % 256) as u8), (n / 256 % 256) as u8);
-    with(
-        with(low, (n / 65536 % 256) as u8),
-        (n / 16777216 % 256) as u8,
-    )
+fn written(args: usize, written: Result<u32, Refusal>) -> Answer {
+    told(args, written.map(|value| [0, value.into()]))
+}
+
+// The number 0 and values; or a refusal's number, with 0 for every value.
+fn told<const N: usize>(args: usize, values: Result<[u64; N], Refusal>) -> Answer
+    requires some { 0 < N }
+    requires room { N ≤ 8 }
+{
+    Answer::new(args, values.unwrap_or_else(refused))
+}
+
+fn refused<const N: usize>(refusal: Refusal) -> [u64; N]
+    requires { 0 < N }
+{
+    let mut values = [0; N];
+    values[0] = u8::from(refusal).into();
+    values
+}
+
+// Of a number that is no call's, no numbers come, which are 0.
+fn many(row: Row) -> Digest {
+    let call = CALLS.get(row.byte(0) as usize).map(|(_, call)| *call);
+    let mut n = row.wide(1);
+    let mut digest = Digest::START;
+    for _ in 0..row.wide(3) {
+        let values = call.map_or([0; 8], |call| call.answered_one(n).values);
+        digest = with_four(digest, values);
+        n = n.wrapping_add(row.wide(2));
+    }
+    digest
+}
+
+fn with_four(digest: Digest, values: [u64; 8]) -> Digest {
+    values[..4].iter().fold(digest, |digest, n| {
+        digest.over(&((*n % Row::WIDE) as u32).to_le_bytes())
+    })
 }

@@ -5,34 +5,35 @@
 //     received PROTECTION LENGTH = NUMBER PLACE INDEX BYTES    so many bytes of the images are lent
 use crate::codes;
 use image::Packet;
-use rows::bytes::{START, copy, digested, front, whole};
-use rows::{Answer, Row, tell};
+use rows::bytes::{Digest, copy, front};
+use rows::{Answer, Row};
 use words::Data;
 
-pub fn called(row: Row, images: &mut [u8], message: &mut [u8]) -> Answer {
-    let v = row.values;
-    match tell::place(b"image protect received ", row.name) {
-        0 => image(v, images, message),
-        1 => protect(message),
-        2 => received(v, images),
-        _ => codes::called(row),
+pub fn called(row: Row, images: &mut [u8], message: &mut [u8]) -> Option<Answer> {
+    if row.is("image") {
+        Some(image(row, images, message))
+    } else if row.is("protect") {
+        Some(protect(message))
+    } else if row.is("received") {
+        Some(received(row, images))
+    } else {
+        codes::called(row)
     }
 }
 
-fn image(v: [u64; 24], images: &mut [u8], message: &[u8]) -> Answer {
+fn image(row: Row, images: &mut [u8], message: &[u8]) -> Answer {
     let mut useful = [0u8; Packet::USEFUL];
     copy(message, &mut useful);
-    let kind = (v[2] % Row::BYTE) as u8;
     let mut image = [0u8; Packet::IMAGE];
     packet::write(
-        (v[0] % 1024) as u32,
-        (v[1] % 4) as u32,
-        kind,
+        row.wide(0) % 1024,
+        row.wide(1) % 4,
+        row.byte(2),
         &useful,
         &mut image,
     );
     copy(&image, images);
-    whole(3, images)
+    Answer::whole(3, images)
 }
 
 fn protect(message: &mut [u8]) -> Answer {
@@ -40,25 +41,23 @@ fn protect(message: &mut [u8]) -> Answer {
     copy(message, &mut data);
     let useful = words::protect(&data);
     copy(&useful, message);
-    whole(0, message)
+    Answer::whole(0, message)
 }
 
-fn received(v: [u64; 24], images: &[u8]) -> Answer {
-    let reading = packet::received(v[0] == 1, front(images, v[1]));
-    let bytes = reading.bytes;
-    let digest = digested(START, &bytes);
-    Answer {
-        args: 2,
-        len: 4,
-        values: [
-            reading.number as u64,
-            reading.place as u64,
-            reading.index as u64,
-            digest,
+fn received(row: Row, images: &[u8]) -> Answer {
+    let values = match packet::received(row.values[0] == 1, front(images, row.values[1])) {
+        Ok(reading) => [
             0,
             0,
-            0,
-            0,
+            reading.index.into(),
+            Digest::of(&reading.bytes).into(),
         ],
-    }
+        Err(unread) => [
+            u8::from(unread.refusal).into(),
+            unread.place.into(),
+            0,
+            Digest::of(&[0u8; Packet::USEFUL]).into(),
+        ],
+    };
+    Answer::new(2, values)
 }

@@ -19,7 +19,7 @@ use lib.Seq.{length-take-le}
 use Rattle.bits.proofs.Rows.{further-refused, further-passed, done-passed}
 use Rattle.packet.specs.Received.{received}
 use Rattle.packet.specs.Damage.{data_size, Refused}
-use Rattle.packet.specs.declared.Reading.{Reading}
+use Rattle.packet.specs.Received.{ReadingAnswer}
 use Rattle.packet.proofs.Answers.{received-length, received-either}
 use Rattle.slot.specs.Slot.{slot_size, head_of, good_slot}
 use Rattle.head.specs.Head.{dropped_head, good_head}
@@ -44,10 +44,10 @@ use Rattle.head.proofs.Moves.{moved-wish}
 
 -- ---- what an image is to the address that it is read as
 
-pub fault-answered : (r : Reading) → Refused r → number (fault_of r.number) ≡ r.number
+pub fault-answered : (r : ReadingAnswer) → Refused r → number (fault_of r.number) ≡ r.number
 fault-answered r f = (fault-number r.number f).0
 
-pub refused-not-zero : (r : Reading) → Refused r → r.number ≡ 0 → ⊥
+pub refused-not-zero : (r : ReadingAnswer) → Refused r → r.number ≡ 0 → ⊥
 refused-not-zero r f z = unreadable-not-zero r.number f z
 
 block_size : (h : Head) → data_size (eqb h.wish.protection 1) ≡ block_of h
@@ -84,7 +84,7 @@ module _ (x image : List ℕ) (l : length x ≡ slot_size) (g : good_head (head_
   abbrev p : Bool
   p = eqb (head_of x).wish.protection 1
 
-  abbrev r : Reading
+  abbrev r : ReadingAnswer
   r = received p image
 
   abbrev b : List ℕ

@@ -24,7 +24,7 @@ use Rattle.bits.specs.Bits.{flips}
 use Rattle.image.specs.Image.{header_of, spare_of}
 use Rattle.packet.specs.Received.{received, readable_as, written}
 use Rattle.packet.specs.Damage.{data_size, carried, sent_image, Kept, Any, CameBy, Came}
-use Rattle.packet.specs.declared.Reading.{Reading}
+use Rattle.packet.specs.Received.{ReadingAnswer}
 use Rattle.packet.proofs.Answers.{filled-begins}
 use Rattle.packet.proofs.Damages.{carried-length, carried-below, written-came, written-flipped-by, header-came, received-control, received-came}
 use Rattle.faults.specs.Faults.{number, drops, type_control, word_unreadable, fault_of}
@@ -70,7 +70,7 @@ module _ (p : Bool) (k a c : ℕ) (d image : List ℕ) (hk : k ≤ 3) (ha : a �
       go : (received p image ≡ readable_as c d) ⊎ ((received p image).number ≡ number word_unreadable)
           → one.packet (received p image).index (take (data_size p) (received p image).bytes) ≡ one.packet c d
       go (inl e) =
-          ap (λ (r : Reading). one.packet r.index (take (data_size p) r.bytes)) e
+          ap (λ (r : ReadingAnswer). one.packet r.index (take (data_size p) r.bytes)) e
           ∙ ap (one.packet c) (filled-begins (data_size p) d l)
       go (inr f) = absurd (omega (arith, f, z))
 
@@ -80,7 +80,7 @@ module _ (p : Bool) (k a c : ℕ) (d image : List ℕ) (hk : k ≤ 3) (ha : a �
   came-drops m e = go came-either
     where
       go : (received p image ≡ readable_as c d) ⊎ ((received p image).number ≡ number word_unreadable) → drops (fault_of (suc m)) ≡ true
-      go (inl q) = absurd (omega (arith, e, ap (λ (r : Reading). r.number) q))
+      go (inl q) = absurd (omega (arith, e, ap (λ (r : ReadingAnswer). r.number) q))
       go (inr f) = ap (λ (n : ℕ). drops (fault_of n)) (sym e ∙ f)
 
 -- of a control packet
@@ -92,7 +92,7 @@ control-event : (p : Bool) (k a : ℕ) (image : List ℕ) → a ≤ 1023 → Com
 unfolding fault_of
 control-event p k a image ha x =
     let below = x.below in
-    let e = ap (λ (r : Reading). r.number)
+    let e = ap (λ (r : ReadingAnswer). r.number)
     (received-control p k a x.index x.useful image ha (omega arith) x.size x.bytes x.came) in
     event-refused p image (λ z. omega (arith, e, z)) ∙ ap (λ (n : ℕ). one.refused (fault_of n)) e
 

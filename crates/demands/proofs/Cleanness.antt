@@ -21,7 +21,7 @@ use lib.Seq.{drop_at, drop-drop, length-take-le}
 use Rattle.bits.specs.Bits.{blank}
 use Rattle.bits.proofs.Rows.{done-passed, done_refused, done-either}
 use Rattle.bits.proofs.Storing.{blank-length, drop-blank}
-use Rattle.packet.specs.declared.Reading.{Reading}
+use Rattle.packet.specs.Received.{ReadingAnswer}
 use Rattle.packet.proofs.Answers.{received-length}
 use Rattle.runs.specs.Part.{part, put}
 use Rattle.slot.specs.Slot.{room_size, slot_size, head_of, with_head, unfinished, stored, with_unfinished, kept_room, free, good_slot}
@@ -183,7 +183,7 @@ taken-clean : (x image : List ℕ) → length x ≡ slot_size → good_head (hea
 unfolding taken_after reading_at
 taken-clean x image l g k = go (ℕ_discrete r.number 0)
   where
-    r : Reading
+    r : ReadingAnswer
     r = reading_at x image
 
     fits : Fits (row_at (head_of x) r.index) (place_at (head_of x) r.index) (take (block_of (head_of x)) r.bytes) x

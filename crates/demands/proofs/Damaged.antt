@@ -37,7 +37,7 @@ use Rattle.bare.specs.Bare.{header_read, types, type_near}
 use Rattle.image.specs.Image.{header_of, bytes_of, spare_of}
 use Rattle.packet.specs.Received.{received}
 use Rattle.packet.specs.Damage.{sent_image, Came, Corrected}
-use Rattle.packet.specs.declared.Reading.{Reading}
+use Rattle.packet.specs.Received.{ReadingAnswer}
 use Rattle.packet.proofs.Answers.{answer-length}
 use Rattle.packet.proofs.Damages.{sent-corrected, corrected-came, sent-spare, received-sent, header-came, header-flipped-by}
 use Rattle.packet.proofs.Flipped.{Flipping, flipped, Fits, word_flips, flipped-spare, flipped-header, flipped-type, flipped_word, flipped-came, flipped-read, flipped-short, flipped-control, control-came, spare_set, spare_set-spare, spare_set-header}
@@ -81,7 +81,7 @@ pub sent-receives : (i c : ℕ) → c < 4 → Receives i c (as-sent i c) 0
 sent-receives i c h = record {
   came = corrected-came true 3 (as-sent i c) (as-sent i c) (sent-corrected true 3 17 c (worked-sent i c));
   spare = sent-spare true 17 c (worked-sent i c) (lit≤ tt) (omega arith) (sent-size i c) (sent-bytes i c);
-  number = ap (λ (r : Reading). r.number) (received-sent true 17 c (worked-sent i c) (lit≤ tt) (omega arith) (sent-size i c) (sent-bytes i c));
+  number = ap (λ (r : ReadingAnswer). r.number) (received-sent true 17 c (worked-sent i c) (lit≤ tt) (omega arith) (sent-size i c) (sent-bytes i c));
 }
 
 -- the lowest bit of the address, the highest of the index and the last of the remainder
@@ -209,7 +209,7 @@ module _ (i c : ℕ) (h : c < 4) where
       record {
         came = flipped-came 17 c (worked-sent i c) header-three header-fits 3 few no-flips (no_ones 4);
         spare = flipped-spare 17 c (worked-sent i c) header-three header-fits;
-        number = ap (λ (r : Reading). r.number) (flipped-read 17 c (worked-sent i c) header-three header-fits few no-flips (no_ones 3));
+        number = ap (λ (r : ReadingAnswer). r.number) (flipped-read 17 c (worked-sent i c) header-three header-fits few no-flips (no_ones 3));
       }
 
   pub word-three-receives : Receives i c (hit i c word-three) 0
@@ -218,7 +218,7 @@ module _ (i c : ℕ) (h : c < 4) where
       record {
         came = flipped-came 17 c (worked-sent i c) word-three three-fits 3 (no_ones 3) no-flips (omega (arith, few));
         spare = flipped-spare 17 c (worked-sent i c) word-three three-fits;
-        number = ap (λ (r : Reading). r.number) (flipped-read 17 c (worked-sent i c) word-three three-fits (no_ones 3) no-flips few);
+        number = ap (λ (r : ReadingAnswer). r.number) (flipped-read 17 c (worked-sent i c) word-three three-fits (no_ones 3) no-flips few);
       }
 
   pub word-four-receives : Receives i c (hit i c word-four) 31
@@ -234,7 +234,7 @@ module _ (i c : ℕ) (h : c < 4) where
       record {
         came = flipped-came 17 c (worked-sent i c) type-two type-fits 3 (no_ones 3) two (no_ones 4);
         spare = flipped-spare 17 c (worked-sent i c) type-two type-fits;
-        number = ap (λ (r : Reading). r.number) (flipped-read 17 c (worked-sent i c) type-two type-fits (no_ones 3) two (no_ones 3));
+        number = ap (λ (r : ReadingAnswer). r.number) (flipped-read 17 c (worked-sent i c) type-two type-fits (no_ones 3) two (no_ones 3));
       }
 
 -- ---- what comes of a control packet
@@ -312,7 +312,7 @@ cut-read =
     ∙ sent-read 2 2 (lit< tt)
 
 pub cut-number : (received true cut).number ≡ 20
-cut-number = ap (λ (r : Reading). r.number) (answer-length true cut cut_short)
+cut-number = ap (λ (r : ReadingAnswer). r.number) (answer-length true cut cut_short)
 
 pub cut_apart : Apart 17 3 (packet cut)
 unfolding Apart

@@ -24,8 +24,7 @@ use Rattle.table.specs.State.{setting, find}
 use Rattle.table.specs.Calls.{follow_answer, follow_after, end_after}
 use Rattle.table.proofs.Looking.{leave-27}
 use Rattle.table.proofs.States.{each-good}
-use Rattle.asking.specs.Asking.{asked, ask_part}
-use Rattle.asking.specs.declared.Asked.{Asked}
+use Rattle.asking.specs.Asking.{Asked, asked, ask_part}
 use Rattle.asking.proofs.Laws.{asked-refused}
 use Rattle.history.specs.Followed as one
 use Rattle.history.specs.Sent.{group, groups, In, Exactly}

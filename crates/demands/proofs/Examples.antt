@@ -26,7 +26,7 @@ use Rattle.bare.specs.Bare.{header_read}
 use Rattle.image.specs.Image.{header_of}
 use Rattle.packet.specs.Received.{received, readable_as}
 use Rattle.packet.specs.Damage.{sent_image}
-use Rattle.packet.specs.declared.Reading.{Reading}
+use Rattle.packet.specs.Received.{ReadingAnswer}
 use Rattle.packet.proofs.Damages.{sent-corrected, corrected-came, sent-spare, received-sent, header-came}
 use Rattle.head.specs.Head.{within, wish_of, good_wish}
 use Rattle.head.proofs.Wishes.{outside, wish-passes}
@@ -120,7 +120,7 @@ pub clean-read : (c : ℕ) → c < 4 → received false (clean c) ≡ readable_a
 clean-read c h = received-sent false 17 c (blank 90) (lit≤ tt) (omega arith) (blank-length 90) (bytes-zero 90)
 
 clean-number : (c : ℕ) → c < 4 → (received false (clean c)).number ≡ 0
-clean-number c h = ap (λ (r : Reading). r.number) (clean-read c h)
+clean-number c h = ap (λ (r : ReadingAnswer). r.number) (clean-read c h)
 
 pub whole-arrived : Arrived false whole-group 0
 unfolding Arrived ReadableIn

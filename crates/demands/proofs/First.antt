@@ -24,7 +24,7 @@ use Rattle.plain.specs.Plain.{header_plain}
 use Rattle.bits.proofs.Rows.{further-refused, further-passed, done_refused, done-passed}
 use Rattle.packet.specs.Received.{useful_of}
 use Rattle.packet.specs.Damage.{Refused}
-use Rattle.packet.specs.declared.Reading.{Reading}
+use Rattle.packet.specs.Received.{ReadingAnswer}
 use Rattle.packet.proofs.Answers.{received-either}
 use Rattle.runs.specs.Part.{part}
 use Rattle.runs.proofs.Parts.{put-part}
@@ -39,8 +39,7 @@ use Rattle.table.specs.State.{state_size, started_state, slot_at, with_slot, fin
 use Rattle.table.specs.Calls.{start_answer, start_after, follow_answer, follow_after, leave_answer, leave_after, end_answer, end_after, set_answer, set_after}
 use Rattle.table.proofs.Doing.{start-passed}
 use Rattle.table.proofs.Vectors.{started-bytes}
-use Rattle.asking.specs.Asking.{asked_at, asked_by, asked, ask_part}
-use Rattle.asking.specs.declared.Asked.{Asked}
+use Rattle.asking.specs.Asking.{Asked, asked_at, asked_by, asked, ask_part}
 use Rattle.asking.proofs.Laws.{asked-group, asked-none, asked-refused, asked-found}
 use Rattle.group.specs.Group.{refused_after, slot_moved, slot_dropped, taken_number, taken_after}
 use Rattle.group.proofs.Laws.{dropped-room, dropped-stored, dropped-head}
@@ -157,7 +156,7 @@ drops-in : (n : ℕ) → number_drops n ≡ true → In n dropping
 unfolding member
 drops-in n e = among_in n dropping (subst T (sym (sym (dropping-is n) ∙ e)) tt)
 
-refused-in : (r : Reading) → Refused r → In r.number (29 ∷ dropping)
+refused-in : (r : ReadingAnswer) → Refused r → In r.number (29 ∷ dropping)
 unfolding In
 refused-in r (inl e) = inr (inl e)
 refused-in r (inr (inl e)) = inl e
@@ -166,7 +165,7 @@ refused-in r (inr (inr (inr (inl e)))) = inr (inr (inr (inl e)))
 refused-in r (inr (inr (inr (inr (inl e))))) = inr (inr (inr (inr (inl e))))
 refused-in r (inr (inr (inr (inr (inr x))))) = absurd x
 
-taken_in : (r : Reading) (h : Head) → (r.number ≡ 0) ⊎ Refused r → In (taken_number r h) placed_numbers
+taken_in : (r : ReadingAnswer) (h : Head) → (r.number ≡ 0) ⊎ Refused r → In (taken_number r h) placed_numbers
 unfolding taken_number
 taken_in r h (inl z) = subst (λ (n : ℕ). In n placed_numbers) (sym (further-passed r.number _ z)) (move_in (row_at h r.index))
 taken_in r h (inr f) =
@@ -186,7 +185,7 @@ move-drops whole c b x h = absurd (in-among 3 dropping h)
 move-drops out_of_step c b x h = sym (out-drops c b x)
 
 -- a reading that is answered with one of these drops
-taken-drops : (r : Reading) (x : List ℕ) → (r.number ≡ 0) ⊎ Refused r → In (taken_number r (head_of x)) dropping → taken_after r x ≡ slot_dropped x
+taken-drops : (r : ReadingAnswer) (x : List ℕ) → (r.number ≡ 0) ⊎ Refused r → In (taken_number r (head_of x)) dropping → taken_after r x ≡ slot_dropped x
 unfolding taken_number taken_after
 taken-drops r x (inl z) h =
     done-passed r.number _ (refused_after r.number x) z
@@ -210,7 +209,7 @@ not-drops n h = go (number_drops n) refl
     go false e = e
 
 -- and one that is answered with a number that changes nothing leaves its slot: a control packet
-taken-stays : (r : Reading) (x : List ℕ) → (r.number ≡ 0) ⊎ Refused r → In (taken_number r (head_of x)) unchanging → taken_after r x ≡ x
+taken-stays : (r : ReadingAnswer) (x : List ℕ) → (r.number ≡ 0) ⊎ Refused r → In (taken_number r (head_of x)) unchanging → taken_after r x ≡ x
 unfolding taken_number
 taken-stays r x (inl z) h = absurd (move-not _ (subst (λ (n : ℕ). In n unchanging) (further-passed r.number _ z) h))
 taken-stays r x (inr f) h =
@@ -221,7 +220,7 @@ module _ (s image : List ℕ) (p : Placed s image) where
   abbrev x : List ℕ
   x = slot_at (find s (address_of image)) s
 
-  abbrev r : Reading
+  abbrev r : ReadingAnswer
   r = reading_at x image
 
   reading : (r.number ≡ 0) ⊎ Refused r

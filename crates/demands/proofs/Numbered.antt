@@ -21,7 +21,7 @@ use lib.ListN.{length}
 use Rattle.bits.specs.Rows.{Row, row, refusal, further, given}
 use Rattle.bits.proofs.Rows.{further-passed, further-refused}
 use Rattle.bare.specs.Bare.{header_read, header_within, header_written, word_read, word_written, type_read, type_written}
-use Rattle.bare.specs.declared.Header.{Header}
+use Rattle.bare.specs.Bare.{HeaderAnswer}
 use Rattle.bare.proofs.Bare.{header-large}
 use Rattle.bare.proofs.Theorems.{header-exactly}
 use Rattle.plain.proofs.Theorems.{plain-is-table}
@@ -34,8 +34,7 @@ use Rattle.head.specs.declared.Head.{Head}
 use Rattle.head.specs.declared.Wish.{Wish}
 use Rattle.table.specs.State.{slot_at, find}
 use Rattle.table.specs.Calls.{start_answer, follow_answer, leave_answer, end_answer, set_answer}
-use Rattle.asking.specs.Asking.{asked_at, asked_by, asked}
-use Rattle.asking.specs.declared.Asked.{Asked}
+use Rattle.asking.specs.Asking.{Asked, asked_at, asked_by, asked}
 use Rattle.group.specs.Group.{taken_number}
 use Rattle.history.specs.Sent.{In}
 use Rattle.adapter.specs.Calls.{address_of, beyond, unplaced, reading_at, packet_answer, group_size, write_answer}
@@ -77,8 +76,8 @@ index-small n = go (dec_lt n (2 ^ 23))
     go : Dec (n < 2 ^ 23) → (header_read n).index < 4
     go (yes h) =
         let r = header-exactly n h in
-        omega (arith, ap (λ (x : Header). x.index) r.reads, r.information)
-    go (no h) = omega (arith, ap (λ (x : Header). x.index) (header-large n (omega arith)))
+        omega (arith, ap (λ (x : HeaderAnswer). x.index) r.reads, r.information)
+    go (no h) = omega (arith, ap (λ (x : HeaderAnswer). x.index) (header-large n (omega arith)))
 
 -- section 4's table, by the two indices
 move-answers : (a c : ℕ) → c < 4
@@ -238,7 +237,7 @@ unfolding bare_number bare_rows header_read header_within header_written word_re
 bare-answers (read_header n) = answers-same _ _ refl
 bare-answers (read_within n most) = answers-same _ _ refl
 bare-answers (read_plain n most) =
-    answers-same (bare_rows (read_plain n most)) (bare_number (read_plain n most)) (ap (λ (h : Header). h.number) (plain-is-table n most))
+    answers-same (bare_rows (read_plain n most)) (bare_number (read_plain n most)) (ap (λ (h : HeaderAnswer). h.number) (plain-is-table n most))
 bare-answers (write_header a i) = answers-same _ _ refl
 bare-answers (read_word n) = answers-same _ _ refl
 bare-answers (write_word i) = answers-same _ _ refl

@@ -25,8 +25,7 @@ use Rattle.slot.specs.Slot.{head_of}
 use Rattle.table.specs.State.{setting, slot_at, find}
 use Rattle.table.specs.Calls.{end_answer}
 use Rattle.table.proofs.Looking.{follow-wish, leave-27}
-use Rattle.asking.specs.Asking.{asked, ask_part}
-use Rattle.asking.specs.declared.Asked.{Asked}
+use Rattle.asking.specs.Asking.{Asked, asked, ask_part}
 use Rattle.asking.proofs.Laws.{asked-refused}
 use Rattle.history.specs.Sent.{In}
 use Rattle.adapter.specs.Calls.{address_of, flips_of, followed, packet_answer, write_after}

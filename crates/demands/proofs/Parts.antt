@@ -20,7 +20,7 @@ use native.Mathlib.Decide.{ℕ_discrete}
 use borrow.Author.Tests.{eq-eqb, ne_eqb, le-ltb}
 use lib.Dec.{leb, ltb, eqb}
 use lib.ListN.{length}
-use Rattle.packet.specs.declared.Reading.{Reading}
+use Rattle.packet.specs.Received.{ReadingAnswer}
 use Rattle.runs.specs.Part.{part}
 use Rattle.slot.specs.Slot.{slot_size, whole_at, room_size, head_of, stored}
 use Rattle.head.specs.Head.{ask_number}
@@ -29,8 +29,7 @@ use Rattle.runs.proofs.Parts.{part-part}
 use Rattle.table.specs.State.{state_size, setting, slot_at, with_slot, find, good}
 use Rattle.table.proofs.States.{good-each, slot_same, slot-other, with-length, setting_kept}
 use Rattle.table.proofs.Looking.{leave-0}
-use Rattle.asking.specs.Asking.{group_length, asked_at, asked, ask_part}
-use Rattle.asking.specs.declared.Asked.{Asked}
+use Rattle.asking.specs.Asking.{Asked, group_length, asked_at, asked, ask_part}
 use Rattle.asking.proofs.Laws.{asked-group, asked-none, asked-found}
 use Rattle.group.specs.Group.{taken_number, taken_after}
 use Rattle.adapter.specs.Calls.{address_of, followed, unplaced, reading_at, slot_answer, slot_after, packet_answer, packet_after}
@@ -130,7 +129,7 @@ module _ (s image : List ℕ) (p : Placed s image) where
   abbrev k : ℕ
   k = find s (address_of image)
 
-  abbrev r : Reading
+  abbrev r : ReadingAnswer
   r = reading_at (slot_at k s) image
 
   abbrev b : List ℕ

@@ -23,12 +23,12 @@ use lib.Seq.{take_at, drop_at, take_all, drop-drop}
 use Rattle.bits.proofs.Rows.{done-passed}
 use Rattle.bits.proofs.Runs.{below-take, below-drop}
 use Rattle.bits.specs.Bits.{flips}
-use Rattle.bare.specs.declared.Header.{Header}
+use Rattle.bare.specs.Bare.{HeaderAnswer}
 use Rattle.plain.proofs.Theorems.{plain-is-table}
 use Rattle.image.specs.Image.{header_of, spare_of}
 use Rattle.packet.specs.Received.{received, readable_as}
 use Rattle.packet.specs.Damage.{data_size, sent_image, Corrected}
-use Rattle.packet.specs.declared.Reading.{Reading}
+use Rattle.packet.specs.Received.{ReadingAnswer}
 use Rattle.packet.proofs.Answers.{filled-begins}
 use Rattle.packet.proofs.Damages.{header-came, header-flipped-by, received-corrected, sent-corrected, sent-spare}
 use Rattle.runs.specs.Part.{part}
@@ -187,8 +187,8 @@ seen-protection s a f e = ap (λ (g : Followed). eqb g.head.wish.protection 1) e
 
 event-sent : (q : Bool) (i : ℕ) (d t : List ℕ) → received q t ≡ readable_as i d → length d ≡ data_size q → event_of q t ≡ one.packet i d
 event-sent q i d t e l =
-    event-read q t (ap (λ (r : Reading). r.number) e)
-    ∙ ap (λ (r : Reading). one.packet r.index (take (data_size q) r.bytes)) e
+    event-read q t (ap (λ (r : ReadingAnswer). r.number) e)
+    ∙ ap (λ (r : ReadingAnswer). one.packet r.index (take (data_size q) r.bytes)) e
     ∙ ap (one.packet i) (filled-begins (data_size q) d l)
 
 module _ (s : List ℕ) (a : ℕ) (q : Bool) (most k : ℕ) (f : Followed) (r : Reads s a q most k f) (i : ℕ) (d t : List ℕ) (b : Brings q most a i d t) where
@@ -376,7 +376,7 @@ module _ (s : List ℕ) (a p : ℕ) (m o t0 t1 t2 t3 : List ℕ) (w : Follows s 
 same-readers : (n most : ℕ) → (bare_number (read_plain n most) ≡ bare_number (read_within n most)) × (bare_values (read_plain n most) ≡ bare_values (read_within n most))
 unfolding bare_number bare_values
 same-readers n most =
-    (ap (λ (h : Header). h.number) (plain-is-table n most), ap (λ (h : Header). h.address ∷ h.index ∷ h.flips ∷ []) (plain-is-table n most))
+    (ap (λ (h : HeaderAnswer). h.number) (plain-is-table n most), ap (λ (h : HeaderAnswer). h.address ∷ h.index ∷ h.flips ∷ []) (plain-is-table n most))
 
 pub demand-2 : Demand2 ours
 demand-2 = record {

@@ -18,7 +18,7 @@ use lib.ListN.{length, get_or, replicate}
 use Rattle.bits.specs.Bits.{blank}
 use Rattle.bits.proofs.Storing.{blank-length}
 use Rattle.packet.specs.Damage.{sent_image}
-use Rattle.packet.specs.declared.Reading.{Reading}
+use Rattle.packet.specs.Received.{ReadingAnswer}
 use Rattle.packet.proofs.Damages.{sent-corrected, corrected-came, sent-spare, received-sent}
 use Rattle.runs.specs.Part.{put}
 use Rattle.slot.specs.Slot.{slot_size, head_of, with_head}
@@ -84,7 +84,7 @@ one-event c h es l e =
     (ap (λ (b : Bool). cond b (event_of false (one-image c) ∷ []) []) (is-arrives 17 3 (one-image c) (one-arrives c l))
     ∙ ap (λ (x : one.Event). x ∷ []) (came-event false 3 17 c ones (one-image c) (lit≤ tt) (lit≤ tt) l ones-length ones-bytes
     (corrected-came false 3 _ _ (sent-corrected false 3 17 c ones))
-    (ap (λ (r : Reading). r.number) (received-sent false 17 c ones (lit≤ tt) (omega arith) ones-length ones-bytes)))) e
+    (ap (λ (r : ReadingAnswer). r.number) (received-sent false 17 c ones (lit≤ tt) (omega arith) ones-length ones-bytes)))) e
 
 -- the four packets of a group, and one more
 abbrev then : ℕ → List Call

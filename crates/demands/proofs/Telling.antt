@@ -19,7 +19,7 @@ use lib.ListN.{length}
 use Rattle.image.specs.Image.{spare_of}
 use Rattle.packet.specs.Received.{received}
 use Rattle.packet.specs.Damage.{Refused}
-use Rattle.packet.specs.declared.Reading.{Reading}
+use Rattle.packet.specs.Received.{ReadingAnswer}
 use Rattle.head.specs.Move.{Move, started, held, whole, out_of_step, move_of, move_number}
 use Rattle.table.specs.State.{setting}
 use Rattle.asking.specs.Asking.{ask_part}
@@ -152,7 +152,7 @@ number_in whole = inr (inr (inl refl))
 number_in out_of_step = inr (inr (inr (inl refl)))
 
 module _ (s : List ℕ) (a : ℕ) (v : Serves s a) (image : List ℕ) (r : Arrives a (setting s) image) where
-  abbrev came-as : Reading
+  abbrev came-as : ReadingAnswer
   came-as = received (by (view s a)) image
 
   pub readable-answered : came-as.number ≡ 0 → In (packet_answer s image) (1 ∷ 2 ∷ 3 ∷ 32 ∷ [])

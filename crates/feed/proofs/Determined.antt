@@ -14,10 +14,10 @@ use Prim.Native.Nat.{ℕ}
 use lib.ListN.{length}
 use Rattle.bits.proofs.Determined.{determined}
 use Rattle.bare.specs.Bare.{header_read, header_within, header_written, word_read, word_written, type_read, type_written}
-use Rattle.bare.specs.declared.Header.{Header}
+use Rattle.bare.specs.Bare.{HeaderAnswer}
 use Rattle.plain.specs.Plain.{header_plain}
 use Rattle.plain.proofs.Theorems.{plain-is-table}
-use Rattle.packet.specs.declared.Reading.{Reading}
+use Rattle.packet.specs.Received.{ReadingAnswer}
 use Rattle.head.specs.declared.Wish.{Wish}
 use Rattle.table.specs.Calls.{start_answer, start_after, follow_answer, follow_after, leave_answer, leave_after, end_answer, end_after, set_answer, set_after}
 use Rattle.table.proofs.Determined as table
@@ -73,8 +73,8 @@ pub either-reader : (n most r x v m : ℕ) → r ≡ (header_plain n most).numbe
     → (r ≡ (header_within n most).number) × ((x ≡ (header_within n most).address) × ((v ≡ (header_within n most).index) × (m ≡ (header_within n most).flips)))
 either-reader n most r x v m e f g h =
     let same = plain-is-table n most in (
-      e ∙ ap (λ (y : Header). y.number) same,
-      (f ∙ ap (λ (y : Header). y.address) same, (g ∙ ap (λ (y : Header). y.index) same, h ∙ ap (λ (y : Header). y.flips) same)),
+      e ∙ ap (λ (y : HeaderAnswer). y.number) same,
+      (f ∙ ap (λ (y : HeaderAnswer). y.address) same, (g ∙ ap (λ (y : HeaderAnswer). y.index) same, h ∙ ap (λ (y : HeaderAnswer). y.flips) same)),
     )
 
 pub write-header-same : (a i : ℕ) → Two (header_written a i).number (header_written a i).value
@@ -94,13 +94,13 @@ write-type-same b = two (type_written b).number (type_written b).value
 
 -- ---- a packet received: number, place, index and the room, by their values before
 
-pub received-same : (protection : ℕ) (image : List ℕ) (before : Reading) (r p i : ℕ) (b : List ℕ) (q o j : ℕ) (c : List ℕ)
+pub received-same : (protection : ℕ) (image : List ℕ) (before : ReadingAnswer) (r p i : ℕ) (b : List ℕ) (q o j : ℕ) (c : List ℕ)
     → values r p i b ≡ fed protection image before → values q o j c ≡ fed protection image before
     → (r ≡ q) × ((p ≡ o) × ((i ≡ j) × (b ≡ c)))
 received-same protection image before r p i b q o j c e f =
     let same : values r p i b ≡ values q o j c = determined e f in (
-      ap (λ (x : Reading). x.number) same,
-      (ap (λ (x : Reading). x.place) same, (ap (λ (x : Reading). x.index) same, ap (λ (x : Reading). x.bytes) same)),
+      ap (λ (x : ReadingAnswer). x.number) same,
+      (ap (λ (x : ReadingAnswer). x.place) same, (ap (λ (x : ReadingAnswer). x.index) same, ap (λ (x : ReadingAnswer). x.bytes) same)),
     )
 
 -- ---- the calls on a state: as the calls behind them

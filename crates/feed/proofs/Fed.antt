@@ -14,10 +14,10 @@ use lib.ListN.{length}
 use Rattle.bits.specs.Rows.{row, refusal}
 use Rattle.bits.proofs.Rows.{refusal-hit, refusal-miss}
 use Rattle.packet.specs.Received.{received}
-use Rattle.packet.specs.declared.Reading.{Reading}
+use Rattle.packet.specs.Received.{ReadingAnswer}
 use Rattle.feed.specs.Fed.{values, refused, handed, fed}
 
-module _ (protection : ℕ) (image : List ℕ) (before : Reading) where
+module _ (protection : ℕ) (image : List ℕ) (before : ReadingAnswer) where
   handed-by : (k : ℕ) → refused protection before.bytes ≡ k
       → fed protection image before ≡ handed k (received (eqb protection 1) image) before
   unfolding fed

@@ -1,4 +1,3 @@
 pub mod Boards
 pub mod Determined
 pub mod Fed
-pub mod Fields

@@ -1,11 +1,14 @@
 // The calls on a state, and the group writer. A part is handed back as its place and its length in what was lent.
-ghost use Rattle.std.specs.Prelude.{◌≡◌, length};
+ghost use Rattle.std.specs.Prelude.{◌≡◌, cond, eqb, length};
 ghost use Rattle.head.specs.Head.{wish_of};
 ghost use Rattle.table.specs.Calls.{start_answer, start_after, follow_answer, follow_after, leave_answer, leave_after, end_answer, end_after, set_answer, set_after};
-ghost use Rattle.asking.specs.Asking.{asked};
+ghost use Rattle.asking.specs.Asking.{asked, told_asked};
 ghost use Rattle.adapter.specs.Calls.{packet_answered, packet_answer, packet_after, write_answer, write_after};
 ghost use Rattle.feed.specs.Board.{board_from, board_at, board_length};
 
+use asking::{Freshness, Shown};
+use faults::Refusal;
+use faults::refusal::told;
 use head::Wish;
 
 // 20. Every byte becomes 0, but for the setting, which becomes 3.
@@ -14,7 +17,7 @@ pub extern "C" fn feed_start(state: &mut [u8]) -> u8
     ensures value { result ≡ start_answer state.old }
     ensures state_after { state.new ≡ start_after state.old }
 {
-    table::start(state)
+    told(&table::start(state))
 }
 
 // 20, 34, 22, 23, 24, 25, 26.
@@ -23,7 +26,7 @@ pub extern "C" fn feed_follow(state: &mut [u8], address: u32, protection: u32, l
     ensures value { result ≡ follow_answer state.old (wish_of address protection limit) }
     ensures state_after { state.new ≡ follow_after state.old (wish_of address protection limit) }
 {
-    table::follow(state, Wish::new(address, protection, limit))
+    told(&table::follow(state, Wish::new(address, protection, limit)))
 }
 
 // 20, 34, 22, 27.
@@ -32,7 +35,7 @@ pub extern "C" fn feed_leave(state: &mut [u8], address: u32) -> u8
     ensures value { result ≡ leave_answer state.old address }
     ensures state_after { state.new ≡ leave_after state.old address }
 {
-    table::leave(state, address)
+    told(&table::leave(state, address))
 }
 
 // 20, 34, 21, 49, 27, 28, 29, 47, 30, 31, 32; otherwise 1, 2 or 3.
@@ -70,7 +73,7 @@ pub extern "C" fn feed_set_header_flips(state: &mut [u8], most: u32) -> u8
     ensures value { result ≡ set_answer state.old most }
     ensures state_after { state.new ≡ set_after state.old most }
 {
-    table::set_header_flips(state, most)
+    told(&table::set_header_flips(state, most))
 }
 
 // 20, 34.
@@ -79,7 +82,7 @@ pub extern "C" fn feed_subframe_end(state: &mut [u8]) -> u8
     ensures value { result ≡ end_answer state.old }
     ensures state_after { state.new ≡ end_after state.old }
 {
-    table::subframe_end(state)
+    told(&table::subframe_end(state))
 }
 
 // 20, 34, 22, 27, or 4 to 7; with 5 to 7 the place and the length of the group in the state, otherwise 0 and 0.
@@ -89,10 +92,12 @@ pub extern "C" fn feed_ask(state: &[u8], address: u32, at: &mut usize, len: &mut
     ensures at_after { at.new ≡ (asked state.now address).at }
     ensures len_after { len.new ≡ (asked state.now address).len }
 {
-    let shown = asking::answer(state, address);
-    *at = shown.at;
-    *len = shown.len;
-    shown.number
+    let answer = asking::answer(state, address);
+    (*at, *len) = match answer {
+        Ok(Some(shown)) => (shown.at, shown.len),
+        Ok(None) | Err(_) => (0, 0),
+    };
+    asking::told(answer)
 }
 
 // Ask's number. Where it is 5, `from` is 1 and the part is the group in the state; otherwise `from` is 0 and the part is the
@@ -111,17 +116,24 @@ pub extern "C" fn feed_board_text(
     ensures at_after { at.new ≡ board_at state.now address }
     ensures len_after { len.new ≡ board_length state.now address notice.now }
 {
-    let shown = asking::answer(state, address);
-    if shown.number == 5 {
-        *from = 1;
-        *at = shown.at;
-        *len = shown.len;
-    } else {
-        *from = 0;
-        *at = 0;
-        *len = notice.len();
+    let answer = asking::answer(state, address);
+    (*from, *at, *len) = part(answer, notice.len());
+    asking::told(answer)
+}
+
+// The buffer of the part, its place there and its length.
+fn part(answer: Result<Option<Shown>, Refusal>, notice: usize) -> (u8, usize, usize)
+    ensures from { result.0 ≡ cond (eqb (told_asked answer).number 5) 1 0 }
+    ensures at { result.1 ≡ cond (eqb (told_asked answer).number 5) (told_asked answer).at 0 }
+    ensures len { result.2 ≡ cond (eqb (told_asked answer).number 5) (told_asked answer).len notice }
+{
+    match answer {
+        Ok(Some(shown)) => match shown.freshness {
+            Freshness::Fresh => (1, shown.at, shown.len),
+            Freshness::Doubtful | Freshness::Stale => (0, 0, notice),
+        },
+        Ok(None) | Err(_) => (0, 0, notice),
     }
-    shown.number
 }
 
 // 22, 23, 20.
@@ -135,5 +147,5 @@ pub extern "C" fn feed_write_group(
     ensures value { result ≡ write_answer address protection (length message.now) (length output.old) }
     ensures output_after { output.new ≡ write_after address protection message.now output.old }
 {
-    adapter::write::group(address, protection, message, output)
+    told(&adapter::write::group(address, protection, message, output))
 }

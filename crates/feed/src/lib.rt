@@ -6,10 +6,13 @@
 
 ghost use Rattle.std.specs.Prelude.{◌≡◌};
 ghost use Rattle.bare.specs.Bare.{header_read, header_within, header_written, word_read, word_written, type_read, type_written};
+ghost use Rattle.bare.specs.Told.{told_header};
 ghost use Rattle.plain.specs.Plain.{header_plain};
 ghost use Rattle.feed.specs.Fed.{values, fed};
 
 use bare::Header;
+use faults::Refusal;
+use faults::refusal::told;
 use image::Packet;
 
 pub mod calls;
@@ -59,17 +62,18 @@ pub extern "C" fn feed_read_header_plain(
     hand(plain::read_header(n, most), address, index, flips)
 }
 
-// What was read of a header, handed over.
-fn hand(header: Header, address: &mut u16, index: &mut u8, flips: &mut u8) -> u8
-    ensures value { result ≡ header.number }
-    ensures address_after { address.new ≡ header.address }
-    ensures index_after { index.new ≡ header.index }
-    ensures flips_after { flips.new ≡ header.flips }
+// What was read of a header, handed over; 0 for a refused one.
+fn hand(answer: Result<Header, Refusal>, address: &mut u16, index: &mut u8, flips: &mut u8) -> u8
+    ensures value { result ≡ (told_header answer).number }
+    ensures address_after { address.new ≡ (told_header answer).address }
+    ensures index_after { index.new ≡ (told_header answer).index }
+    ensures flips_after { flips.new ≡ (told_header answer).flips }
 {
-    *address = header.address;
-    *index = header.index;
-    *flips = header.flips;
-    header.number
+    (*address, *index, *flips) = match answer {
+        Ok(header) => (header.address, header.index, header.flips),
+        Err(_) => (0, 0, 0),
+    };
+    told(&answer)
 }
 
 // 33: an address above 1,023, an index above 3.
@@ -79,8 +83,8 @@ pub extern "C" fn feed_write_header(address: u32, index: u32, header: &mut u32) 
     ensures header_after { header.new ≡ (header_written address index).value }
 {
     let written = bare::write_header(address, index);
-    *header = written.value;
-    written.number
+    *header = written.unwrap_or(0);
+    told(&written)
 }
 
 // 33: a word of 2^24 or more; 31: no word lies within three flips.
@@ -91,9 +95,11 @@ pub extern "C" fn feed_read_word(n: u32, information: &mut u16, flips: &mut u8) 
     ensures flips_after { flips.new ≡ (word_read n).flips }
 {
     let word = bare::read_word(n);
-    *information = word.information;
-    *flips = word.flips;
-    word.number
+    (*information, *flips) = match word {
+        Ok(word) => (word.information, word.flips),
+        Err(_) => (0, 0),
+    };
+    told(&word)
 }
 
 // 33: an information of 4,096 or more.
@@ -103,8 +109,8 @@ pub extern "C" fn feed_write_word(information: u32, word: &mut u32) -> u8
     ensures word_after { word.new ≡ (word_written information).value }
 {
     let written = bare::write_word(information);
-    *word = written.value;
-    written.number
+    *word = written.unwrap_or(0);
+    told(&written)
 }
 
 // 28: no type lies within two flips.
@@ -114,10 +120,12 @@ pub extern "C" fn feed_read_type(byte: u8, value: &mut u8, flips: &mut u8) -> u8
     ensures value_after { value.new ≡ (type_read byte).value }
     ensures flips_after { flips.new ≡ (type_read byte).flips }
 {
-    let kind = bare::read_type(byte);
-    *value = kind.value;
-    *flips = kind.flips;
-    kind.number
+    let read = bare::read_type(byte);
+    (*value, *flips) = match read {
+        Ok(read) => (read.kind.into(), read.flips),
+        Err(_) => (0, 0),
+    };
+    told(&read)
 }
 
 // 28: not one of the four types.
@@ -127,8 +135,11 @@ pub extern "C" fn feed_write_type(byte: u8, value: &mut u8) -> u8
     ensures value_after { value.new ≡ (type_written byte).value }
 {
     let written = bare::write_type(byte);
-    *value = written.value as u8;
-    written.number
+    *value = match written {
+        Ok(kind) => kind.into(),
+        Err(_) => 0,
+    };
+    told(&written)
 }
 
 // 20: the room for the bytes is not 90 long; 23: protection neither 0, plain, nor 1, protected. Nothing is changed then.
@@ -145,15 +156,24 @@ pub extern "C" fn feed_received(
         ≡ fed protection image.now (values 0 place.old index.old bytes.old) }
 {
     if bytes.len() != Packet::USEFUL {
-        return 20;
+        return Refusal::Length.into();
     }
     if 1 < protection {
-        return 23;
+        return Refusal::Protection.into();
     }
-    let reading = packet::received(protection == 1, image);
-    *place = reading.place;
-    *index = reading.index;
-    let from = reading.bytes;
-    runs::copy(bytes, 0, &from);
-    reading.number
+    match packet::received(protection == 1, image) {
+        Ok(reading) => {
+            let from = reading.bytes;
+            *place = 0;
+            *index = reading.index;
+            runs::copy(bytes, 0, &from);
+            0
+        }
+        Err(unread) => {
+            *place = unread.place;
+            *index = 0;
+            runs::clear(bytes);
+            unread.refusal.into()
+        }
+    }
 }

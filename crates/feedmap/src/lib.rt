@@ -3,11 +3,24 @@
 #![tactic(auto)]
 
 ghost use Rattle.std.specs.Prelude.{◌≡◌};
-ghost use Rattle.field.specs.Field.{read_number, read_field, write_number, written_after, pack_number, packed, unpack_number, unpacked};
+ghost use Rattle.faults.specs.Refusals.{told};
+ghost use Rattle.map.specs.Answers.{no_span, told_shown};
+ghost use Rattle.field.specs.Field.{handed, read_number, read_field, write_number, written_after, pack_number, packed, unpack_number, unpacked};
 ghost use Rattle.map.specs.Calls.{start_answer, start_after, take_answer, take_after, shown, list_answer, list_after, heard, known};
 ghost use Rattle.feedmap.specs.Made.{field_made, tdms_made};
 
+use faults::Refusal;
+use faults::refusal::told;
 use field::{Field, Tdms};
+use map::{Shown, Span};
+
+// The fields that are shown, or 46.
+fn fields(answer: Result<Shown, Refusal>) -> Result<Span, Refusal>
+    ensures number { told result ≡ (told_shown answer).number }
+    ensures value { handed no_span result ≡ record { at = (told_shown answer).at; len = (told_shown answer).len } }
+{
+    answer?.fields.ok_or(Refusal::Unfinished)
+}
 
 // 20. Every byte becomes 0.
 #[unsafe(no_mangle)]
@@ -15,7 +28,7 @@ pub extern "C" fn feed_map_start(map: &mut [u8]) -> u8
     ensures value { result ≡ start_answer map.old }
     ensures map_after { map.new ≡ start_after map.old }
 {
-    map::start(map)
+    told(&map::start(map))
 }
 
 // 20, 34, 44, 45.
@@ -24,7 +37,7 @@ pub extern "C" fn feed_map_take(map: &mut [u8], field: &[u8]) -> u8
     ensures value { result ≡ take_answer map.old field.now }
     ensures map_after { map.new ≡ take_after map.old field.now }
 {
-    map::take(map, field)
+    told(&map::take(map, field))
 }
 
 // 20, 34, 46; with 0 the place and the length of the fields in the map, and whether it is not known yet that there is none.
@@ -47,12 +60,15 @@ pub extern "C" fn feed_map_show(
     ensures unknown_after { unknown.new ≡ (shown map.now id count).unknown }
 {
     let answer = map::show(map, id, count);
-    *at = answer.at;
-    *len = answer.len;
-    *announced = answer.announced;
-    *frames = answer.frames;
-    *unknown = answer.unknown;
-    answer.number
+    let fields = fields(answer);
+    let span = fields.unwrap_or_default();
+    *at = span.at;
+    *len = span.len;
+    let shown = answer.unwrap_or_default();
+    *announced = u8::from(shown.change.is_some());
+    *frames = shown.change.unwrap_or(0);
+    *unknown = u8::from(shown.unknown);
+    told(&fields)
 }
 
 // 20, 34.
@@ -61,7 +77,7 @@ pub extern "C" fn feed_map_list(map: &[u8], count: u8, out: &mut [u8]) -> u8
     ensures value { result ≡ list_answer map.now out.old }
     ensures out_after { out.new ≡ list_after map.now count out.old }
 {
-    map::list(map, count, out)
+    told(&map::list(map, count, out))
 }
 
 // 20, 34; with 0 the place and the length of the fields that were heard, and whether they are known to be all.
@@ -79,11 +95,12 @@ pub extern "C" fn feed_map_heard(
     ensures len_after { len.new ≡ (heard map.now id count).len }
     ensures whole_after { whole.new ≡ (heard map.now id count).whole }
 {
-    let gathered = map::heard(map, id, count);
-    *at = gathered.at;
-    *len = gathered.len;
-    *whole = gathered.whole;
-    gathered.number
+    let answer = map::heard(map, id, count);
+    let gathered = answer.unwrap_or_default();
+    *at = gathered.fields.at;
+    *len = gathered.fields.len;
+    *whole = u8::from(gathered.whole);
+    told(&answer)
 }
 
 // 20, 34; with 0 the frames that were heard in a row, whether those of the running configuration were all heard, and how many
@@ -101,11 +118,12 @@ pub extern "C" fn feed_map_known(
     ensures unbroken_after { unbroken.new ≡ (known map.now count).unbroken }
     ensures components_after { components.new ≡ (known map.now count).components }
 {
-    let reach = map::known(map, count);
+    let answer = map::known(map, count);
+    let reach = answer.unwrap_or_default();
     *row = reach.row;
-    *unbroken = reach.unbroken;
+    *unbroken = u8::from(reach.unbroken);
     *components = reach.components;
-    reach.number
+    told(&answer)
 }
 
 // 20, and then every value is 0.
@@ -125,17 +143,18 @@ pub extern "C" fn feed_map_read(
     ensures tdms_after { tdms.new ≡ (read_field field.now).tdms }
     ensures links_after { links.new ≡ (read_field field.now).links }
 {
-    let mut number: u8 = 0;
-    let read = field::read(field, &mut number);
+    let answer = field::read(field);
+    let read = answer.unwrap_or_default();
     *count = read.count;
     *flag = read.flag;
     *id = read.id;
     *tdms = read.tdms;
     *links = read.links;
-    number
+    told(&answer)
 }
 
 // 20, 33, 44.
+#[tactic(auto, unfolding(crate::specs::Made::field_made))]
 #[unsafe(no_mangle)]
 pub extern "C" fn feed_map_write(
     count: u8,
@@ -155,10 +174,11 @@ pub extern "C" fn feed_map_write(
         tdms,
         links,
     };
-    field::write(field, out)
+    told(&field::write(field, out))
 }
 
 // 33, and then 0.
+#[tactic(auto, unfolding(crate::specs::Made::tdms_made))]
 #[unsafe(no_mangle)]
 pub extern "C" fn feed_map_pack(
     fln1: u32,
@@ -180,9 +200,9 @@ pub extern "C" fn feed_map_pack(
         fcp,
         lcp,
     };
-    let mut number: u8 = 0;
-    *tdms = field::pack(six, &mut number);
-    number
+    let answer = field::pack(six);
+    *tdms = answer.unwrap_or(0);
+    told(&answer)
 }
 
 // 33, and then every number is 0.
@@ -204,13 +224,13 @@ pub extern "C" fn feed_map_unpack(
     ensures fcp_after { fcp.new ≡ (unpacked tdms).fcp }
     ensures lcp_after { lcp.new ≡ (unpacked tdms).lcp }
 {
-    let mut number: u8 = 0;
-    let six = field::unpack(tdms, &mut number);
+    let answer = field::unpack(tdms);
+    let six = answer.unwrap_or_default();
     *fln1 = six.fln1;
     *lln1 = six.lln1;
     *fln2 = six.fln2;
     *lln2 = six.lln2;
     *fcp = six.fcp;
     *lcp = six.lcp;
-    number
+    told(&answer)
 }

@@ -3,17 +3,18 @@
 --   bits_below, bits-length     each of the 80 bits is a bit
 --   Within                      each number of a field is within its width
 --   field-number                the number of a field's bits
---   bytes                       the ten bytes of a field whose numbers are within their widths
+--   bytes                       the ten bytes of a field whose numbers are within their widths; write-stores: stored, they are these
 --
 -- Assumes nothing.
 use mathlib.Core.Path.{◌≡◌, refl, sym, ap, ap₂, ◌∙◌}
 use mathlib.Core.List.{List, [], ◌∷◌, ◌++◌, append-nil}
 use Prim.Native.Nat.{ℕ, suc, ◌+◌, ◌*◌, ◌/◌, ◌%◌, ◌^◌, ◌<◌}
 use native.Mathlib.Omega.{arith}
-use lib.ListN.{length, length-append}
+use lib.ListN.{length, set, length-append, drop_of_length-le}
 use lib.Pow.{shr-shr}
 use Rattle.bits.specs.Bits.{bits_of, number, numbers_in}
 use Rattle.bits.proofs.Runs.{Below, below-cat, bits_of-length, bits_of-below, number-cat, number-bits-small, numbers_in-bits, bits-number}
+use Rattle.runs.specs.Part.{put}
 use Rattle.runs.specs.Numbers.{four, eight}
 use Rattle.field.specs.Field.{field_bits, field_bytes}
 use Rattle.field.specs.declared.Field.{Field}
@@ -99,3 +100,18 @@ bytes r h =
     let whole : bits_of 80 n ≡ field_bits r =
     ap (λ (x : ℕ). bits_of x n) (sym (bits-length r)) ∙ bits-number (field_bits r) (bits_below r) in
     ap (numbers_in 8 10) (sym whole) ∙ taken-ten n ∙ (λ i. q.0 i ∷ q.1 i ∷ eight (q.2 i))
+
+-- the bytes stored are the field's
+pub write-stores : (r : Field) → Within r → (out after : List ℕ) → length out ≡ 10
+    → after
+    ≡ put 2 8 (eight (r.id / 128 + r.tdms * 2 + r.links * 2 ^ 63)) (set (set out 0 r.count) 1 (r.flag + r.id % 128 * 2))
+    → after ≡ field_bytes r
+unfolding put
+write-stores r h [] after l e = absurd (omega arith)
+write-stores r h (a ∷ []) after l e = absurd (omega arith)
+write-stores r h (a ∷ b ∷ rest) after l e =
+    let n = r.id / 128 + r.tdms * 2 + r.links * 2 ^ 63 in
+    e
+    ∙ ap (λ (x : List ℕ). r.count ∷ (r.flag + r.id % 128 * 2) ∷ x)
+    (ap (λ (x : List ℕ). eight n ++ x) (drop_of_length-le rest {i = 8} (omega arith)) ∙ append-nil (eight n))
+    ∙ sym (bytes r h)

@@ -3,4 +3,3 @@ pub mod Determined
 pub mod Laws
 pub mod RoundTrip
 pub mod Rows
-pub mod Steps

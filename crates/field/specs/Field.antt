@@ -13,14 +13,17 @@
 --   key t                  the order of linked fields: "increasing order of FLN1 ..., the same value of FLN1 ... increasing order of FCP"
 --   panning                TDMCID 81 hex: panning vectors, no component (4.5.6)
 --   bad_field r             44: a bad pair, but in panning vectors
+--   handed nothing result   what a call of the code hands out beside its number: what is given where it is done, otherwise nothing
+--   no_field, no_tdms       nothing of a field, and of six numbers: every number is 0
 --   read_number, read_field  the bare calls: 20
 --   write_number, written_after    20, 33, 44
 --   numbers_of t            the six numbers of TDMS
 --   pack_number, packed     six numbers as TDMS: 33 where one is too wide
 --   unpack_number, unpacked TDMS as six numbers: 33 where it has more than 62 bits
-use Rattle.std.specs.Prelude.{Bool, ◌&&◌, ◌||◌, not, List, [], ◌∷◌, ◌++◌, ℕ, ◌+◌, ◌-◌, ◌*◌, ◌/◌, ◌%◌, ◌^◌, ltb, eqb, leb, length, take, drop}
+use Rattle.std.specs.Prelude.{Bool, ◌&&◌, ◌||◌, not, List, [], ◌∷◌, ◌++◌, ℕ, ◌+◌, ◌-◌, ◌*◌, ◌/◌, ◌%◌, ◌^◌, ltb, eqb, leb, length, take, drop, Result, Ok, Err}
 use Rattle.bits.specs.Bits.{bits_of, number, sent, numbers_in}
 use Rattle.bits.specs.Rows.{row, refusal, given, done}
+use Rattle.faults.specs.declared.refusal.Refusal.{Refusal}
 use Rattle.field.specs.declared.Field.{Field}
 use Rattle.field.specs.declared.Tdms.{Tdms}
 
@@ -92,6 +95,16 @@ unfoldable pub bad_field : Field → Bool
 bad_field r = not (eqb r.id panning) && bad_tdms r.tdms
 
 -- ---- the bare calls
+
+abbrev pub handed : {A : Type 0} → A → Result A Refusal → A
+handed nothing (Ok given) = given
+handed nothing (Err refusal) = nothing
+
+abbrev pub no_field : Field
+no_field = record { count = 0; flag = 0; id = 0; tdms = 0; links = 0 }
+
+abbrev pub no_tdms : Tdms
+no_tdms = record { fln1 = 0; lln1 = 0; fln2 = 0; lln2 = 0; fcp = 0; lcp = 0 }
 
 unfoldable pub read_number : List ℕ → ℕ
 read_number f = refusal (row (not (eqb (length f) field_size)) 20 ∷ [])

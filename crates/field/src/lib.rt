@@ -5,10 +5,13 @@
 ghost use Rattle.std.specs.Prelude.{◌≡◌, ◌+◌, ◌≤◌, length};
 ghost use Rattle.runs.specs.Part.{put};
 ghost use Rattle.runs.specs.Numbers.{four, four_at, eight, eight_at};
-ghost use Rattle.field.specs.Field.{field_of, field_bytes, bad_pair, bad_tdms, deletes, key, bad_field, read_number, read_field, write_number, written_after, pack_number, packed, numbers_of, unpack_number, unpacked};
+ghost use Rattle.faults.specs.Refusals.{told};
+ghost use Rattle.field.specs.Field.{field_of, field_bytes, bad_pair, bad_tdms, deletes, key, bad_field, handed, no_field, read_number, read_field, write_number, written_after, pack_number, packed, numbers_of, no_tdms, unpack_number, unpacked};
+
+use faults::Refusal;
 
 // Frame count, update flag, component, the 62 bits of TDMS as one number, LINKS.
-#[derive(Clone, Copy)]
+#[derive(Clone, Copy, Default)]
 pub struct Field {
     pub count: u8,
     pub flag: u8,
@@ -18,7 +21,7 @@ pub struct Field {
 }
 
 // The six numbers of TDMS, as they are coded: line 1 and clock period 1 are 0.
-#[derive(Clone, Copy)]
+#[derive(Clone, Copy, Default)]
 pub struct Tdms {
     pub fln1: u32,
     pub lln1: u32,
@@ -49,45 +52,41 @@ impl Field {
         }
     }
 
+    #[tactic(auto, unfolding(crate::specs::Field::bad_field))]
     pub fn bad(self) -> bool
         ensures { result ≡ bad_field self }
     {
-        (self.id != Self::PANNING) & Tdms::bad(self.tdms)
+        self.id != Self::PANNING && Tdms::bad(self.tdms)
     }
 }
 
 impl Tdms {
     // All ones, for lines and for clock periods.
-    pub const NO_LINE: u64 = 1023;
+    pub const NO_LINE: u32 = 1023;
 
-    pub const NO_CLOCK: u64 = 2047;
+    pub const NO_CLOCK: u32 = 2047;
 
     // One more than the greatest of 62 bits.
     pub const END: u64 = 4611686018427387904;
 
-    fn bad_pair(ones: u64, first: u64, last: u64) -> bool
+    #[tactic(auto, unfolding(crate::specs::Field::bad_pair))]
+    fn bad_pair(ones: u32, first: u32, last: u32) -> bool
         ensures { result ≡ bad_pair ones first last }
     {
-        (last < first) | ((last == ones) & (first != ones))
+        last < first || (last == ones && first != ones)
     }
 
+    #[tactic(auto, unfolding(crate::specs::Field::bad_tdms, crate::specs::Field::numbers_of))]
     pub fn bad(tdms: u64) -> bool
         ensures { result ≡ bad_tdms tdms }
     {
-        let one = Self::bad_pair(Self::NO_LINE, tdms % 1024, tdms / 1024 % 1024);
-        let two = Self::bad_pair(
-            Self::NO_LINE,
-            tdms / 1048576 % 1024,
-            tdms / 1073741824 % 1024,
-        );
-        let clock = Self::bad_pair(
-            Self::NO_CLOCK,
-            tdms / 1099511627776 % 2048,
-            tdms / 2251799813685248 % 2048,
-        );
-        one | (two | clock)
+        let six = numbers(tdms);
+        Self::bad_pair(Self::NO_LINE, six.fln1, six.lln1)
+            || Self::bad_pair(Self::NO_LINE, six.fln2, six.lln2)
+            || Self::bad_pair(Self::NO_CLOCK, six.fcp, six.lcp)
     }
 
+    #[tactic(auto, unfolding(crate::specs::Field::deletes))]
     pub fn deletes(tdms: u64) -> bool
         ensures { result ≡ deletes tdms }
     {
@@ -95,6 +94,7 @@ impl Tdms {
     }
 
     // The order of linked fields: FLN1, then FCP.
+    #[tactic(auto, unfolding(crate::specs::Field::key, crate::specs::Field::fln1, crate::specs::Field::fcp))]
     pub fn key(tdms: u64) -> u64
         ensures { result ≡ key tdms }
     {
@@ -102,85 +102,72 @@ impl Tdms {
     }
 }
 
-// Reads a field: 20 where it has not 10 bytes, and then every number is 0.
-pub fn read(f: &[u8], number: &mut u8) -> Field
-    ensures value { result ≡ read_field f.now }
-    ensures number_after { number.new ≡ read_number f.now }
+// Reads a field: 20 where it has not 10 bytes.
+#[tactic(auto, unfolding(crate::specs::Field::read_number, crate::specs::Field::read_field, bits::specs::Rows::refusal, bits::specs::Rows::given))]
+pub fn read(f: &[u8]) -> Result<Field, Refusal>
+    ensures number { told result ≡ read_number f.now }
+    ensures value { handed no_field result ≡ read_field f.now }
 {
     if f.len() != Field::SIZE {
-        *number = 20;
-        return Field {
-            count: 0,
-            flag: 0,
-            id: 0,
-            tdms: 0,
-            links: 0,
-        };
+        return Err(Refusal::Length);
     }
-    *number = 0;
-    Field::load(f)
+    Ok(Field::load(f))
 }
 
-// Writes a field: 20, 33, 44. Where it is refused the output stays as it was.
-pub fn write(field: Field, out: &mut [u8]) -> u8
-    ensures value { result ≡ write_number field out.old }
+// Writes a field: 20, 33, 44. Where it is refused the output stays as it was. The update flag and LINKS are numbers, and no bools:
+// a caller may hand in any, and 33 is told of those above 1.
+#[tactic(auto, unfolding(crate::specs::Field::write_number, crate::specs::Field::written_after, bits::specs::Rows::refusal, bits::specs::Rows::done))]
+pub fn write(field: Field, out: &mut [u8]) -> Result<(), Refusal>
+    ensures value { told result ≡ write_number field out.old }
     ensures out_after { out.new ≡ written_after field out.old }
 {
     if out.len() != Field::SIZE {
-        return 20;
+        return Err(Refusal::Length);
     }
-    if (1 < field.flag) | ((1 < field.links) | (Tdms::END <= field.tdms)) {
-        return 33;
+    if 1 < field.flag || 1 < field.links || Tdms::END <= field.tdms {
+        return Err(Refusal::TooLarge);
     }
     if field.bad() {
-        return 44;
+        return Err(Refusal::BadPair);
     }
     out[0] = field.count;
     out[1] = field.flag + field.id % 128 * 2;
     let rest = (field.id / 128) as u64 + field.tdms * 2 + field.links as u64 * 9223372036854775808;
     runs::put_eight(out, 2, rest);
-    0
+    Ok(())
 }
 
-// Six numbers as TDMS: 33 where one is too wide, and then 0.
-pub fn pack(s: Tdms, number: &mut u8) -> u64
-    ensures value { result ≡ packed s }
-    ensures number_after { number.new ≡ pack_number s }
+// Six numbers as TDMS: 33 where one is too wide.
+#[tactic(auto, unfolding(crate::specs::Field::pack_number, crate::specs::Field::packed, crate::specs::Field::tdms_of, bits::specs::Rows::refusal, bits::specs::Rows::given))]
+pub fn pack(s: Tdms) -> Result<u64, Refusal>
+    ensures number { told result ≡ pack_number s }
+    ensures value { handed 0 result ≡ packed s }
 {
-    let lines = (1024 <= s.fln1) | ((1024 <= s.lln1) | ((1024 <= s.fln2) | (1024 <= s.lln2)));
-    let clock = (2048 <= s.fcp) | (2048 <= s.lcp);
-    if lines | clock {
-        *number = 33;
-        return 0;
+    let lines = 1024 <= s.fln1 || 1024 <= s.lln1 || 1024 <= s.fln2 || 1024 <= s.lln2;
+    let clock = 2048 <= s.fcp || 2048 <= s.lcp;
+    if lines || clock {
+        return Err(Refusal::TooLarge);
     }
-    *number = 0;
     let one = s.fln1 as u64 + s.lln1 as u64 * 1024;
     let two = s.fln2 as u64 + s.lln2 as u64 * 1024;
     let three = s.fcp as u64 + s.lcp as u64 * 2048;
-    one + two * 1048576 + three * 1099511627776
+    Ok(one + two * 1048576 + three * 1099511627776)
 }
 
-// TDMS as its six numbers: 33 where it has more than 62 bits, and then each is 0.
-pub fn unpack(tdms: u64, number: &mut u8) -> Tdms
-    ensures value { result ≡ unpacked tdms }
-    ensures number_after { number.new ≡ unpack_number tdms }
+// TDMS as its six numbers: 33 where it has more than 62 bits.
+#[tactic(auto, unfolding(crate::specs::Field::unpack_number, crate::specs::Field::unpacked, bits::specs::Rows::refusal, bits::specs::Rows::given))]
+pub fn unpack(tdms: u64) -> Result<Tdms, Refusal>
+    ensures number { told result ≡ unpack_number tdms }
+    ensures value { handed no_tdms result ≡ unpacked tdms }
 {
     if Tdms::END <= tdms {
-        *number = 33;
-        return Tdms {
-            fln1: 0,
-            lln1: 0,
-            fln2: 0,
-            lln2: 0,
-            fcp: 0,
-            lcp: 0,
-        };
+        return Err(Refusal::TooLarge);
     }
-    *number = 0;
-    numbers(tdms)
+    Ok(numbers(tdms))
 }
 
 // The six numbers.
+#[tactic(auto, unfolding(crate::specs::Field::numbers_of, crate::specs::Field::fln1, crate::specs::Field::lln1, crate::specs::Field::fln2, crate::specs::Field::lln2, crate::specs::Field::fcp, crate::specs::Field::lcp))]
 fn numbers(tdms: u64) -> Tdms
     ensures { result ≡ numbers_of tdms }
 {

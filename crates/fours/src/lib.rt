@@ -1,5 +1,5 @@
 // The table of patterns in rows of `match`, four entries to a number: nothing is set up where it is used. The crate `lookup`
-// has the table as one constant.
+// has the table as one constant, since document 01, section 1, asks for that.
 //
 // rows    the rows
 #![tactic(auto)]
@@ -20,6 +20,7 @@ pub fn entry(r: u32) -> u32
 }
 
 // The four patterns from 4 k on.
+#[tactic(auto, unfolding(golay::proofs::Fours::four))]
 fn four(k: u32) -> u64
     requires { k < 512 }
     ensures { result ≡ four k }

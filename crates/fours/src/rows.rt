@@ -1,5 +1,10 @@
 // The table of patterns in rows, four entries to a number: of each the first twelve bits and above them its flips, sixteen bits apart, the
 // lowest remainder's lowest. Row j has the remainders from 256 j on. The last entry of a row is the arm of all other numbers.
+//
+// Eight functions that differ in their constants alone: an array of these would be set up anew on the stack at each use, and a flat `match`
+// takes at most 256 arms.
+#![tactic(auto, unfolding(golay::proofs::Fours::fours))]
+
 ghost use Rattle.std.specs.Prelude.{◌≡◌, ◌<◌, get_or};
 ghost use Rattle.golay.proofs.Fours.{fours};
 

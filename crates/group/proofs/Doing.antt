@@ -37,7 +37,7 @@ use Rattle.head.specs.declared.Head.{Head}
 use Rattle.runs.proofs.Parts.{put-part, put-length}
 use Rattle.slot.proofs.Laws.{unfinished-room, unfinished-length}
 use Rattle.slot.proofs.Heads.{with_head-length}
-use Rattle.packet.specs.declared.Reading.{Reading}
+use Rattle.packet.specs.Received.{ReadingAnswer}
 use Rattle.faults.specs.Faults.{number_drops}
 use Rattle.group.specs.declared.Answer.{Answer}
 use Rattle.group.specs.Group.{block_of, placed, begun_room, slot_joined, rooms_kept, rooms_moved, slot_moved, slot_dropped, refused_after, answer_of, taken, taken_number, taken_after}
@@ -202,7 +202,7 @@ block-le h = go (eqb h.wish.protection 1)
 
 -- ---- the number with the slot after it, by the reading's number
 
-module _ (r : Reading) (h : Head) (s : List ℕ) (e : h ≡ head_of s) where
+module _ (r : ReadingAnswer) (h : Head) (s : List ℕ) (e : h ≡ head_of s) where
   pub taken_refused : (r.number ≡ 0 → ⊥) → (r.number ≡ taken_number r h) × (refused_after r.number s ≡ taken_after r s)
   unfolding taken_number taken_after
   taken_refused ne = (sym (further-refused r.number _ ne), sym (done_refused r.number _ (refused_after r.number s) ne))
@@ -216,11 +216,11 @@ module _ (r : Reading) (h : Head) (s : List ℕ) (e : h ≡ head_of s) where
         (eb ∙ ap (λ (x : Head). take (block_of x) r.bytes) e) ∙ sym (done-passed r.number _ (refused_after r.number s) z),
   )
 
-pub taken-told : (r : Reading) (h : Head) (n : ℕ) (x : Answer) → n ≡ taken_number r h → x ≡ answer_of n r.place h.awaited r.index → x ≡ taken r h
+pub taken-told : (r : ReadingAnswer) (h : Head) (n : ℕ) (x : Answer) → n ≡ taken_number r h → x ≡ answer_of n r.place h.awaited r.index → x ≡ taken r h
 taken-told r h n x en ex = ex ∙ ap (λ (m : ℕ). answer_of m r.place h.awaited r.index) en
 
 -- a refusal that drops, or leaves the slot
-pub taken-by : (r : Reading) (s : List ℕ) (d : Bool) → (r.number ≡ 0 → ⊥) → number_drops r.number ≡ d → taken_after r s ≡ cond d (slot_dropped s) s
+pub taken-by : (r : ReadingAnswer) (s : List ℕ) (d : Bool) → (r.number ≡ 0 → ⊥) → number_drops r.number ≡ d → taken_after r s ≡ cond d (slot_dropped s) s
 unfolding taken_after refused_after
 taken-by r s d ne e =
     done_refused r.number _ (refused_after r.number s) ne ∙ ap (λ (b : Bool). cond b (slot_dropped s) s) e

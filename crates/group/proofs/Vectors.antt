@@ -12,14 +12,14 @@ use mathlib.Core.List.{[], ◌∷◌}
 use Prim.Native.Nat.{ℕ}
 use Rattle.bits.specs.Rows.{further}
 use Rattle.packet.specs.Received.{refused_as, readable_as}
-use Rattle.packet.specs.declared.Reading.{Reading}
+use Rattle.packet.specs.Received.{ReadingAnswer}
 use Rattle.head.specs.Head.{wish_of}
 use Rattle.head.specs.Move.{per_of, needs_of, row_of, move_of, move_number}
 use Rattle.head.specs.declared.Head.{Head}
 use Rattle.group.specs.declared.Answer.{Answer}
 use Rattle.group.specs.Group.{taken, taken_number}
 
-abbrev readable : ℕ → Reading
+abbrev readable : ℕ → ReadingAnswer
 readable c = readable_as c []
 
 abbrev awaiting : ℕ → Head

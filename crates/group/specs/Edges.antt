@@ -5,7 +5,7 @@
 --   marks a c n           the same, and its gap is marked
 use Rattle.std.specs.Prelude.{◌≡◌, List, [], ◌∷◌, ◌++◌, map, ℕ}
 use Rattle.bare.specs.Edges as below
-use Rattle.packet.specs.declared.Reading.{Reading}
+use Rattle.packet.specs.Received.{ReadingAnswer}
 use Rattle.head.specs.Move.{row_at, moved_head}
 use Rattle.head.specs.declared.Head.{Head}
 use Rattle.group.specs.Group.{taken_number}
@@ -16,7 +16,7 @@ pub data Edge : Type 0 where
   marks : ℕ → ℕ → ℕ → Edge
 
 abbrev pub Answers : ℕ → ℕ → ℕ → Type 0
-Answers a c n = (r : Reading) (h : Head) → r.number ≡ 0 → r.index ≡ c → h.awaited ≡ a → taken_number r h ≡ n
+Answers a c n = (r : ReadingAnswer) (h : Head) → r.number ≡ 0 → r.index ≡ c → h.awaited ≡ a → taken_number r h ≡ n
 
 abbrev pub Holds : Edge → Type 0
 Holds (bare e) = below.Holds e

@@ -23,7 +23,7 @@ use Rattle.head.specs.Move.{Move, started, held, whole, out_of_step, move_number
 use Rattle.head.specs.declared.Head.{Head}
 use Rattle.faults.specs.Faults as faults
 use Rattle.faults.specs.Faults.{number_drops}
-use Rattle.packet.specs.declared.Reading.{Reading}
+use Rattle.packet.specs.Received.{ReadingAnswer}
 use Rattle.group.specs.declared.Answer.{Answer}
 
 unfoldable pub block_of : Head → ℕ
@@ -58,7 +58,7 @@ slot_moved mv c b s = with_head (moved_head mv (head_of s)) (rooms_moved mv c b 
 unfoldable pub slot_dropped : List ℕ → List ℕ
 slot_dropped s = with_head (dropped_head (head_of s)) (with_unfinished (blank room_size) s)
 
-unfoldable pub taken_number : Reading → Head → ℕ
+unfoldable pub taken_number : ReadingAnswer → Head → ℕ
 taken_number r h = further r.number (move_number (row_at h r.index))
 
 abbrev pub answer_of : ℕ → ℕ → ℕ → ℕ → Answer
@@ -70,14 +70,14 @@ answer_of n place awaited came = record {
 
 -- "32 carries the index awaited and the index that came; 31 carries the word's place, 0 to 29, the first that failed." A reading has a
 -- place with 31 only; the index awaited is that of the head before
-abbrev pub taken : Reading → Head → Answer
+abbrev pub taken : ReadingAnswer → Head → Answer
 taken r h = answer_of (taken_number r h) r.place h.awaited r.index
 
 -- a refusal drops by the list of faults
 unfoldable pub refused_after : ℕ → List ℕ → List ℕ
 refused_after n s = cond (number_drops n) (slot_dropped s) s
 
-unfoldable pub taken_after : Reading → List ℕ → List ℕ
+unfoldable pub taken_after : ReadingAnswer → List ℕ → List ℕ
 taken_after r s =
     let h = head_of s in
     done r.number (slot_moved (row_at h r.index) (place_at h r.index) (take (block_of h) r.bytes) s) (refused_after r.number s)

@@ -7,9 +7,10 @@ ghost use Rattle.slot.specs.Slot.{slot_size, room_size, head_of, with_head};
 ghost use Rattle.head.specs.Head.{whole_head};
 ghost use Rattle.head.specs.Move.{move_number, row_at, place_at};
 ghost use Rattle.packet.specs.Received.{refused_as, readable_as};
+ghost use Rattle.group.specs.Told.{told_row};
 ghost use Rattle.group.specs.Group.{block_of, slot_joined, rooms_kept, slot_moved, slot_dropped, answer_of, taken, taken_after};
 
-use faults::Faults;
+use faults::{Faults, Refusal};
 use head::Head;
 use image::Packet;
 use slot::{Slot, room};
@@ -28,6 +29,30 @@ impl Group {
     pub const IMAGES: usize = Self::PACKETS * Packet::IMAGE;
 }
 
+// The row of section 4's table that a readable data packet takes.
+#[derive(Clone, Copy, Debug, PartialEq, Eq)]
+pub enum Row {
+    Started,
+    Held,
+    Whole,
+    OutOfStep,
+}
+
+impl From<Row> for u8 {
+    ghost from_gives = { λ row number. number ≡ move_number (told_row row) };
+
+    fn from(row: Row) -> u8 {
+        match row {
+            Row::Started => 1,
+            Row::Held => 2,
+            Row::Whole => 3,
+            Row::OutOfStep => Refusal::OutOfStep.into(),
+        }
+    }
+}
+
+// It stays a number with what it carries: C is handed just these three, and a refusal may have any number but 0 (`refused`).
+//
 // What a packet is answered: its number, and what it carries. With 32 the detail is the index that was awaited, beside the one that
 // came; with 31 it is the place of the first word that cannot be read. What a number does not carry is 0.
 #[derive(Clone, Copy)]
@@ -60,15 +85,15 @@ pub fn taken(slot: &mut [u8], head: Head, index: u8, bytes: &[u8]) -> Answer
     ensures value { result ≡ taken (readable_as index bytes.now) head }
     ensures slot_after { slot.new ≡ taken_after (readable_as index bytes.now) slot.old }
 {
-    let number = moved(slot, head, index, bytes);
-    told(number, 0, head.awaited, index)
+    let row = moved(slot, head, index, bytes);
+    told(row.into(), 0, head.awaited, index)
 }
 
 // The two indices are told only where they are why the packet was refused; otherwise the place, which only 31 has.
 fn told(number: u8, place: u8, awaited: u8, came: u8) -> Answer
     ensures { result ≡ answer_of number place awaited came }
 {
-    if number == Faults::OUT_OF_STEP {
+    if number == u8::from(Refusal::OutOfStep) {
         return Answer {
             number,
             detail: awaited,
@@ -83,29 +108,29 @@ fn told(number: u8, place: u8, awaited: u8, came: u8) -> Answer
 }
 
 // The row of section 4's table, by the packet's place in its group.
-fn moved(slot: &mut [u8], head: Head, index: u8, bytes: &[u8]) -> u8
+fn moved(slot: &mut [u8], head: Head, index: u8, bytes: &[u8]) -> Row
     requires slot_len { length slot.old ≡ slot_size }
     requires head_value { head ≡ head_of slot.old }
     requires bytes_len_bound { length bytes.now ≤ 90 }
-    ensures value { result ≡ move_number (row_at head index) }
+    ensures value { told_row result ≡ row_at head index }
     ensures slot_after { slot.new ≡ slot_moved (row_at head index) (place_at head index) bytes.now slot.old }
 {
     let place = index % head.per();
-    if (place != 0) & (place != head.awaited) {
+    if place != 0 && place != head.awaited {
         dropped(slot, head);
-        return Faults::OUT_OF_STEP;
+        return Row::OutOfStep;
     }
     joined(slot, place, bytes);
     if head.needs() <= place + 1 {
         whole(slot, head, (place as usize + 1) * bytes.len());
-        return 3;
+        return Row::Whole;
     }
     if place == 0 {
         Slot::store(head.started(), slot);
-        return 1;
+        return Row::Started;
     }
     Slot::store(head.held(), slot);
-    2
+    Row::Held
 }
 
 // A packet's bytes at their place; the first of a group begins it anew.

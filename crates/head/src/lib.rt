@@ -3,8 +3,11 @@
 #![tactic(auto)]
 
 ghost use Rattle.std.specs.Prelude.{◌≡◌, ◌<◌};
+ghost use Rattle.faults.specs.Refusals.{told};
 ghost use Rattle.head.specs.Head.{wish_of, good_wish, wish_answer, free_head, new_head, started_head, held_head, whole_head, dropped_head, aged_head, good_head};
 ghost use Rattle.head.specs.Move.{per_of, needs_of};
+
+use faults::Refusal;
 
 // What follow is asked: further wishes get their defaults in `new`.
 #[derive(Clone, Copy)]
@@ -29,6 +32,7 @@ impl Wish {
         }
     }
 
+    #[tactic(auto, unfolding(crate::specs::Head::good_wish))]
     pub fn good(self) -> bool
         ensures { result ≡ good_wish self }
     {
@@ -38,24 +42,24 @@ impl Wish {
     }
 
     // 22, 23, 24: follow's rows about what is wished.
-    pub fn answer(self) -> u8
-        ensures { result ≡ wish_answer self }
+    pub fn answer(self) -> Result<(), Refusal>
+        ensures { told result ≡ wish_answer self }
     {
         if (self.address < 1) | (Self::LAST_ADDRESS < self.address) {
-            return 22;
+            return Err(Refusal::Address);
         }
         if 1 < self.protection {
-            return 23;
+            return Err(Refusal::Protection);
         }
         if (self.limit < 1) | (Self::LONGEST < self.limit) {
-            24
-        } else {
-            0
+            return Err(Refusal::Limit);
         }
+        Ok(())
     }
 }
 
-// The group mark says that there is a whole group.
+// The group mark says that there is a whole group. It and the gap mark stay numbers: a state lent may hold any byte there, and 34 is told
+// by `good_head`.
 #[derive(Clone, Copy)]
 pub struct Head {
     pub wish: Wish,
@@ -95,12 +99,14 @@ impl Head {
     }
 
     // How many packets a group has, and how many of them make it whole.
+    #[tactic(auto, unfolding(crate::specs::Move::per_of))]
     pub fn per(self) -> u8
         ensures { result ≡ per_of self }
     {
         4
     }
 
+    #[tactic(auto, unfolding(crate::specs::Move::needs_of))]
     pub fn needs(self) -> u8
         ensures { result ≡ needs_of self }
     {
@@ -121,7 +127,7 @@ impl Head {
         requires { self.awaited < 255 }
         ensures { result ≡ held_head self }
     {
-        self.awaited = self.awaited + 1;
+        self.awaited += 1;
         self
     }
 
@@ -147,11 +153,12 @@ impl Head {
         ensures { result ≡ aged_head self }
     {
         if (self.group == 1) & (self.age < Wish::LONGEST) {
-            self.age = self.age + 1;
+            self.age += 1;
         }
         self
     }
 
+    #[tactic(auto, unfolding(crate::specs::Head::good_head))]
     pub fn good(self) -> bool
         ensures { result ≡ good_head self }
     {

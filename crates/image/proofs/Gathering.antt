@@ -153,12 +153,5 @@ module _ (h t : ℕ) (u : List ℕ) (s : h < 2 ^ 23) (ht : t < 256) (b : Below 2
       ∙ ap (λ (x : ℕ). get_or (image_of h (t ∷ u)) x 0) place
 
   -- the spare bit is 0
-  pub last_byte : (j : ℕ) → j ≡ 89 → get_or u j 0 / 2 ≡ get_or (image_of h (t ∷ u)) (j + 4) 0
-  last_byte j e =
-      let place : suc j + 3 ≡ j + 4 = omega arith in
-      omega (
-        arith,
-        byte_of (suc j) (omega arith),
-        get_or-eq_default u 0 {n = suc j} (omega arith),
-        ap (λ (x : ℕ). get_or (image_of h (t ∷ u)) x 0) place,
-      )
+  pub last_byte : get_or u 89 0 / 2 ≡ get_or (image_of h (t ∷ u)) 93 0
+  last_byte = omega (arith, byte_of 90 (omega arith), get_or-eq_default u 0 {n = 90} (omega arith))

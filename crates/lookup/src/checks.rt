@@ -1,5 +1,9 @@
 // The check bits, the last twelve of a 24-bit word, of an information's six low bits and of its six high bits. The last entry
 // of each is the arm of all other numbers.
+//
+// Two functions that differ in their constants: one of 128 arms, called twice, is not inlined, and a packet's words take a sixth longer by it.
+#![tactic(auto, unfolding(golay::proofs::Adding::checks))]
+
 ghost use Rattle.std.specs.Prelude.{◌≡◌, ◌<◌, get_or, drop};
 ghost use Rattle.golay.proofs.Adding.{checks};
 

@@ -4,7 +4,7 @@
 --   settled-*             an announced structure as it comes into force
 --   anew-*                worked: a change that is not sure, and one field announced or in force, not known to be whole; and an
 --                         announcement that was begun over another
---   changed-length, both-length, ruled-length     a component's block keeps its length
+--   changed-length, both-length     a component's block keeps its length
 --   each-*, from-*        the loop over all components, by any rule and by a change's: each block is changed, and nothing else
 --   both-*, gap-*         a missed frame: each structure is spoiled, and nothing else
 --   stays, comes-in, goes-out    what is in force behind a change, by what was announced; cleared, emptied: nothing is announced
@@ -28,9 +28,7 @@ use Rattle.runs.proofs.Parts.{part_length, blank-at}
 use Rattle.runs.specs.Numbers.{four, four_at, eight, eight_at}
 use Rattle.field.specs.Field.{deletes}
 use Rattle.structure.specs.Structure.{most, structure_size, all_ones, head_of, with_head, nth, with_nth, marked_head, beginning, turn_of, spoiled, said, complete, settled_head}
-use Rattle.map.specs.Map.{ids, map_size, block_size, frames_of, block_at, with_block, structure_at, stayed, settled, forced, changed, each_from, changed_from, spoiled_both, ruled}
-use Rattle.map.specs.declared.Rule.{Rule}
-use Rattle.map.specs.declared.Rule.TheVariants.{Change, Missed}
+use Rattle.map.specs.Map.{ids, map_size, block_size, frames_of, block_at, with_block, structure_at, stayed, settled, forced, changed, each_from, changed_from, spoiled_both}
 use Rattle.structure.specs.declared.Structure.{Structure}
 use Rattle.structure.specs.declared.Turn.TheVariants.{Begins}
 use Rattle.map.proofs.Places.{block-length, block-structure, block_same, block-other, block-frames, with-block-length}
@@ -339,11 +337,6 @@ module _ (b : List ℕ) (lb : length b ≡ block_size) where
   both-part zero hw = take_at one two structure_size one-length
   both-part (suc zero) hw = ap (take structure_size) (drop_at one two structure_size one-length) ∙ take_all structure_size two (omega (arith, two-length))
   both-part (suc (suc w)) hw = absurd (omega arith)
-
-pub ruled-length : (rule : Rule) (b : List ℕ) → length b ≡ block_size → length (ruled rule b) ≡ block_size
-unfolding ruled
-ruled-length (Change sure) b l = changed-length sure b l
-ruled-length Missed b l = both-length b l
 
 module _ (m : List ℕ) (l : length m ≡ map_size) where
   pub gap_length : length (each_from ids 0 spoiled_both m) ≡ map_size

@@ -1,8 +1,6 @@
 -- What the calls' code does, against their definitions.
 --
---   start-refused, start-passed  start's one row, by the test of the length
---   show-*, heard-*, known-*     what is read, by the answer of the rows
---   list-20, list-rest           the rows of a list; out-size: the length where the first does not hold
+--   start-passed                 start's one row, where the length is right
 --   marks-turn, marks-end        a turn and the end of the loop that stores the marks
 --   Fits, fits                   the lengths where a field is not refused; flag-lt: its flag is one bit
 --   changed-to, kept-to          the changes up to a field's frame; up-to-length: they keep the map's length
@@ -11,114 +9,34 @@
 --
 -- Assumes nothing.
 use mathlib.Core.Path.{◌≡◌, refl, sym, ap, ap₂, ◌∙◌, subst}
-use mathlib.Core.Bool.{Bool, true, false, cond, not, ◌||◌}
-use mathlib.Core.List.{List, [], ◌∷◌}
+use mathlib.Core.Bool.{Bool, true, false, cond, not}
+use mathlib.Core.List.{List, []}
 use Prim.Native.Nat.{ℕ, zero, suc, ◌+◌, ◌≤◌, ◌<◌}
 use native.Mathlib.Omega.{arith}
 use native.Mathlib.Nat.{add-zero, zero-add}
 use native.Mathlib.Numerals.{add-one}
-use borrow.Author.Tests.{eq-eqb, ne_eqb, eqb-true, not-false}
+use borrow.Author.Tests.{eq-eqb}
 use lib.Dec.{eqb}
 use lib.ListN.{length, take, get_or, set}
-use Rattle.bits.specs.Rows.{Row, row, refusal}
+use Rattle.bits.specs.Rows.{refusal}
 use Rattle.bits.specs.Bits.{sent}
 use Rattle.bits.proofs.Runs.{digit_lt, sent-below}
 use Rattle.bits.proofs.Storing.{stored, agreed}
-use Rattle.bits.proofs.Rows.{refusal-hit, refusal-miss}
-use Rattle.bits.proofs.Search.{neither}
+use Rattle.bits.proofs.Rows.{refusal-miss}
 use Rattle.field.specs.Field.{field_size, bits_at, field_of, panning}
 use Rattle.field.specs.declared.Field.{Field}
 use Rattle.frames.specs.Counts.{changing, again, skips, frames_after, all_heard}
-use Rattle.map.specs.Map.{ids, map_size, frames_of, with_frames, structure_at, with_structure, good, each_from, changed_from, spoiled_both}
-use Rattle.map.specs.Calls.{start_answer, take_answer, changed_to, up_to, put_in, taken_in, frame_taken, show_answer, shown_at, shown_by, shown, mark_of, marks, list_answer, heard_at, heard_by, heard, known_at, known_by, known}
+use Rattle.map.specs.Map.{ids, map_size, frames_of, with_frames, structure_at, with_structure, each_from, changed_from, spoiled_both}
+use Rattle.map.specs.Calls.{start_answer, take_answer, changed_to, up_to, put_in, taken_in, frame_taken, shown_at, mark_of, marks}
 use Rattle.frames.specs.declared.Frames.{Frames}
-use Rattle.map.specs.declared.Shown.{Shown}
-use Rattle.map.specs.declared.Gathered.{Gathered}
-use Rattle.map.specs.declared.Reach.{Reach}
 use Rattle.map.proofs.Changing.{from-length, gap_length}
 use Rattle.map.proofs.Looking.{take-fit, map-size, field-size}
-
-pub start-refused : (m : List ℕ) → (length m ≡ map_size → ⊥) → 20 ≡ start_answer m
-unfolding start_answer
-start-refused m ne = sym (refusal-hit (not (eqb (length m) map_size)) 20 [] (ap not (ne_eqb (length m) map_size ne)))
 
 pub start-passed : (m : List ℕ) → length m ≡ map_size → 0 ≡ start_answer m
 unfolding start_answer refusal
 start-passed m e = sym (refusal-miss (not (eqb (length m) map_size)) 20 [] (ap not (eq-eqb (length m) map_size e)))
 
--- ---- what is shown
-
-abbrev pub bare : ℕ → Shown
-bare n = record { number = n; at = 0; len = 0; announced = 0; frames = 0; unknown = 0 }
-
-module _ (m : List ℕ) (id count r : ℕ) (e : r ≡ show_answer m) where
-  pub show-refused : (r ≡ 0 → ⊥) → bare r ≡ shown m id count
-  unfolding shown shown_by
-  show-refused ne = ap bare e ∙ go (show_answer m) e
-    where
-      go : (n : ℕ) → r ≡ n → bare n ≡ shown_by n (shown_at m id count)
-      go zero q = absurd (ne q)
-      go (suc n) q = refl
-
-  pub show-found : r ≡ 0 → (x : Shown) → x ≡ shown_at m id count → x ≡ shown m id count
-  unfolding shown shown_by
-  show-found z x q = q ∙ ap (λ (n : ℕ). shown_by n (shown_at m id count)) (sym z ∙ e)
-
-module _ (m : List ℕ) (id count r : ℕ) (e : r ≡ show_answer m) where
-  pub heard-refused : (r ≡ 0 → ⊥) → record { number = r; at = 0; len = 0; whole = 0 } ≡ heard m id count
-  unfolding heard heard_by
-  heard-refused ne = ap none e ∙ go (show_answer m) e
-    where
-      none : ℕ → Gathered
-      none n = record { number = n; at = 0; len = 0; whole = 0 }
-
-      go : (n : ℕ) → r ≡ n → none n ≡ heard_by n (heard_at m id count)
-      go zero q = absurd (ne q)
-      go (suc n) q = refl
-
-  pub heard-found : r ≡ 0 → (x : Gathered) → x ≡ heard_at m id count → x ≡ heard m id count
-  unfolding heard heard_by
-  heard-found z x q = q ∙ ap (λ (n : ℕ). heard_by n (heard_at m id count)) (sym z ∙ e)
-
-module _ (m : List ℕ) (count r : ℕ) (e : r ≡ show_answer m) where
-  pub known-refused : (r ≡ 0 → ⊥) → record { number = r; row = 0; unbroken = 0; components = 0 } ≡ known m count
-  unfolding known known_by
-  known-refused ne = ap none e ∙ go (show_answer m) e
-    where
-      none : ℕ → Reach
-      none n = record { number = n; row = 0; unbroken = 0; components = 0 }
-
-      go : (n : ℕ) → r ≡ n → none n ≡ known_by n (known_at m count)
-      go zero q = absurd (ne q)
-      go (suc n) q = refl
-
-  pub known-found : r ≡ 0 → (x : Reach) → x ≡ known_at m count → x ≡ known m count
-  unfolding known known_by
-  known-found z x q = q ∙ ap (λ (n : ℕ). known_by n (known_at m count)) (sym z ∙ e)
-
 -- ---- the list
-
-module _ (m out : List ℕ) where
-  abbrev misfit : Bool
-  misfit = not (eqb (length m) map_size) || not (eqb (length out) ids)
-
-  abbrev after20 : List Row
-  after20 = row (not (good m)) 34 ∷ []
-
-  pub list-20 : misfit ≡ true → 20 ≡ list_answer m out
-  unfolding list_answer
-  list-20 t = sym (refusal-hit misfit 20 after20 t)
-
-  module _ (fit : misfit ≡ false) where
-    pub out-size : length out ≡ ids
-    out-size = eqb-true (length out) ids (not-false (eqb (length out) ids) (neither (not (eqb (length m) map_size)) (not (eqb (length out) ids)) fit).1)
-
-    -- the row 34 is that of what is shown
-    pub list-rest : (r : ℕ) → r ≡ show_answer m → r ≡ list_answer m out
-    unfolding show_answer list_answer
-    list-rest r e =
-        e ∙ refusal-miss (not (eqb (length m) map_size)) 20 after20 (neither (not (eqb (length m) map_size)) (not (eqb (length out) ids)) fit).0
-        ∙ sym (refusal-miss misfit 20 after20 fit)
 
 module _ (m : List ℕ) (count : ℕ) where
   marks-length : (n k : ℕ) → length (marks n k m count) ≡ n

@@ -3,12 +3,13 @@
 --   Fine w s       a good structure; one in force (w = 0) is not to be deleted
 --   Good m         a good map: the frames, and every structure fine; good-each, each-good: what is tested is this
 --   take-length, take-good, start-good, refused-same
+--   then-whole     of a good map, the mark of the head that is in force in a frame is 0 or 1
 --
 -- Assumes nothing.
 use mathlib.Core.Path.{◌≡◌, refl, sym, ap, ◌∙◌, subst}
 use mathlib.Core.Bool.{Bool, true, false, cond, ◌&&◌}
 use mathlib.Core.List.{List}
-use Prim.Native.Nat.{ℕ, zero, suc, ◌+◌, ◌*◌, ◌<◌}
+use Prim.Native.Nat.{ℕ, zero, suc, ◌+◌, ◌*◌, ◌≤◌, ◌<◌}
 use native.Mathlib.Omega.{arith}
 use native.Mathlib.Decide.{ℕ_discrete}
 use borrow.Author.Tests.{eq-eqb, eqb-true, eqb-false}
@@ -25,10 +26,10 @@ use Rattle.field.proofs.RoundTrip.{field-bounds}
 use Rattle.structure.specs.Structure.{structure_size, head_of, with_head, marked_head, gathered, spoiled, deletion, absence, said, good_head, settled_head}
 use Rattle.structure.specs.declared.Structure.{Structure}
 use Rattle.structure.proofs.Gathering.{head-stored, with-head-length}
-use Rattle.structure.proofs.Kept.{gathered-length, gathered-good, gathered-deleted, deletion-length, deletion-good, absence-length, absence-good, absence-deleted, blank-good, marked-good, settled-good, spoiled-good, spoiled-deleted}
+use Rattle.structure.proofs.Kept.{good-bounds, gathered-length, gathered-good, gathered-deleted, deletion-length, deletion-good, absence-length, absence-good, absence-deleted, blank-good, marked-good, settled-good, spoiled-good, spoiled-deleted}
 use Rattle.frames.specs.Counts.{good_frames, changing, again, skips, frames_after, all_heard}
 use Rattle.map.specs.Map.{ids, map_size, block_size, frames_of, with_frames, structure_at, with_structure, in_force, announced, good_at, good, stayed, settled, forced, each_from, changed_from, spoiled_both}
-use Rattle.map.specs.Calls.{start_after, start_answer, take_answer, changed_to, up_to, put_in, taken_in, frame_taken, take_after}
+use Rattle.map.specs.Calls.{start_after, start_answer, take_answer, changed_to, up_to, put_in, taken_in, frame_taken, take_after, then_which, then_head}
 use Rattle.frames.proofs.Distances.{after-good}
 use Rattle.map.proofs.Places.{structure-length, with-structure-length, structure-same, structure-other, frames-kept, with-frames-length, structures-kept, frames-stored}
 use Rattle.map.proofs.Changing.{blank-empty, from-frames, gap-frames, gap-structure, force-behind, cleared}
@@ -275,3 +276,17 @@ module _ (m f : List ℕ) where
   take-good g =
       done-either (λ (x : List ℕ). good x ≡ true) (take_answer m f) (frame_taken m (field_of f)) m
       (λ e. each-good _ (frame-good (field_of f) (field-bounds f) m (size e) (good-each m g))) g
+
+-- ---- of a good map
+
+-- the mark of the head that is in force in a frame is one
+pub then-whole : (m : List ℕ) (id count : ℕ) → good m ≡ true → id < ids → (then_head m id count).whole ≤ 1
+unfolding then_head then_which in_force announced
+then-whole m id count g h = go (changing (frames_of m) count && said (announced id m))
+  where
+    head : (w : ℕ) → w < 2 → good_head (head_of (structure_at id w m)) ≡ true
+    head w hw = ((good-each m g).structures id w h hw).head
+
+    go : (b : Bool) → (cond (eqb (cond b 1 0) 1) (settled_head (all_heard (frames_of m)) (head_of (structure_at id 1 m))) (head_of (structure_at id 0 m))).whole ≤ 1
+    go true = (good-bounds _ (settled-good (all_heard (frames_of m)) (head_of (structure_at id 1 m)) (head 1 (lit< tt))).0).whole
+    go false = (good-bounds _ (head 0 (lit< tt))).whole

@@ -1,88 +1,34 @@
 -- What the functions that put structures in force, and fields into them, rest on.
 --
---   move-none, move-turn, move-end         the loop that moves a structure down
---   settled-stored, stayed-sure, stayed-unsure    what is announced of a component comes into force, or its structure stays, by the tests
 --   change-said, change-unsaid             one component at a change
---   span, block-span                       the part of the map that is lent of one component
+--   span                                   the part of the map that is lent of one component
 --   each_turn, each-end                    a turn and the end of the loop over all components
 --   both-spoiled                           one component where frames were missed
---   put-gathers, put-absent, put-deletes   a structure with a field taken in, by the tests
---   structure-given                        the part of the map that is lent for it
+--   structure-given                        the part of the map that is lent for a field
 --
 -- Assumes nothing.
-use mathlib.Core.Path.{◌≡◌, refl, sym, ap, ap₂, ◌∙◌}
+use mathlib.Core.Path.{◌≡◌, sym, ap, ap₂, ◌∙◌}
 use mathlib.Core.Bool.{Bool, true, false, cond}
-use mathlib.Core.List.{List, [], ◌∷◌, ◌++◌, append-nil}
+use mathlib.Core.List.{List, [], ◌++◌, append-nil}
 use Prim.Native.Nat.{ℕ, suc, ◌+◌, ◌-◌, ◌*◌, ◌≤◌, ◌<◌}
 use native.Mathlib.Omega.{arith}
-use native.Mathlib.Nat.{zero-add}
 use native.Mathlib.Numerals.{add-one}
-use borrow.Author.Tests.{eq-eqb, ne_eqb}
-use lib.Dec.{eqb}
-use lib.ListN.{length, take, drop, get_or, set, length-drop}
+use borrow.Author.Tests.{ne_eqb}
+use lib.ListN.{length, take, drop, length-drop}
 use lib.Seq.{drop-length, take_all, take_at, drop_at}
 use Rattle.bits.specs.Bits.{blank}
 use Rattle.runs.specs.Part.{part, put}
-use Rattle.runs.proofs.Parts.{part_length, part-cons, part-cat, put-length, part-put, get_or-put-after, put_next, sets-put}
-use Rattle.field.specs.Field.{deletes, panning}
+use Rattle.runs.proofs.Parts.{part_length, put-length, part-put}
+use Rattle.field.specs.Field.{panning}
 use Rattle.field.specs.declared.Field.{Field}
-use Rattle.structure.specs.Structure.{structure_size, head_of, with_head, marked_head, gathered, spoiled, absence, deletion, said, settled_head}
+use Rattle.structure.specs.Structure.{structure_size, head_of, spoiled, said}
 use Rattle.structure.proofs.Kept.{spoiled-length}
 use Rattle.map.specs.Map.{ids, map_size, block_size, block_at, with_block, structure_at, with_structure, stayed, settled, forced, changed, each_from, spoiled_both}
 use Rattle.map.specs.Calls.{put_in, taken_in}
 use Rattle.structure.specs.declared.Structure.{Structure}
-use Rattle.map.proofs.Places.{block-length, with-block-length}
+use Rattle.map.proofs.Places.{block-length}
 use Rattle.map.proofs.Looking.{structure-lent}
 use Rattle.map.proofs.Changing.{stayed-length, settled-length}
-
--- ---- a structure moved down: the first k bytes are those of the announced one
-
-pub move-none : (d : List ℕ) → d ≡ put 0 0 (part structure_size 0 d) d
-unfolding part put
-move-none d = refl
-
-module _ (k : ℕ) (d b : List ℕ) (l : length d ≡ block_size) (e : b ≡ put 0 k (part structure_size k d) d) where
-  pub move-turn : k < structure_size → set b k (get_or b (structure_size + k) 0) ≡ put 0 (k + 1) (part structure_size (k + 1) d) d
-  unfolding part
-  move-turn h =
-      let lp : length (part structure_size k d) ≡ k = part_length structure_size k d (omega arith) in
-      let m : List ℕ = put 0 k (part structure_size k d) d in
-      let x : ℕ = get_or d (structure_size + k) 0 in
-      let lm : length m ≡ block_size = put-length 0 k (part structure_size k d) d (omega arith) lp ∙ l in
-      ap (λ (y : List ℕ). set y k (get_or y (structure_size + k) 0)) e
-      ∙ ap (set m k) (get_or-put-after 0 k (part structure_size k d) d (structure_size + k) (omega arith) lp (omega arith))
-      ∙ sets-put k (x ∷ []) m (omega (arith, lm))
-      ∙ ap (λ (i : ℕ). put i 1 (x ∷ []) m) (sym (zero-add k))
-      ∙ put_next 0 k (part structure_size k d) d 1 (x ∷ []) (omega arith) lp
-      ∙ ap (λ (y : List ℕ). put 0 (k + 1) (part structure_size k d ++ y) d) (sym (part-cons (structure_size + k) 0 d (omega arith)))
-      ∙ ap (λ (y : List ℕ). put 0 (k + 1) y d) (sym (part-cat structure_size k 1 d))
-
-  pub move-end : k ≤ structure_size → structure_size ≤ k → b ≡ put 0 structure_size (part structure_size structure_size d) d
-  move-end h q =
-      let z : k ≡ structure_size = omega arith in
-      e ∙ ap (λ (i : ℕ). put 0 i (part structure_size i d) d) z
-
--- ---- one structure at a change
-
-pub settled-stored : (sure : Bool) (c : List ℕ) (h g : Structure) (x y : List ℕ) → h ≡ head_of c → g ≡ settled_head sure h → x ≡ with_head g c → y ≡ spoiled x
-    → y ≡ settled sure c
-unfolding settled
-settled-stored sure c h g x y eh eg ex ey =
-    ey ∙ ap spoiled (ex ∙ ap (λ (z : Structure). with_head z c) (eg ∙ ap (settled_head sure) eh))
-
-module _ (sure : Bool) (f : List ℕ) (h g : Structure) (x : List ℕ) (eh : h ≡ head_of f) (eg : g ≡ marked_head 0 0 h) (ex : x ≡ with_head g f) where
-  unmarked : x ≡ with_head (marked_head 0 0 (head_of f)) f
-  unmarked = ex ∙ ap (λ (z : Structure). with_head z f) (eg ∙ ap (marked_head 0 0) eh)
-
-  pub stayed-sure : sure ≡ true → x ≡ stayed sure f
-  unfolding stayed
-  stayed-sure q = unmarked ∙ sym (ap (λ (b : Bool). cond b (with_head (marked_head 0 0 (head_of f)) f) (spoiled (with_head (marked_head 0 0 (head_of f)) f))) q)
-
-  pub stayed-unsure : sure ≡ false → (y : List ℕ) → y ≡ spoiled x → y ≡ stayed sure f
-  unfolding stayed
-  stayed-unsure q y ey =
-      ey ∙ ap spoiled unmarked
-      ∙ sym (ap (λ (b : Bool). cond b (with_head (marked_head 0 0 (head_of f)) f) (spoiled (with_head (marked_head 0 0 (head_of f)) f))) q)
 
 -- ---- one component at a change
 
@@ -147,24 +93,18 @@ block-is k m =
 pub block-span : (k : ℕ) (m : List ℕ) → length m ≡ map_size → k < ids → length (take (span (k * block_size) block_size) (drop (k * block_size) m)) ≡ block_size
 block-span k m l h = ap length (block-is k m) ∙ block-length m l k h
 
--- a rule for one block that keeps its length
-module _ (f : List ℕ → List ℕ) (keeps : (b : List ℕ) → length b ≡ block_size → length (f b) ≡ block_size) where
-  module _ (k : ℕ) (m : List ℕ) (l : length m ≡ map_size) (h : k < ids) (b : List ℕ)
-      (e : b ≡ f (take (span (k * block_size) block_size) (drop (k * block_size) m))) where
-    pub each_turn : (length (take (k * block_size) m ++ (b ++ drop (span (k * block_size) block_size) (drop (k * block_size) m))) ≡ map_size)
-        × (each_from (ids - (k + 1)) (k + 1) f (take (k * block_size) m ++ (b ++ drop (span (k * block_size) block_size) (drop (k * block_size) m)))
-        ≡ each_from (ids - k) k f m)
-    unfolding each_from with_block put
-    each_turn =
-        let n : ids - k ≡ suc (ids - (k + 1)) = omega arith in
-        let w : span (k * block_size) block_size ≡ block_size = omega arith in
-        let c : List ℕ = f (block_at k m) in
-        let lc : length c ≡ block_size = keeps (block_at k m) (block-length m l k h) in
-        let given : (take (k * block_size) m ++ (b ++ drop (span (k * block_size) block_size) (drop (k * block_size) m))) ≡ with_block k c m =
-        ap₂ (λ (x : List ℕ) (j : ℕ). take (k * block_size) m ++ (x ++ drop j (drop (k * block_size) m))) (e ∙ ap f (block-is k m)) w in (
-          ap length given ∙ with-block-length m l k c h lc,
-          ap₂ (λ (x : ℕ) (y : List ℕ). each_from (ids - (k + 1)) x f y) (add-one k) given ∙ ap (λ (j : ℕ). each_from j k f m) (sym n),
-        )
+-- one block changed to what f makes of it
+module _ (f : List ℕ → List ℕ) (k : ℕ) (m : List ℕ) (h : k < ids) (b : List ℕ)
+    (e : b ≡ f (take (span (k * block_size) block_size) (drop (k * block_size) m))) where
+  pub each_turn : each_from (ids - (k + 1)) (k + 1) f (take (k * block_size) m ++ (b ++ drop (span (k * block_size) block_size) (drop (k * block_size) m)))
+      ≡ each_from (ids - k) k f m
+  unfolding each_from with_block put
+  each_turn =
+      let n : ids - k ≡ suc (ids - (k + 1)) = omega arith in
+      let w : span (k * block_size) block_size ≡ block_size = omega arith in
+      let given : (take (k * block_size) m ++ (b ++ drop (span (k * block_size) block_size) (drop (k * block_size) m))) ≡ with_block k (f (block_at k m)) m =
+      ap₂ (λ (x : List ℕ) (j : ℕ). take (k * block_size) m ++ (x ++ drop j (drop (k * block_size) m))) (e ∙ ap f (block-is k m)) w in
+      ap₂ (λ (x : ℕ) (y : List ℕ). each_from (ids - (k + 1)) x f y) (add-one k) given ∙ ap (λ (j : ℕ). each_from j k f m) (sym n)
 
 pub each-end : (f : List ℕ → List ℕ) (k : ℕ) (m t : List ℕ) → ids ≤ k → each_from (ids - k) k f m ≡ t → m ≡ t
 unfolding each_from
@@ -187,24 +127,6 @@ both-spoiled b x y l ex ey =
     (ap₂ (λ (u v : List ℕ). u ++ v) (ey ∙ ap (λ (z : List ℕ). spoiled (take 71 z)) back) (ap (drop 71) back ∙ rest) ∙ append-nil _)
 
 -- ---- a field into its structure
-
-module _ (r : Field) (s : List ℕ) (q : Bool) (e : q ≡ deletes r.tdms) where
-  put-tests : (d f : Bool) → q ≡ d → eqb r.flag 0 ≡ f
-      → put_in r s ≡ cond d (cond f absence deletion) (gathered s r.tdms r.links)
-  unfolding put_in
-  put-tests d f ed ef =
-      ap (λ (x : Bool). cond x (cond (eqb r.flag 0) absence deletion) (gathered s r.tdms r.links)) (sym e ∙ ed)
-      ∙ ap (λ (x : Bool). cond d (cond x absence deletion) (gathered s r.tdms r.links)) ef
-
-  pub put-gathers : q ≡ false → gathered s r.tdms r.links ≡ put_in r s
-  put-gathers d = sym (put-tests false _ d refl)
-
-  module _ (d : q ≡ true) where
-    pub put-absent : r.flag ≡ 0 → absence ≡ put_in r s
-    put-absent f = sym (put-tests true true d (eq-eqb r.flag 0 f))
-
-    pub put-deletes : (r.flag ≡ 0 → ⊥) → deletion ≡ put_in r s
-    put-deletes f = sym (put-tests true false d (ne_eqb r.flag 0 f))
 
 module _ (r : Field) (m : List ℕ) where
   abbrev at : ℕ

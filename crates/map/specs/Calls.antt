@@ -16,9 +16,7 @@ use Rattle.frames.specs.Counts.{until, changing, again, skips, frames_after, eno
 use Rattle.map.specs.Map.{ids, map_size, block_size, frames_of, with_frames, structure_at, with_structure, in_force, announced, good, each_from, changed_from, spoiled_both, present, counted, components}
 use Rattle.structure.specs.declared.Structure.{Structure}
 use Rattle.frames.specs.declared.Frames.{Frames}
-use Rattle.map.specs.declared.Shown.{Shown}
-use Rattle.map.specs.declared.Gathered.{Gathered}
-use Rattle.map.specs.declared.Reach.{Reach}
+use Rattle.map.specs.Answers.{Shown, Gathered, Reach}
 
 -- ---- start
 

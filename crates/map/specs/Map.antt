@@ -10,8 +10,7 @@
 --   in_force, announced      a component's structures
 --   forced, changed         a component at a change
 --   spoiled_both b   a component's structures, where a frame was missed
---   ruled           either, by the rule
---   each_from        every component by such a rule
+--   each_from        every component by either
 --   good m          the condition of a good map
 --   present, components     which components a set has for certain, and how many
 use Rattle.std.specs.Prelude.{Bool, cond, not, ◌&&◌, List, [], ◌∷◌, ◌++◌, ℕ, zero, suc, ◌+◌, ◌*◌, ltb, eqb, get_or}
@@ -22,8 +21,6 @@ use Rattle.frames.specs.Counts.{good_frames}
 use Rattle.structure.specs.Structure.{structure_size, head_of, with_head, marked_head, spoiled, good_head, said, certainly, settled_head}
 use Rattle.structure.specs.declared.Structure.{Structure}
 use Rattle.frames.specs.declared.Frames.{Frames}
-use Rattle.map.specs.declared.Rule.{Rule}
-use Rattle.map.specs.declared.Rule.TheVariants.{Change, Missed}
 
 abbrev pub ids : ℕ
 ids = 256
@@ -112,12 +109,6 @@ changed_from n k sure m = each_from n k (changed sure) m
 
 unfoldable pub spoiled_both : List ℕ → List ℕ
 spoiled_both b = spoiled (part 0 structure_size b) ++ spoiled (part structure_size structure_size b)
-
--- ---- either
-
-unfoldable pub ruled : Rule → List ℕ → List ℕ
-ruled (Change sure) b = changed sure b
-ruled Missed b = spoiled_both b
 
 -- ---- the components of a set, before or behind a change
 

@@ -4,12 +4,15 @@
 // look          what the map is asked before a change
 #![tactic(auto)]
 
-ghost use Rattle.std.specs.Prelude.{◌≡◌, ◌<◌, length};
+ghost use Rattle.std.specs.Prelude.{◌≡◌, ℕ, List, ◌<◌, length};
 ghost use Rattle.runs.specs.Part.{part, put};
 ghost use Rattle.structure.specs.Structure.{structure_size};
-ghost use Rattle.map.specs.Map.{ids, block_size, map_size, frames_of, with_frames, stayed, settled, changed, each_from, spoiled_both, ruled};
-ghost use Rattle.map.specs.Calls.{start_answer, start_after, put_in, taken_in, take_answer, take_after, shown, list_answer, list_after, heard, known};
+ghost use Rattle.map.specs.Map.{ids, block_size, map_size, frames_of, with_frames, stayed, settled, changed, each_from, spoiled_both};
+ghost use Rattle.faults.specs.Refusals.{told};
+ghost use Rattle.map.specs.Answers.{told_shown, told_heard, told_known};
+ghost use Rattle.map.specs.Calls.{show_answer, start_answer, start_after, put_in, taken_in, take_answer, take_after, shown, list_answer, list_after, heard, known};
 
+use faults::Refusal;
 use field::{Field, Tdms};
 use frames::Frames;
 use structure::Structure;
@@ -32,46 +35,40 @@ impl Map {
     pub const SIZE: usize = Self::FRAMES + 4;
 }
 
-// What is known of a component: 0 with its fields' place and length in the map, or a refusal; whether a change is announced, and in how
-// many frames behind the last one it comes; and whether not enough was heard to hold that there is none.
-#[derive(Clone, Copy)]
-pub struct Shown {
-    pub number: u8,
+// Where fields stand in the map: their place and their length, 0 and 0 where there are none.
+#[derive(Clone, Copy, Default)]
+pub struct Span {
     pub at: usize,
     pub len: usize,
-    pub announced: u8,
-    pub frames: u8,
-    pub unknown: u8,
+}
+
+// What is known of a component: its fields, none where its structure is unfinished, which is 46; in how many frames behind the last one
+// the change comes that is announced of it; and whether not enough was heard to hold that there is none.
+#[derive(Clone, Copy, Default)]
+pub struct Shown {
+    pub fields: Option<Span>,
+    pub change: Option<u8>,
+    pub unknown: bool,
 }
 
 // What was heard of a component: its fields so far, and whether they are known to be all.
-#[derive(Clone, Copy)]
+#[derive(Clone, Copy, Default)]
 pub struct Gathered {
-    pub number: u8,
-    pub at: usize,
-    pub len: usize,
-    pub whole: u8,
+    pub fields: Span,
+    pub whole: bool,
 }
 
 // How far what was heard reaches: frames in a row, whether every frame of the running configuration was heard, and how many components
 // are in force.
-#[derive(Clone, Copy)]
+#[derive(Clone, Copy, Default)]
 pub struct Reach {
-    pub number: u8,
     pub row: u8,
-    pub unbroken: u8,
+    pub unbroken: bool,
     pub components: usize,
 }
 
-// What befalls every component at once: a change, behind which a list that is not whole may lack fields unless it is sure; frames that were
-// missed.
-#[derive(Clone, Copy)]
-pub enum Rule {
-    Change(bool),
-    Missed,
-}
-
 // The frames, at the map's end.
+#[tactic(auto, unfolding(crate::specs::Map::frames_of))]
 fn frames_of(map: &[u8]) -> Frames
     requires { length map.now ≡ map_size }
     ensures { result ≡ frames_of map.now }
@@ -84,6 +81,7 @@ fn frames_of(map: &[u8]) -> Frames
     }
 }
 
+#[tactic(auto, unfolding(crate::specs::Map::with_frames, runs::specs::Part::put))]
 fn put_frames(map: &mut [u8], frames: Frames)
     requires { length map.old ≡ map_size }
     ensures { map.new ≡ with_frames frames map.old }
@@ -95,69 +93,53 @@ fn put_frames(map: &mut [u8], frames: Frames)
 }
 
 // 20. Every byte becomes 0.
-pub fn start(map: &mut [u8]) -> u8
-    ensures value { result ≡ start_answer map.old }
+#[tactic(auto, unfolding(crate::specs::Calls::start_answer, crate::specs::Calls::start_after, bits::specs::Rows::refusal, bits::specs::Rows::done))]
+pub fn start(map: &mut [u8]) -> Result<(), Refusal>
+    ensures value { told result ≡ start_answer map.old }
     ensures map_after { map.new ≡ start_after map.old }
 {
     if map.len() != Map::SIZE {
-        return 20;
+        return Err(Refusal::Length);
     }
     runs::clear(map);
-    0
+    Ok(())
 }
 
 // 20, 34, 44, 45. Takes in the field of one frame; changes that fall before that frame come first.
-pub fn take(map: &mut [u8], field: &[u8]) -> u8
-    ensures value { result ≡ take_answer map.old field.now }
+pub fn take(map: &mut [u8], field: &[u8]) -> Result<(), Refusal>
+    ensures value { told result ≡ take_answer map.old field.now }
     ensures map_after { map.new ≡ take_after map.old field.now }
 {
-    let answer = look::take_answer(map, field);
-    if answer != 0 {
-        return answer;
-    }
-    let field = Field::load(field);
+    let field = look::take_answer(map, field)?;
     let frames = frames_of(map);
     if frames.again(field.count) {
-        return 0;
+        return Ok(());
     }
     let missed = frames.skips(field.count);
     if frames.changing(field.count) {
-        each(map, Rule::Change(frames.all_heard()));
+        let sure = frames.all_heard();
+        each(map, |block| change_one(block, sure));
     }
     if missed {
-        each(map, Rule::Missed);
+        each(map, spoil_one);
     }
     if field.id != Field::PANNING {
         put_in(map, field);
     }
     put_frames(map, frames.after(field.count));
-    0
+    Ok(())
 }
 
-// A rule for every component.
-fn each(map: &mut [u8], rule: Rule)
-    requires { length map.old ≡ map_size }
-    ensures { map.new ≡ each_from ids 0 (ruled rule) map.old }
+// A change of one component's bytes, for every component. By index, and not by `chunks_exact_mut`: of parts lent by an iterator a proof
+// knows the length afterwards, and not the bytes.
+fn each<F: Fn(&mut [u8])>(map: &mut [u8], change: F)
+    requires map_len { length map.old ≡ map_size }
+    requires callable { (block : _) → length block.now ≡ block_size → F.pre change block }
+    ensures { (f : List ℕ → List ℕ) → ((block left : _) → length block.now ≡ block_size → F.post change block tt left → left.now ≡ f block.now) → map.new ≡ each_from ids 0 f map.old }
 {
-    let mut id: usize = 0;
-    while id < Map::IDS {
+    for id in 0..Map::IDS {
         let at = id * Map::BLOCK;
-        by_rule(&mut map[at..at + Map::BLOCK], rule);
-        id += 1;
-    }
-}
-
-fn by_rule(block: &mut [u8], rule: Rule)
-    requires { length block.old ≡ block_size }
-    ensures { block.new ≡ ruled rule block.old }
-{
-    match rule {
-        Rule::Change(sure) => {
-            change_one(block, sure);
-        }
-        Rule::Missed => {
-            spoil_one(block);
-        }
+        change(&mut map[at..at + Map::BLOCK]);
     }
 }
 
@@ -178,6 +160,7 @@ fn change_one(block: &mut [u8], sure: bool)
 }
 
 // What was announced comes into force; what is not whole is begun anew.
+#[tactic(auto, unfolding(crate::specs::Map::settled))]
 fn settle(s: &mut [u8], sure: bool)
     requires { length s.old ≡ structure_size }
     ensures { s.new ≡ settled sure s.old }
@@ -187,6 +170,7 @@ fn settle(s: &mut [u8], sure: bool)
 }
 
 // Nothing was announced. A change that is not sure may have cut a repetition off.
+#[tactic(auto, unfolding(crate::specs::Map::stayed))]
 fn stay(s: &mut [u8], sure: bool)
     requires { length s.old ≡ structure_size }
     ensures { s.new ≡ stayed sure s.old }
@@ -211,11 +195,7 @@ fn copy_down(block: &mut [u8])
     requires { length block.old ≡ block_size }
     ensures { block.new ≡ put 0 structure_size (part structure_size structure_size block.old) block.old }
 {
-    let mut k: usize = 0;
-    while k < Structure::SIZE {
-        block[k] = block[Structure::SIZE + k];
-        k += 1;
-    }
+    block.copy_within(Structure::SIZE..Map::BLOCK, 0);
 }
 
 // A field into its structure.
@@ -229,89 +209,71 @@ fn put_in(map: &mut [u8], field: Field)
     put_structure(&mut map[at..at + Structure::SIZE], field);
 }
 
+#[tactic(auto, unfolding(crate::specs::Calls::put_in))]
 fn put_structure(s: &mut [u8], field: Field)
     requires { length s.old ≡ structure_size }
     ensures { s.new ≡ put_in field s.old }
 {
-    if !Tdms::deletes(field.tdms) {
-        structure::gather(s, field.tdms, field.links);
-    } else if field.flag == 0 {
-        structure::absent(s);
+    if Tdms::deletes(field.tdms) {
+        structure::none(s, field.flag != 0);
     } else {
-        structure::delete(s);
+        structure::gather(s, field.tdms, field.links);
     }
 }
 
-// 20, 34, 46. What is known of a component in the frame with a count.
-pub fn show(map: &[u8], id: u8, count: u8) -> Shown
-    ensures { result ≡ shown map.now id count }
+// 20, 34. What is known of a component in the frame with a count; 46 is told where it shows no fields.
+#[tactic(auto, unfolding(crate::specs::Calls::shown, crate::specs::Calls::shown_by, crate::specs::Calls::show_answer, bits::specs::Rows::refusal))]
+pub fn show(map: &[u8], id: u8, count: u8) -> Result<Shown, Refusal>
+    ensures number { told result ≡ show_answer map.now }
+    ensures value { told_shown result ≡ shown map.now id count }
 {
-    let refused = look::checked(map);
-    if refused != 0 {
-        return Shown {
-            number: refused,
-            at: 0,
-            len: 0,
-            announced: 0,
-            frames: 0,
-            unknown: 0,
-        };
-    }
-    look::shown_at(map, id as usize, count)
+    look::checked(map)?;
+    Ok(look::shown_at(map, id as usize, count))
 }
 
 // 20, 34. A mark for each component in the frame with a count: 0 none, 1 whole, 2 unfinished, 3 not known.
-pub fn list(map: &[u8], count: u8, out: &mut [u8]) -> u8
-    ensures value { result ≡ list_answer map.now out.old }
+#[tactic(auto, unfolding(crate::specs::Calls::list_answer, crate::specs::Calls::list_after, crate::specs::Calls::show_answer, bits::specs::Rows::refusal, bits::specs::Rows::done))]
+pub fn list(map: &[u8], count: u8, out: &mut [u8]) -> Result<(), Refusal>
+    ensures value { told result ≡ list_answer map.now out.old }
     ensures out_after { out.new ≡ list_after map.now count out.old }
 {
-    if (map.len() != Map::SIZE) | (out.len() != Map::IDS) {
-        return 20;
+    if map.len() != Map::SIZE || out.len() != Map::IDS {
+        return Err(Refusal::Length);
     }
-    let refused = look::checked(map);
-    if refused != 0 {
-        return refused;
-    }
+    look::checked(map)?;
     let frames = frames_of(map);
     let change = frames.changing(count);
     let sure = frames.all_heard();
     let heard = frames.enough();
-    let mut id: usize = 0;
-    while id < Map::IDS {
-        out[id] = look::mark_at(map, id, change, sure, heard);
-        id += 1;
+    for (id, mark) in out.iter_mut().enumerate() {
+        *mark = u8::from(look::mark_at(map, id, change, sure, heard));
     }
-    0
+    Ok(())
 }
 
 // 20, 34. What was heard of a component that is in force in the frame with a count, whole or not.
-pub fn heard(map: &[u8], id: u8, count: u8) -> Gathered
-    ensures { result ≡ heard map.now id count }
+#[tactic(auto, unfolding(crate::specs::Calls::heard, crate::specs::Calls::heard_by, crate::specs::Calls::show_answer, bits::specs::Rows::refusal))]
+pub fn heard(map: &[u8], id: u8, count: u8) -> Result<Gathered, Refusal>
+    ensures { told_heard result ≡ heard map.now id count }
 {
-    let refused = look::checked(map);
-    if refused != 0 {
-        return Gathered {
-            number: refused,
-            at: 0,
-            len: 0,
-            whole: 0,
-        };
-    }
-    look::heard_at(map, id as usize, count)
+    look::checked(map)?;
+    let heard = look::heard_at(map, id as usize, count);
+    Ok(Gathered {
+        fields: heard.fields,
+        whole: heard.whole == 1,
+    })
 }
 
 // 20, 34. How far what was heard reaches, and how many components are in force in the frame with a count.
-pub fn known(map: &[u8], count: u8) -> Reach
-    ensures { result ≡ known map.now count }
+#[tactic(auto, unfolding(crate::specs::Calls::known, crate::specs::Calls::known_by, crate::specs::Calls::show_answer, bits::specs::Rows::refusal))]
+pub fn known(map: &[u8], count: u8) -> Result<Reach, Refusal>
+    ensures { told_known result ≡ known map.now count }
 {
-    let refused = look::checked(map);
-    if refused != 0 {
-        return Reach {
-            number: refused,
-            row: 0,
-            unbroken: 0,
-            components: 0,
-        };
-    }
-    look::known_at(map, count)
+    look::checked(map)?;
+    let known = look::known_at(map, count);
+    Ok(Reach {
+        row: known.row,
+        unbroken: known.unbroken == 1,
+        components: known.components,
+    })
 }

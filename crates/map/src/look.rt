@@ -1,17 +1,23 @@
 // What the map is asked before a change: frames, structures, whether it is good, and what is known of a component.
-ghost use Rattle.std.specs.Prelude.{◌≡◌, Bool, ℕ, ◌<◌, eqb, length};
+ghost use Rattle.std.specs.Prelude.{◌≡◌, Bool, true, ℕ, ◌+◌, ◌*◌, ◌<◌, eqb, length, Ok, IfOk};
 ghost use Rattle.frames.specs.Counts.{changing, all_heard, enough};
 ghost use Rattle.frames.specs.declared.Frames.{Frames};
-ghost use Rattle.map.specs.Map.{ids, map_size, frames_of, structure_at, good_at, good, present, components};
+ghost use Rattle.map.specs.Map.{ids, map_size, frames_of, structure_at, good_at, good, present, counted, components};
+ghost use Rattle.faults.specs.Refusals.{told};
+ghost use Rattle.field.specs.Field.{field_of};
 ghost use Rattle.structure.specs.Structure.{head_of};
+ghost use Rattle.map.specs.Answers.{told_shown, as_heard, as_known, mark_number};
 ghost use Rattle.map.specs.Calls.{too_many, take_answer, then_which, then_head, unknown, found_of, shown_at, show_answer, mark_of, heard_len, heard_at, known_at};
 
-use crate::{Gathered, Map, Reach, Shown};
+use crate::{Map, Shown, Span};
+use faults::Refusal;
 use field::{Field, Tdms};
 use frames::Frames;
 use structure::Structure;
 
-// The head of the structure in force (which 0) or of the announced one (which 1).
+// The head of the structure in force (which 0) or of the announced one (which 1): numbers, as the update flag has them that a field
+// carries, and with which a structure's place is reckoned. An enum would only be made of that flag and be turned into it again.
+#[tactic(auto, unfolding(crate::specs::Map::structure_at, runs::specs::Part::part))]
 pub fn head(map: &[u8], id: usize, which: usize) -> Structure
     requires map_len { length map.now ≡ map_size }
     requires id_lt_ids { id < ids }
@@ -40,25 +46,29 @@ fn is_good(map: &[u8]) -> bool
 {
     let frames = crate::frames_of(map).good();
     let mut faults: u32 = 0;
-    let mut id: usize = 0;
-    while id < Map::IDS {
-        faults = faults | faults_at(map, id);
-        id += 1;
+    for id in 0..Map::IDS {
+        faults |= faults_at(map, id);
     }
-    frames & (faults == 0)
+    frames && faults == 0
 }
 
 // 20, 34.
-pub fn checked(map: &[u8]) -> u8
-    ensures { result ≡ show_answer map.now }
+#[tactic(auto, unfolding(crate::specs::Calls::show_answer, bits::specs::Rows::refusal))]
+pub fn checked(map: &[u8]) -> Result<(), Refusal>
+    ensures { told result ≡ show_answer map.now }
 {
     if map.len() != Map::SIZE {
-        return 20;
+        return Err(Refusal::Length);
     }
-    if is_good(map) { 0 } else { 34 }
+    if is_good(map) {
+        Ok(())
+    } else {
+        Err(Refusal::State)
+    }
 }
 
 // A component is in its set for certain, before or behind a change.
+#[tactic(auto, unfolding(crate::specs::Map::present, crate::specs::Map::stands, crate::specs::Map::comes, crate::specs::Map::announced, crate::specs::Map::in_force))]
 fn present(map: &[u8], id: usize, which: usize, change: bool, sure: bool) -> bool
     requires map_len { length map.now ≡ map_size }
     requires id_lt_ids { id < ids }
@@ -66,30 +76,37 @@ fn present(map: &[u8], id: usize, which: usize, change: bool, sure: bool) -> boo
 {
     let coming = head(map, id, 1);
     if which != 0 {
-        return !change & (0 < coming.fields);
+        return !change && 0 < coming.fields;
     }
     if change {
-        sure & coming.certainly()
+        sure && coming.certainly()
     } else {
         head(map, id, 0).certainly()
     }
+}
+
+// Of how many components something holds.
+fn counted<F: Fn(usize) -> bool>(holds: F) -> usize
+    requires { (id : ℕ) → id < ids → F.pre holds id }
+    ensures { (p : ℕ → Bool) → ((id : ℕ) (b : Bool) → id < ids → F.post holds id b → b ≡ p id) → result ≡ counted p ids 0 }
+{
+    let mut count: usize = 0;
+    for id in 0..Map::IDS {
+        if holds(id) {
+            count += 1;
+        }
+    }
+    count
 }
 
 fn components(map: &[u8], which: usize, change: bool, sure: bool) -> usize
     requires { length map.now ≡ map_size }
     ensures { result ≡ components which change sure map.now }
 {
-    let mut count: usize = 0;
-    let mut id: usize = 0;
-    while id < Map::IDS {
-        if present(map, id, which, change, sure) {
-            count += 1;
-        }
-        id += 1;
-    }
-    count
+    counted(|id| present(map, id, which, change, sure))
 }
 
+#[tactic(auto, unfolding(crate::specs::Calls::too_many))]
 fn too_many(map: &[u8], field: Field) -> bool
     requires { length map.now ≡ map_size }
     ensures { result ≡ too_many map.now field }
@@ -106,33 +123,40 @@ fn too_many(map: &[u8], field: Field) -> bool
     Map::COMPONENTS <= components(map, field.flag as usize, change, sure)
 }
 
-// 20, 34, 44, 45.
-pub fn take_answer(map: &[u8], field: &[u8]) -> u8
-    ensures { result ≡ take_answer map.now field.now }
+// 20, 34, 44, 45. The field, where it is taken.
+#[tactic(auto, unfolding(crate::specs::Calls::take_answer, crate::specs::Calls::take_rows, bits::specs::Rows::refusal))]
+pub fn take_answer(map: &[u8], field: &[u8]) -> Result<Field, Refusal>
+    ensures number { told result ≡ take_answer map.now field.now }
+    ensures value { IfOk result (λ given. given ≡ field_of field.now) }
 {
-    if (map.len() != Map::SIZE) | (field.len() != Field::SIZE) {
-        return 20;
+    if map.len() != Map::SIZE || field.len() != Field::SIZE {
+        return Err(Refusal::Length);
     }
     if !is_good(map) {
-        return 34;
+        return Err(Refusal::State);
     }
     let field = Field::load(field);
     if field.bad() {
-        return 44;
+        return Err(Refusal::BadPair);
     }
-    if (field.id == Field::PANNING) | crate::frames_of(map).again(field.count) {
-        return 0;
+    if field.id == Field::PANNING || crate::frames_of(map).again(field.count) {
+        return Ok(field);
     }
-    if too_many(map, field) { 45 } else { 0 }
+    if too_many(map, field) {
+        return Err(Refusal::TooMany);
+    }
+    Ok(field)
 }
 
-// The structure of a component that is in force in the frame with a count: the announced one behind the change.
+// The structure of a component that is in force in the frame with a count: the announced one behind the change. Which of the two it is
+// stands as a number, as `head` is asked.
 #[derive(Clone, Copy)]
 struct Then {
     which: usize,
     head: Structure,
 }
 
+#[tactic(auto, unfolding(crate::specs::Calls::then_which, crate::specs::Calls::then_head, crate::specs::Map::announced, crate::specs::Map::in_force))]
 fn then_at(map: &[u8], id: usize, count: u8) -> Then
     requires map_len { length map.now ≡ map_size }
     requires id_lt_ids { id < ids }
@@ -140,7 +164,7 @@ fn then_at(map: &[u8], id: usize, count: u8) -> Then
 {
     let frames = crate::frames_of(map);
     let coming = head(map, id, 1);
-    if frames.changing(count) & coming.said() {
+    if frames.changing(count) && coming.said() {
         return Then {
             which: 1,
             head: coming.settled(frames.all_heard()),
@@ -153,10 +177,11 @@ fn then_at(map: &[u8], id: usize, count: u8) -> Then
 }
 
 // What is known of a component in the frame with a count.
+#[tactic(auto, unfolding(crate::specs::Calls::shown_at, crate::specs::Map::announced))]
 pub fn shown_at(map: &[u8], id: usize, count: u8) -> Shown
     requires map_len { length map.now ≡ map_size }
     requires id_lt_ids { id < ids }
-    ensures { result ≡ shown_at map.now id count }
+    ensures { told_shown (Ok result) ≡ shown_at map.now id count }
 {
     let said = head(map, id, 1).said();
     let then = then_at(map, id, count);
@@ -164,68 +189,88 @@ pub fn shown_at(map: &[u8], id: usize, count: u8) -> Shown
 }
 
 // The answer of a structure: its fields where it is whole, 46 where it is not.
+#[tactic(auto, unfolding(crate::specs::Calls::found_of, crate::specs::Calls::then_number))]
 fn found(frames: Frames, id: usize, which: usize, head: Structure, said: bool) -> Shown
     requires id_lt_ids { id < ids }
     requires which_bound { which < 2 }
-    ensures { result ≡ found_of frames id which head said }
+    ensures { told_shown (Ok result) ≡ found_of frames id which head said }
 {
-    let announced = if said { 1 } else { 0 };
-    let until = if said { frames.until() } else { 0 };
-    let unknown = if unknown(frames, head) { 1 } else { 0 };
-    if head.whole == 1 {
-        return Shown {
-            number: 0,
+    let fields = if head.whole == 1 {
+        Some(Span {
             at: id * Map::BLOCK + which * Structure::SIZE + Structure::FIELDS,
             len: Structure::FIELD * head.fields as usize,
-            announced,
-            frames: until,
-            unknown,
-        };
-    }
-    let number = if (0 < head.fields) & (head.whole == 0) {
-        46
+        })
+    } else if 0 < head.fields && head.whole == 0 {
+        None
     } else {
-        0
+        Some(Span::default())
     };
     Shown {
-        number,
-        at: 0,
-        len: 0,
-        announced,
-        frames: until,
-        unknown,
+        fields,
+        change: if said { Some(frames.until()) } else { None },
+        unknown: unknown(frames, head),
     }
 }
 
 // Nothing came of a component in this configuration, and not enough was heard to hold that there is none.
+#[tactic(auto, unfolding(crate::specs::Calls::unknown))]
 fn unknown(frames: Frames, head: Structure) -> bool
     ensures { result ≡ unknown frames head }
 {
-    (head.fields == 0) & ((head.certain == 0) & !frames.enough())
+    head.fields == 0 && head.certain == 0 && !frames.enough()
 }
 
-// A mark for a list, of the structure that is in force: 0 no component, 1 whole, 2 unfinished, 3 not known.
-fn mark_by(head: Structure, heard: bool) -> u8
-    ensures { (f : Frames) (id w : ℕ) (s : Bool) → heard ≡ enough f → result ≡ mark_of (found_of f id w head s) }
+// What a list says of a component.
+#[derive(Clone, Copy, Debug, PartialEq, Eq)]
+pub enum Mark {
+    Absent,
+    Whole,
+    Unfinished,
+    Unknown,
+}
+
+// 0 no component, 1 whole, 2 unfinished, 3 not known.
+impl From<Mark> for u8 {
+    ghost from_gives = { λ mark number. number ≡ mark_number mark };
+
+    fn from(mark: Mark) -> u8 {
+        match mark {
+            Mark::Absent => 0,
+            Mark::Whole => 1,
+            Mark::Unfinished => 2,
+            Mark::Unknown => 3,
+        }
+    }
+}
+
+// The mark of the structure that is in force.
+#[tactic(auto, unfolding(crate::specs::Calls::found_of, crate::specs::Calls::mark_of, crate::specs::Calls::then_number, crate::specs::Calls::unknown))]
+fn mark_by(head: Structure, heard: bool) -> Mark
+    ensures { (f : Frames) (id w : ℕ) (s : Bool) → heard ≡ enough f → mark_number result ≡ mark_of (found_of f id w head s) }
 {
     if head.fields == 0 {
-        return if (head.certain == 0) & !heard { 3 } else { 0 };
+        return if (head.certain == 0) & !heard {
+            Mark::Unknown
+        } else {
+            Mark::Absent
+        };
     }
     if head.whole == 1 {
-        1
+        Mark::Whole
     } else if head.whole == 0 {
-        2
+        Mark::Unfinished
     } else {
-        0
+        Mark::Absent
     }
 }
 
 // The mark of a component, by what the frames say: a change comes before the frame that is asked about, it is sure, enough was
 // heard. A list asks the frames once and not for every component.
-pub fn mark_at(map: &[u8], id: usize, change: bool, sure: bool, heard: bool) -> u8
+#[tactic(auto, unfolding(crate::specs::Calls::shown_at, crate::specs::Calls::then_head, crate::specs::Calls::then_which, crate::specs::Map::announced, crate::specs::Map::in_force))]
+pub fn mark_at(map: &[u8], id: usize, change: bool, sure: bool, heard: bool) -> Mark
     requires map_len { length map.now ≡ map_size }
     requires id_lt_ids { id < ids }
-    ensures { (count : ℕ) → change ≡ changing (frames_of map.now) count → sure ≡ all_heard (frames_of map.now) → heard ≡ enough (frames_of map.now) → result ≡ mark_of (shown_at map.now id count) }
+    ensures { (count : ℕ) → change ≡ changing (frames_of map.now) count → sure ≡ all_heard (frames_of map.now) → heard ≡ enough (frames_of map.now) → mark_number result ≡ mark_of (shown_at map.now id count) }
 {
     let coming = head(map, id, 1);
     if change & coming.said() {
@@ -235,6 +280,7 @@ pub fn mark_at(map: &[u8], id: usize, change: bool, sure: bool, heard: bool) -> 
 }
 
 // How many bytes of fields were heard of a structure: none, where it was spoiled.
+#[tactic(auto, unfolding(crate::specs::Calls::heard_len))]
 fn heard_len(map: &[u8], id: usize, which: usize, head: Structure) -> usize
     requires map_len { length map.now ≡ map_size }
     requires id_lt_ids { id < ids }
@@ -249,11 +295,18 @@ fn heard_len(map: &[u8], id: usize, which: usize, head: Structure) -> usize
     }
 }
 
+// What was heard of a component: its fields so far, and the mark that they are all. It is the map's own byte, which is 0 or 1 in a good map.
+#[derive(Clone, Copy)]
+pub struct Heard {
+    pub fields: Span,
+    pub whole: u8,
+}
+
 // What was heard of a component, in the frame with a count.
-pub fn heard_at(map: &[u8], id: usize, count: u8) -> Gathered
+pub fn heard_at(map: &[u8], id: usize, count: u8) -> Heard
     requires map_len { length map.now ≡ map_size }
     requires id_lt_ids { id < ids }
-    ensures { result ≡ heard_at map.now id count }
+    ensures { as_heard result ≡ heard_at map.now id count }
 {
     let then = then_at(map, id, count);
     let len = heard_len(map, id, then.which, then.head);
@@ -262,32 +315,29 @@ pub fn heard_at(map: &[u8], id: usize, count: u8) -> Gathered
     } else {
         id * Map::BLOCK + then.which * Structure::SIZE + Structure::FIELDS
     };
-    Gathered {
-        number: 0,
-        at,
-        len,
+    Heard {
+        fields: Span { at, len },
         whole: then.head.whole,
     }
 }
 
+// How far what was heard reaches; whether every frame was heard is the map's own byte, which is 0 or 1 in a good map.
+#[derive(Clone, Copy)]
+pub struct Known {
+    pub row: u8,
+    pub unbroken: u8,
+    pub components: usize,
+}
+
 // How far what was heard reaches, and how many components are in force in the frame with a count.
-pub fn known_at(map: &[u8], count: u8) -> Reach
+pub fn known_at(map: &[u8], count: u8) -> Known
     requires { length map.now ≡ map_size }
-    ensures { result ≡ known_at map.now count }
+    ensures { as_known result ≡ known_at map.now count }
 {
-    let mut components: usize = 0;
-    let mut id: usize = 0;
-    while id < Map::IDS {
-        if 0 < then_at(map, id, count).head.fields {
-            components += 1;
-        }
-        id += 1;
-    }
     let frames = crate::frames_of(map);
-    Reach {
-        number: 0,
+    Known {
         row: frames.row,
         unbroken: frames.unbroken,
-        components,
+        components: counted(|id| 0 < then_at(map, id, count).head.fields),
     }
 }

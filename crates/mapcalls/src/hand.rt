@@ -7,24 +7,30 @@
 //     keep                 back                the map, of 36,356 bytes, is kept, and the kept one comes back
 use crate::taking;
 use map::Map;
-use rows::bytes::{copy, fill, front, put, whole};
-use rows::{Answer, Row, tell};
+use rows::bytes::{copy, fill, front, put, turn};
+use rows::{Answer, Row};
 
-pub fn called(row: Row, map: &mut [u8], kept: &mut [u8], field: &mut [u8]) -> Answer {
-    let names = b"lend map field turn fill-map keep back ";
-    match tell::place(names, row.name) {
-        0 => Answer::one(1, map.len() as u64),
-        1 => put(map, row, false),
-        2 => put(field, row, false),
-        3 => put(field, row, true),
-        4 => fill(map, row),
-        5 => copied(map, kept),
-        6 => copied(kept, map),
-        _ => taking::called(row, map, field),
+pub fn called(row: Row, map: &mut [u8], kept: &mut [u8], field: &mut [u8]) -> Option<Answer> {
+    if row.is("lend") {
+        Some(Answer::new(1, [map.len() as u64]))
+    } else if row.is("map") {
+        Some(put(map, row))
+    } else if row.is("field") {
+        Some(put(field, row))
+    } else if row.is("turn") {
+        Some(turn(field, row))
+    } else if row.is("fill-map") {
+        Some(fill(map, row))
+    } else if row.is("keep") {
+        Some(copied(map, kept))
+    } else if row.is("back") {
+        Some(copied(kept, map))
+    } else {
+        taking::called(row, map, field)
     }
 }
 
 fn copied(from: &[u8], to: &mut [u8]) -> Answer {
     copy(from, to);
-    whole(0, front(from, Map::SIZE as u64))
+    Answer::whole(0, front(from, Map::SIZE as u64))
 }

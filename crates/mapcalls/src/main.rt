@@ -9,8 +9,7 @@
 
 use field::Field;
 use map::Map;
-use rows::tell::Progress;
-use rows::{tell, text};
+use rows::tell;
 use std::io;
 
 mod hand;
@@ -20,44 +19,12 @@ mod taking;
 fn main(rt: HostRuntime) -> io::Result<()> {
     println!(rt; "mapcalls 1")?;
     let mut bytes = [0u8; 262144];
-    let len = text::filled(&mut rt.stdin(), &mut bytes)?;
-    tell::fits(&rt, len, 262144)?;
     let mut map = [0u8; Map::SIZE + 1];
     let mut kept = [0u8; Map::SIZE + 1];
     let mut field = [0u8; Field::SIZE + 1];
-    run(&rt, &bytes[..len], &mut map, &mut kept, &mut field)
-}
-
-fn run(
-    rt: &impl Print,
-    text: &[u8],
-    map: &mut [u8],
-    kept: &mut [u8],
-    field: &mut [u8],
-) -> io::Result<()> {
-    let mut progress = Progress::new(Map::SIZE);
-    let mut k: usize = 0;
-    while k < text.len() {
-        progress = step(rt, progress, text[k], map, kept, field)?;
-        k += 1;
-    }
-    progress.summed(rt)
-}
-
-// One byte more: a line's last byte runs its row.
-fn step(
-    rt: &impl Print,
-    progress: Progress,
-    byte: u8,
-    map: &mut [u8],
-    kept: &mut [u8],
-    field: &mut [u8],
-) -> io::Result<Progress> {
-    if byte != b'\n' {
-        return Ok(progress.fed(byte));
-    }
-    let row = progress.closed();
-    let lent = tell::lent(row, progress.lent, map.len());
-    let answer = hand::called(row, &mut map[0..lent], kept, field);
-    progress.judged(rt, row, answer, lent)
+    let mut lent = Map::SIZE;
+    tell::run(&rt, &mut bytes, |row| {
+        let map = tell::lend(row, &mut lent, &mut map);
+        hand::called(row, map, &mut kept, &mut field)
+    })
 }

@@ -5,55 +5,57 @@
 //     take-field LENGTH = NUMBER MAP                                      the field as it stands, of which so many bytes are lent
 //     again TIMES = REFUSED MAP                                           the same field so many times more
 //     idle FIRST TIMES = REFUSED MAP                                      frames with counts from FIRST on, with fields of no component
+use faults::refusal::told;
 use field::Field;
 use maprows::{asking, fields};
-use rows::bytes::{behind, front};
-use rows::{Answer, Row, tell};
+use rows::bytes::front;
+use rows::{Answer, Row};
 
-pub fn called(row: Row, map: &mut [u8], field: &mut [u8]) -> Answer {
-    let v = row.values;
-    match tell::place(b"start take take-field again idle ", row.name) {
-        0 => behind(0, map::start(map), map),
-        1 => behind(10, sent(map, field, fields::of_row(v)), map),
-        2 => behind(1, map::take(map, front(field, v[0])), map),
-        3 => again(v, map, field),
-        4 => idle(v, map, field),
-        _ => asking::called(row, map, field),
+pub fn called(row: Row, map: &mut [u8], field: &mut [u8]) -> Option<Answer> {
+    if row.is("start") {
+        Some(Answer::behind(0, told(&map::start(map)), map))
+    } else if row.is("take") {
+        Some(Answer::behind(10, sent(map, field, fields::of_row(row)), map))
+    } else if row.is("take-field") {
+        Some(Answer::behind(1, told(&map::take(map, front(field, row.values[0]))), map))
+    } else if row.is("again") {
+        Some(again(row, map, field))
+    } else if row.is("idle") {
+        Some(idle(row, map, field))
+    } else {
+        asking::called(row, map, field)
     }
 }
 
 // What the writer answers where it refuses, otherwise what the map does.
 fn sent(map: &mut [u8], bytes: &mut [u8], field: Field) -> u8 {
-    let number = fields::put(field, 10, bytes);
+    let number = fields::put(field, Field::SIZE, bytes);
     if number != 0 {
         return number;
     }
-    map::take(map, front(bytes, 10))
+    told(&map::take(map, front(bytes, Field::SIZE as u64)))
 }
 
-fn again(v: [u64; 24], map: &mut [u8], field: &[u8]) -> Answer {
-    let times = v[0] % Row::WIDE;
-    let mut refused: u8 = 0;
-    let mut k: u64 = 0;
-    while k < times {
-        refused = counted(refused, map::take(map, front(field, 10)));
-        k += 1;
+fn again(row: Row, map: &mut [u8], field: &[u8]) -> Answer {
+    let mut refused = 0;
+    for _ in 0..row.wide(0) {
+        refused = counted(
+            refused,
+            told(&map::take(map, front(field, Field::SIZE as u64))),
+        );
     }
-    behind(1, refused, map)
+    Answer::behind(1, refused, map)
 }
 
 // Panning vectors are no component's: they only bring the frame count. As a component's, line 5 to line 0 would be refused.
-fn idle(v: [u64; 24], map: &mut [u8], bytes: &mut [u8]) -> Answer {
-    let times = v[1] % Row::WIDE;
-    let mut count = (v[0] % Row::BYTE) as u8;
-    let mut refused: u8 = 0;
-    let mut k: u64 = 0;
-    while k < times {
+fn idle(row: Row, map: &mut [u8], bytes: &mut [u8]) -> Answer {
+    let mut count = row.byte(0);
+    let mut refused = 0;
+    for _ in 0..row.wide(1) {
         refused = counted(refused, sent(map, bytes, panning(count)));
-        count = std::num::wrapping_add_u8(count, 1);
-        k += 1;
+        count = count.wrapping_add(1);
     }
-    behind(2, refused, map)
+    Answer::behind(2, refused, map)
 }
 
 fn panning(count: u8) -> Field {
@@ -68,8 +70,5 @@ fn panning(count: u8) -> Field {
 
 // One more where a number refuses.
 fn counted(refused: u8, number: u8) -> u8 {
-    if number == 0 {
-        return refused;
-    }
-    std::num::wrapping_add_u8(refused, 1)
+    refused.wrapping_add(u8::from(number != 0))
 }

@@ -6,144 +6,114 @@
 //     list COUNT LENGTH = NUMBER NONE WHOLE UNFINISHED UNKNOWN MARKS    how many have each mark; 257 bytes of 9, so many of them lent
 //     all COUNT = DIGEST                                                of list's marks, and of what is shown where they say whole
 use crate::fields;
-use map::Map;
-use rows::bytes::{START, digested, front};
-use rows::{Answer, Row, tell};
+use faults::Refusal;
+use faults::refusal::told;
+use map::{Map, Span};
+use rows::bytes::{Digest, front};
+use rows::{Answer, Row};
 
-pub fn called(row: Row, map: &[u8], field: &mut [u8]) -> Answer {
-    let v = row.values;
-    let id = (v[0] % Row::BYTE) as u8;
-    let count = (v[1] % Row::BYTE) as u8;
-    match tell::place(b"show heard known list all ", row.name) {
-        0 => show(map, id, count),
-        1 => heard(map, id, count),
-        2 => known(map, id),
-        3 => list(map, id, v[1]),
-        4 => Answer::one(1, all(map, id)),
-        _ => fields::called(row, field),
+pub fn called(row: Row, map: &[u8], field: &mut [u8]) -> Option<Answer> {
+    if row.is("show") {
+        Some(show(map, row.byte(0), row.byte(1)))
+    } else if row.is("heard") {
+        Some(heard(map, row.byte(0), row.byte(1)))
+    } else if row.is("known") {
+        Some(known(map, row.byte(0)))
+    } else if row.is("list") {
+        list(map, row.byte(0), row.values[1])
+    } else if row.is("all") {
+        Some(Answer::new(1, [all(map, row.byte(0)).into()]))
+    } else {
+        fields::called(row, field)
     }
 }
 
 // The part of the map that is shown, as far as the map goes.
-fn part(map: &[u8], at: usize, len: usize) -> &[u8] {
-    if map.len() < at {
-        return map;
+fn part(map: &[u8], span: Span) -> &[u8] {
+    match map.get(span.at..) {
+        Some(rest) => front(rest, span.len as u64),
+        None => map,
     }
-    front(&map[at..], len as u64)
 }
 
 fn show(map: &[u8], id: u8, count: u8) -> Answer {
-    let shown = map::show(map, id, count);
-    let digest = digested(START, part(map, shown.at, shown.len));
-    Answer {
-        args: 2,
-        len: 7,
-        values: [
-            shown.number as u64,
-            shown.at as u64,
-            shown.len as u64,
-            shown.announced as u64,
-            shown.frames as u64,
-            shown.unknown as u64,
-            digest,
-            0,
+    let answer = map::show(map, id, count);
+    let shown = answer.unwrap_or_default();
+    let span = shown.fields.unwrap_or_default();
+    let fields = answer.and_then(|shown| shown.fields.ok_or(Refusal::Unfinished));
+    Answer::new(
+        2,
+        [
+            told(&fields).into(),
+            span.at as u64,
+            span.len as u64,
+            shown.change.is_some().into(),
+            shown.change.unwrap_or(0).into(),
+            shown.unknown.into(),
+            Digest::of(part(map, span)).into(),
         ],
-    }
+    )
 }
 
 fn heard(map: &[u8], id: u8, count: u8) -> Answer {
-    let heard = map::heard(map, id, count);
-    let digest = digested(START, part(map, heard.at, heard.len));
-    Answer {
-        args: 2,
-        len: 5,
-        values: [
-            heard.number as u64,
-            heard.at as u64,
-            heard.len as u64,
-            heard.whole as u64,
-            digest,
-            0,
-            0,
-            0,
+    let answer = map::heard(map, id, count);
+    let heard = answer.unwrap_or_default();
+    Answer::new(
+        2,
+        [
+            told(&answer).into(),
+            heard.fields.at as u64,
+            heard.fields.len as u64,
+            heard.whole.into(),
+            Digest::of(part(map, heard.fields)).into(),
         ],
-    }
+    )
 }
 
 fn known(map: &[u8], count: u8) -> Answer {
-    let known = map::known(map, count);
-    Answer {
-        args: 1,
-        len: 4,
-        values: [
-            known.number as u64,
-            known.row as u64,
-            known.unbroken as u64,
+    let answer = map::known(map, count);
+    let known = answer.unwrap_or_default();
+    Answer::new(
+        1,
+        [
+            told(&answer).into(),
+            known.row.into(),
+            known.unbroken.into(),
             known.components as u64,
-            0,
-            0,
-            0,
-            0,
         ],
-    }
+    )
 }
 
-fn list(map: &[u8], count: u8, len: u64) -> Answer {
+// No call is made where more bytes are lent than there are.
+fn list(map: &[u8], count: u8, len: u64) -> Option<Answer> {
     let mut out = [9u8; Map::IDS + 1];
-    listed(map, count, len as usize, &mut out)
-}
-
-fn listed(map: &[u8], count: u8, len: usize, out: &mut [u8]) -> Answer {
-    if out.len() < len {
-        return Answer::unknown();
-    }
-    let number = map::list(map, count, &mut out[0..len]);
-    Answer {
-        args: 2,
-        len: 6,
-        values: [
-            number as u64,
-            marked(out, 0),
-            marked(out, 1),
-            marked(out, 2),
-            marked(out, 3),
-            digested(START, out),
-            0,
-            0,
+    let answer = map::list(map, count, out.get_mut(..len as usize)?);
+    Some(Answer::new(
+        2,
+        [
+            told(&answer).into(),
+            marked(&out, 0),
+            marked(&out, 1),
+            marked(&out, 2),
+            marked(&out, 3),
+            Digest::of(&out).into(),
         ],
-    }
+    ))
 }
 
-fn marked(out: &[u8], mark: u8) -> u64 {
-    let mut marked: u64 = 0;
-    let mut k: usize = 0;
-    while k < out.len() {
-        marked = std::num::wrapping_add_u64(marked, (out[k] == mark) as u64);
-        k += 1;
-    }
-    marked
+// How many have a mark.
+fn marked(marks: &[u8], mark: u8) -> u64 {
+    marks.iter().filter(|each| **each == mark).count() as u64
 }
 
-fn all(map: &[u8], count: u8) -> u64 {
-    let mut out = [9u8; Map::IDS];
-    map::list(map, count, &mut out);
-    whole(map, count, &out)
-}
-
-fn whole(map: &[u8], count: u8, marks: &[u8]) -> u64 {
-    let mut hash = digested(START, marks);
-    let mut id: usize = 0;
-    while id < marks.len() {
-        hash = one(hash, map, id, count, marks[id]);
-        id += 1;
-    }
-    hash
-}
-
-fn one(hash: u64, map: &[u8], id: usize, count: u8, mark: u8) -> u64 {
-    if mark != 1 {
-        return hash;
-    }
-    let shown = map::show(map, (id % 256) as u8, count);
-    digested(hash, part(map, shown.at, shown.len))
+fn all(map: &[u8], count: u8) -> Digest {
+    let mut marks = [9u8; Map::IDS];
+    let _refused = map::list(map, count, &mut marks);
+    (0..=u8::MAX)
+        .zip(&marks)
+        .filter(|(_, mark)| **mark == 1)
+        .fold(Digest::of(&marks), |digest, (id, _)| {
+            let shown = map::show(map, id, count).unwrap_or_default();
+            digest.over(part(map, shown.fields.unwrap_or_default()))
+        })
 }

@@ -4,109 +4,111 @@
 //     read LENGTH = NUMBER COUNT FLAG ID TDMS LINKS              so many bytes of the field are lent
 //     pack FLN1 LLN1 FLN2 LLN2 FCP LCP = NUMBER TDMS
 //     unpack TDMS = NUMBER FLN1 LLN1 FLN2 LLN2 FCP LCP
+ghost use Rattle.std.specs.Prelude.{◌<◌};
+
+use faults::Refusal;
+use faults::refusal::told;
 use field::{Field, Tdms};
-use rows::bytes::{behind, front};
-use rows::{Answer, Row, tell};
+use rows::bytes::front;
+use rows::{Answer, Row};
 
-pub fn called(row: Row, bytes: &mut [u8]) -> Answer {
-    let v = row.values;
-    match tell::place(b"write read pack unpack ", row.name) {
-        0 => write(v, bytes),
-        1 => read(v, bytes),
-        2 => pack(v),
-        3 => unpack(v[0]),
-        _ => Answer::unknown(),
+// What a row answers where more bytes are lent than there are, which no call answers. It stays a number, as rows print it.
+const TOO_MANY: u8 = 99;
+
+pub fn called(row: Row, bytes: &mut [u8]) -> Option<Answer> {
+    if row.is("write") {
+        Some(write(row, bytes))
+    } else if row.is("read") {
+        Some(read(row, bytes))
+    } else if row.is("pack") {
+        Some(pack(row))
+    } else if row.is("unpack") {
+        Some(unpack(row))
+    } else {
+        None
     }
 }
 
-// The first bytes of a field become a written one; 99, which no call answers, where there are not so many.
+// The first bytes of a field become a written one.
 pub fn put(field: Field, out: usize, bytes: &mut [u8]) -> u8 {
-    if bytes.len() < out {
-        return 99;
+    match bytes.get_mut(..out) {
+        Some(room) => told(&field::write(field, room)),
+        None => TOO_MANY,
     }
-    field::write(field, &mut bytes[0..out])
 }
 
-fn write(v: [u64; 24], bytes: &mut [u8]) -> Answer {
+fn write(row: Row, bytes: &mut [u8]) -> Answer {
     let field = Field {
-        count: (v[0] % Row::BYTE) as u8,
-        flag: (v[1] % Row::BYTE) as u8,
-        id: (v[2] % Row::BYTE) as u8,
-        tdms: v[3],
-        links: (v[4] % Row::BYTE) as u8,
+        count: row.byte(0),
+        flag: row.byte(1),
+        id: row.byte(2),
+        tdms: row.values[3],
+        links: row.byte(4),
     };
-    let number = put(field, v[5] as usize, bytes);
-    behind(6, number, bytes)
+    let number = put(field, row.values[5] as usize, bytes);
+    Answer::behind(6, number, bytes)
 }
 
-fn read(v: [u64; 24], bytes: &[u8]) -> Answer {
-    let mut number: u8 = 0;
-    let field = field::read(front(bytes, v[0]), &mut number);
-    Answer {
-        args: 1,
-        len: 6,
-        values: [
-            number as u64,
-            field.count as u64,
-            field.flag as u64,
-            field.id as u64,
+fn read(row: Row, bytes: &[u8]) -> Answer {
+    let answer = field::read(front(bytes, row.values[0]));
+    let field = answer.unwrap_or_default();
+    Answer::new(
+        1,
+        [
+            told(&answer).into(),
+            field.count.into(),
+            field.flag.into(),
+            field.id.into(),
             field.tdms,
-            field.links as u64,
-            0,
-            0,
+            field.links.into(),
         ],
-    }
+    )
 }
 
 // The field that a row spells with six numbers behind four others; one that is too wide makes the structure 0.
-pub fn of_row(v: [u64; 24]) -> Field {
-    let mut number: u8 = 0;
-    let six = Tdms {
-        fln1: (v[4] % Row::WIDE) as u32,
-        lln1: (v[5] % Row::WIDE) as u32,
-        fln2: (v[6] % Row::WIDE) as u32,
-        lln2: (v[7] % Row::WIDE) as u32,
-        fcp: (v[8] % Row::WIDE) as u32,
-        lcp: (v[9] % Row::WIDE) as u32,
-    };
+pub fn of_row(row: Row) -> Field {
     Field {
-        count: (v[0] % Row::BYTE) as u8,
-        flag: (v[1] % Row::BYTE) as u8,
-        id: (v[2] % Row::BYTE) as u8,
-        tdms: field::pack(six, &mut number),
-        links: (v[3] % Row::BYTE) as u8,
+        count: row.byte(0),
+        flag: row.byte(1),
+        id: row.byte(2),
+        tdms: packed(row, 4).unwrap_or(0),
+        links: row.byte(3),
     }
 }
 
-fn pack(v: [u64; 24]) -> Answer {
-    let mut number: u8 = 0;
+fn pack(row: Row) -> Answer {
+    let answer = packed(row, 0);
+    Answer::new(6, [told(&answer).into(), answer.unwrap_or(0)])
+}
+
+// The structure of a row's six numbers, from a place on.
+fn packed(row: Row, from: usize) -> Result<u64, Refusal>
+    requires { from < 19 }
+{
     let six = Tdms {
-        fln1: (v[0] % Row::WIDE) as u32,
-        lln1: (v[1] % Row::WIDE) as u32,
-        fln2: (v[2] % Row::WIDE) as u32,
-        lln2: (v[3] % Row::WIDE) as u32,
-        fcp: (v[4] % Row::WIDE) as u32,
-        lcp: (v[5] % Row::WIDE) as u32,
+        fln1: row.wide(from),
+        lln1: row.wide(from + 1),
+        fln2: row.wide(from + 2),
+        lln2: row.wide(from + 3),
+        fcp: row.wide(from + 4),
+        lcp: row.wide(from + 5),
     };
-    let tdms = field::pack(six, &mut number);
-    Answer::two(6, number, tdms)
+    field::pack(six)
 }
 
-fn unpack(tdms: u64) -> Answer {
-    let mut number: u8 = 0;
-    let six = field::unpack(tdms, &mut number);
-    Answer {
-        args: 1,
-        len: 7,
-        values: [
-            number as u64,
-            six.fln1 as u64,
-            six.lln1 as u64,
-            six.fln2 as u64,
-            six.lln2 as u64,
-            six.fcp as u64,
-            six.lcp as u64,
-            0,
+fn unpack(row: Row) -> Answer {
+    let answer = field::unpack(row.values[0]);
+    let six = answer.unwrap_or_default();
+    Answer::new(
+        1,
+        [
+            told(&answer).into(),
+            six.fln1.into(),
+            six.lln1.into(),
+            six.fln2.into(),
+            six.lln2.into(),
+            six.fcp.into(),
+            six.lcp.into(),
         ],
-    }
+    )
 }

@@ -22,7 +22,7 @@ use Rattle.frames.specs.Counts.{ahead, changes, changing, all_heard}
 use Rattle.frames.specs.declared.Frames.{Frames}
 use Rattle.map.specs.Map.{ids, map_size, structure_at, frames_of, good, announced}
 use Rattle.map.specs.Calls.{then_head, then_number, found_of, shown_at, show_answer, shown_by, shown}
-use Rattle.map.specs.declared.Shown.{Shown}
+use Rattle.map.specs.Answers.{Shown}
 use Rattle.multiplex.specs.Broadcast.{count_at, epoch}
 use Rattle.multiplex.specs.Heard.{fields_from, shown_fields}
 use Rattle.multiplex.specs.Air.{Air, timed}

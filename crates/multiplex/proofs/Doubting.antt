@@ -22,7 +22,7 @@ use Rattle.structure.proofs.Gathering.{Holds}
 use Rattle.frames.specs.Counts.{changing, all_heard}
 use Rattle.map.specs.Map.{ids, structure_at, frames_of, announced}
 use Rattle.map.specs.Calls.{then_head, then_number, found_of, shown_at, shown}
-use Rattle.map.specs.declared.Shown.{Shown}
+use Rattle.map.specs.Answers.{Shown}
 use Rattle.multiplex.specs.Broadcast.{count_at, change, epoch}
 use Rattle.multiplex.specs.Heard.{ours}
 use Rattle.multiplex.specs.Air.{Air, timed, new_in, later, last_new, link_of, links_new, new_to, gone_to, in_force, coming, Said, nothing, described, deleted, Orderly}

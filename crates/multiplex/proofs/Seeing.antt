@@ -26,7 +26,7 @@ use Rattle.structure.proofs.Gathering.{Holds, Empty}
 use Rattle.frames.specs.Counts.{changing, all_heard}
 use Rattle.map.specs.Map.{map_size, block_size, structure_at, frames_of, good, in_force, announced}
 use Rattle.map.specs.Calls.{then_which, then_head, then_number, found_of, shown_at, show_answer, shown_by, shown}
-use Rattle.map.specs.declared.Shown.{Shown}
+use Rattle.map.specs.Answers.{Shown}
 use Rattle.multiplex.specs.Heard.{fields_from, shown_fields}
 
 -- ---- what is shown

@@ -21,7 +21,7 @@ use Rattle.frames.specs.Counts.{ahead, until, changing, enough, all_heard}
 use Rattle.frames.specs.declared.Frames.{Frames}
 use Rattle.map.specs.Map.{ids, structure_at, frames_of, good, announced}
 use Rattle.map.specs.Calls.{then_head, then_number, unknown, found_of, shown_at, shown}
-use Rattle.map.specs.declared.Shown.{Shown}
+use Rattle.map.specs.Answers.{Shown}
 use Rattle.multiplex.specs.Broadcast.{count_at, change, epoch}
 use Rattle.multiplex.specs.Heard.{ours, shown_fields}
 use Rattle.multiplex.specs.Air.{Air, timed, Orderly}

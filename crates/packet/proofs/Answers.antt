@@ -30,23 +30,23 @@ use Rattle.bits.specs.Rows.{Row, row, refusal, given, further}
 use Rattle.bits.proofs.Rows.{refusal-hit, refusal-miss, refusal-none, further-refused, further-passed}
 use Rattle.bits.proofs.Storing.{blank-length}
 use Rattle.bare.specs.Bare.{header_read, type_read}
-use Rattle.bare.specs.declared.TypeByte.{TypeByte}
+use Rattle.bare.specs.Bare.{TypeAnswer}
 use Rattle.bare.proofs.Types.{type-readable, type-unreadable}
 use Rattle.image.specs.Image.{header_of, bytes_of}
 use Rattle.image.proofs.Laws as image
 use Rattle.words.specs.Protected.{data_read}
-use Rattle.words.specs.declared.Data.{Data}
+use Rattle.words.specs.Protected.{DataAnswer}
 use Rattle.words.proofs.Each.{read_length}
 use Rattle.faults.specs.Faults.{number, type_unreadable, type_control, type_reserved, type_scrambled, word_unreadable, unreadables, rows_by, Numbered}
 use Rattle.packet.specs.Received.{type_of, useful_of, unreadable, has_fault, received_number, received_bytes, filled, received, refused_as, readable_as, data_as}
 use Rattle.packet.specs.Damage.{Refused}
-use Rattle.packet.specs.declared.Reading.{Reading}
+use Rattle.packet.specs.Received.{ReadingAnswer}
 
 -- the index that the header is read with
 abbrev pub index_of : List ℕ → ℕ
 index_of s = (header_read (header_of s)).index
 
-unfoldable pub received_as : Bool → List ℕ → ℕ → Reading
+unfoldable pub received_as : Bool → List ℕ → ℕ → ReadingAnswer
 received_as p s answer = record {
   number = answer;
   place = cond (eqb answer (number word_unreadable)) (data_read (useful_of s)).place 0;
@@ -159,7 +159,7 @@ by-type p s l = go (rows-numbered (leb 256 (type_of s)) (eqb (type_of s) 0x3F) (
     go : (type_number s ≡ 0) ⊎ Numbered unreadables (type_number s) → Dec (type_number s ≡ 0) → Refused (received p s) ⊎ IsData s
     go n (yes z) = inr (record { size = l; type = z })
     go (inl z) (no ne) = absurd (ne z)
-    go (inr n) (no ne) = inl (subst (λ (r : Reading). Refused r) (sym (answer-type p s l (type_number s) refl ne)) n)
+    go (inr n) (no ne) = inl (subst (λ (r : ReadingAnswer). Refused r) (sym (answer-type p s l (type_number s) refl ne)) n)
 
 pub answer-plain : (s : List ℕ) → IsData s → received false s ≡ readable_as (index_of s) (useful_of s)
 unfolding received_as refusal unreadable given received_bytes
@@ -176,7 +176,7 @@ pub answer-protected : (s : List ℕ) → IsData s → received true s ≡ data_
 unfolding received_as refusal given filled received_bytes
 answer-protected s d = go (ltb (data_read (useful_of s)).place 30) refl
   where
-    either : Bool → Reading
+    either : Bool → ReadingAnswer
     either b = cond b (refused_as (number word_unreadable) (data_read (useful_of s)).place) (readable_as (index_of s) (data_read (useful_of s)).bytes)
 
     go : (b : Bool) → ltb (data_read (useful_of s)).place 30 ≡ b → received true s ≡ data_as (index_of s) (data_read (useful_of s))
@@ -207,27 +207,27 @@ word-place p s l e = go (ℕ_discrete (type_number s) 0)
         absurd (types-below (leb 256 (type_of s)) (eqb (type_of s) 0x3F) (eqb (type_of s) 0xC7) (eqb (type_of s) 0xF8)
         (sym (typed p s l ∙ further-refused (type_number s) _ n) ∙ e))
 
-pub data-short : (i : ℕ) (d : Data) → d.place < 30 → data_as i d ≡ refused_as (number word_unreadable) d.place
+pub data-short : (i : ℕ) (d : DataAnswer) → d.place < 30 → data_as i d ≡ refused_as (number word_unreadable) d.place
 data-short i d h = ap (λ (b : Bool). cond b (refused_as (number word_unreadable) d.place) (readable_as i d.bytes)) (lt-ltb d.place 30 h)
 
-pub data-whole : (i : ℕ) (d : Data) → 30 ≤ d.place → data_as i d ≡ readable_as i d.bytes
+pub data-whole : (i : ℕ) (d : DataAnswer) → 30 ≤ d.place → data_as i d ≡ readable_as i d.bytes
 data-whole i d h = ap (λ (b : Bool). cond b (refused_as (number word_unreadable) d.place) (readable_as i d.bytes)) (le-ltb d.place 30 h)
 
 -- ---- what the readers of the parts found
 
-module _ (s : List ℕ) (b : ℕ) (k : TypeByte) (e : b ≡ get_or (bytes_of s) 0 0) (r : k ≡ type_read b) where
+module _ (s : List ℕ) (b : ℕ) (k : TypeAnswer) (e : b ≡ get_or (bytes_of s) 0 0) (r : k ≡ type_read b) where
   read : k ≡ type_read (get_or (bytes_of s) 0 0)
   read = r ∙ ap type_read e
 
   pub type-found : k.number ≡ 0 → (type_of s < 256) × (k.value ≡ type_of s)
   unfolding type_of
   type-found z =
-      let t = type-readable (get_or (bytes_of s) 0 0) (sym (ap (λ (x : TypeByte). x.number) read) ∙ z) in
-      (t.0, ap (λ (x : TypeByte). x.value) read ∙ t.1)
+      let t = type-readable (get_or (bytes_of s) 0 0) (sym (ap (λ (x : TypeAnswer). x.number) read) ∙ z) in
+      (t.0, ap (λ (x : TypeAnswer). x.value) read ∙ t.1)
 
   pub type-missed : (k.number ≡ 0 → ⊥) → 256 ≤ type_of s
   unfolding type_of
-  type-missed ne = type-unreadable (get_or (bytes_of s) 0 0) (λ z. ne (ap (λ (x : TypeByte). x.number) read ∙ z))
+  type-missed ne = type-unreadable (get_or (bytes_of s) 0 0) (λ z. ne (ap (λ (x : TypeAnswer). x.number) read ∙ z))
 
 -- the useful bytes are the 91 without the first
 pub useful-read : (s b : List ℕ) → b ≡ drop 1 (bytes_of s) → b ≡ useful_of s

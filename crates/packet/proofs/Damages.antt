@@ -26,7 +26,7 @@ use Rattle.bits.proofs.Flips.{flips-same}
 use Rattle.bits.proofs.Runs.{Below, below-cons}
 use Rattle.bits.proofs.Storing.{get_d_map}
 use Rattle.bare.specs.Bare.{header_read}
-use Rattle.bare.specs.declared.Header.{Header}
+use Rattle.bare.specs.Bare.{HeaderAnswer}
 use Rattle.bare.proofs.Theorems.{header-reads, eight-seven}
 use Rattle.bare.proofs.Types.{within-near}
 use Rattle.golay.specs.Code.{word23, word24, nearest}
@@ -35,13 +35,13 @@ use Rattle.golay.proofs.Words.{word23-apart, word23-lt, word24-apart}
 use Rattle.image.specs.Image.{header_of, bytes_of, spare_of}
 use Rattle.image.proofs.Laws.{image-length, header-image, header-lt, bytes-image, bytes_lt, spare-image}
 use Rattle.words.specs.Protected.{protected, words_of, informations, failed, data_of, data_read, words_read}
-use Rattle.words.specs.declared.Words.{Words}
+use Rattle.words.specs.Protected.{WordsAnswer}
 use Rattle.words.proofs.Each.{failed-pass, failed-le, words-whole, failed-whole}
 use Rattle.words.proofs.Packing.{words-protected, words-length, data-segments, segments-below, segments-length, protected-length, protected-below}
 use Rattle.faults.specs.Faults.{number, type_control, word_unreadable}
 use Rattle.packet.specs.Received.{type_of, useful_of, received, written, refused_as, readable_as}
 use Rattle.packet.specs.Damage.{data_size, carried, sent_image, control_image, Kept, CameBy, Came, Corrected, ControlCame}
-use Rattle.packet.specs.declared.Reading.{Reading}
+use Rattle.packet.specs.Received.{ReadingAnswer}
 use Rattle.packet.proofs.Answers.{index_of, number-control, answer-type, answer-plain, answer-protected, IsData, is_data, data-short, data-whole}
 
 -- ---- what a sent image holds
@@ -77,7 +77,7 @@ module _ (a i ty : ℕ) (u : List ℕ) (ha : a ≤ 1023) (hi : i ≤ 3) (ht : ty
   written-came t f =
       let near : flips (word23 (a + 1024 * i)) (header_of t) ≤ 3 = subst (λ (x : ℕ). flips x (header_of t) ≤ 3) written-header f in
       let r = header-reads (header_of t) (a + 1024 * i) (header-lt t) (nearest-is word23 word23-apart (header_of t) (a + 1024 * i) small near) in
-      (ap (λ (h : Header). h.address) r ∙ address, ap (λ (h : Header). h.index) r ∙ index)
+      (ap (λ (h : HeaderAnswer). h.address) r ∙ address, ap (λ (h : HeaderAnswer). h.index) r ∙ index)
     where
       address : (a + 1024 * i) % 1024 ≡ a
       address = omega arith
@@ -89,7 +89,7 @@ module _ (a i ty : ℕ) (u : List ℕ) (ha : a ≤ 1023) (hi : i ≤ 3) (ht : ty
       → (header_read (header_of t)).flips ≡ flips (header_of (written a i ty u)) (header_of t)
   written-flipped-by t f =
       let near : flips (word23 (a + 1024 * i)) (header_of t) ≤ 3 = subst (λ (x : ℕ). flips x (header_of t) ≤ 3) written-header f in
-      ap (λ (h : Header). h.flips)
+      ap (λ (h : HeaderAnswer). h.flips)
       (header-reads (header_of t) (a + 1024 * i) (header-lt t) (nearest-is word23 word23-apart (header_of t) (a + 1024 * i) small near))
       ∙ ap (λ (x : ℕ). flips x (header_of t)) (sym written-header)
 
@@ -186,7 +186,7 @@ data-back : (d u : List ℕ) (most : ℕ) → most ≤ 4 → length d ≡ 45 →
     → failed (informations (words_of u)) ≡ 30 → (data_read u).bytes ≡ d
 unfolding data_read
 data-back d u most m l b kept whole =
-    ap (λ (r : Words). data_of r.informations) (words-whole (words_of u) whole)
+    ap (λ (r : WordsAnswer). data_of r.informations) (words-whole (words_of u) whole)
     ∙ ap data_of (each_read (numbers_in 12 30 (sent 8 d)) (words_of u) (segments-below d) (words-length u ∙ sym (segments-length d)) few
     (whole ∙ sym (segments-length d)))
     ∙ data-segments d l b
@@ -213,7 +213,7 @@ data-came false t d i is e l b kept =
 data-came true t d i is e l b kept = go (dec_lt (data_read (useful_of t)).place 30)
   where
     go : Dec ((data_read (useful_of t)).place < 30) → (received true t ≡ readable_as i d) ⊎ ((received true t).number ≡ number word_unreadable)
-    go (yes h) = inr (ap (λ (x : Reading). x.number) (answer-protected t is ∙ data-short (index_of t) (data_read (useful_of t)) h))
+    go (yes h) = inr (ap (λ (x : ReadingAnswer). x.number) (answer-protected t is ∙ data-short (index_of t) (data_read (useful_of t)) h))
     go (no h) =
         let whole : failed (informations (words_of (useful_of t))) ≡ 30 = whole_of (useful_of t) (omega (arith, h)) in
         inl (answer-protected t is ∙ data-whole (index_of t) (data_read (useful_of t)) (omega arith)

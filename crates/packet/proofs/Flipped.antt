@@ -32,8 +32,8 @@ use Rattle.bits.proofs.Flips.{flips-of, flips-same}
 use Rattle.bits.proofs.Runs.{Below, below-take, below-cat, sent-length, sent-below, numbers_in-length, numbers_in-below, numbers_in-sent, sent-numbers_in, below-cons}
 use Rattle.bits.proofs.Storing.{get_d_map}
 use Rattle.bare.specs.Bare.{types, type_near, word_written}
-use Rattle.bare.specs.declared.Word.{Word}
-use Rattle.bare.specs.declared.Written.{Written}
+use Rattle.bare.specs.Bare.{WordAnswer}
+use Rattle.bare.specs.Bare.{Written}
 use Rattle.bare.proofs.Bare.{word-written}
 use Rattle.bare.proofs.Theorems.{word-four, word-unreadable}
 use Rattle.golay.specs.Code.{word23, word24, nearest}
@@ -45,7 +45,7 @@ use Rattle.words.proofs.Each.{failed-whole}
 use Rattle.words.proofs.Packing.{words-protected, words-length, segments-below, segments-length, protected-length, protected-below, word24s-below}
 use Rattle.packet.specs.Received.{type_of, useful_of, received, written, readable_as}
 use Rattle.packet.specs.Damage.{sent_image, control_image, Kept, CameBy, Came, ControlCame}
-use Rattle.packet.specs.declared.Reading.{Reading}
+use Rattle.packet.specs.Received.{ReadingAnswer}
 use Rattle.packet.proofs.Answers.{index_of, number-control, answer-type, answer-protected, is_data, data-short}
 use Rattle.packet.proofs.Damages.{written-header, written-bytes, sent-header, sent-useful, received-corrected}
 
@@ -226,7 +226,7 @@ module _ (a c : ℕ) (d : List ℕ) (x : Flipping) (z : Fits a c d x) where
       ∙ ap (nearest word24) (get_or-set_same (sent_words d) x.place _ 0 (omega (arith, z.place, words_long))
       ∙ ap (λ (n : ℕ). bit_xor n x.word) (word-here ∙ sym (ap (λ (w : Written). w.value) (word-written information (segments-below d x.place)))))
       ∙ word-unreadable (bit_xor (word_written information).value x.word) lt
-      (λ q. omega (arith, q, ap (λ (w : Word). w.number) (word-four information x.word (segments-below d x.place) z.word four)))
+      (λ q. omega (arith, q, ap (λ (w : WordAnswer). w.number) (word-four information x.word (segments-below d x.place) z.word four)))
     where
       lt : bit_xor (word_written information).value x.word < 2 ^ 24
       lt = xor_lt 24 (word_written information).value x.word
@@ -254,7 +254,7 @@ module _ (a c : ℕ) (d : List ℕ) (x : Flipping) (z : Fits a c d x) where
   flipped-short plain four =
       let t : type_of (flipped a c d x) ≡ 0x00 = type-with ∙ plain in
       let is = is_data (flipped a c d x) flipped-size t in
-      ap (λ (r : Reading). r.number) (answer-protected (flipped a c d x) is
+      ap (λ (r : ReadingAnswer). r.number) (answer-protected (flipped a c d x) is
       ∙ data-short (index_of (flipped a c d x)) (data_read (useful_of (flipped a c d x))) (short four))
 
   pub control-came : (most : ℕ) (u : List ℕ) → length u ≡ 90 → Below 256 u → ones x.header ≤ most → flips 0x3F x.type ≤ 2
@@ -275,7 +275,7 @@ module _ (a c : ℕ) (d : List ℕ) (x : Flipping) (z : Fits a c d x) where
 
   pub flipped-control : type_near types x.type ≡ 0x3F → (received true (flipped a c d x)).number ≡ 29
   flipped-control control =
-      ap (λ (r : Reading). r.number) (answer-type true (flipped a c d x) flipped-size 29 (number-control (flipped a c d x) (type-with ∙ control)) (λ z. omega (arith, z)))
+      ap (λ (r : ReadingAnswer). r.number) (answer-type true (flipped a c d x) flipped-size 29 (number-control (flipped a c d x) (type-with ∙ control)) (λ z. omega (arith, z)))
 
 -- ---- the spare bit
 

@@ -1,5 +1,4 @@
 pub mod Answers
-pub mod Copying
 pub mod Damages
 pub mod Determined
 pub mod Flipped

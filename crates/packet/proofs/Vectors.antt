@@ -24,7 +24,7 @@ use Rattle.bits.specs.Bits.{flips, bits_of, number, sent, numbers_in, blank}
 use Rattle.bits.specs.Rows.{refusal}
 use Rattle.golay.specs.Code.{less, line, divide, remainder, word23, word24, nearest}
 use Rattle.bare.specs.Bare.{type_near}
-use Rattle.bare.specs.declared.Word.{Word}
+use Rattle.bare.specs.Bare.{WordAnswer}
 use Rattle.bare.proofs.Theorems.{word-unreadable}
 use Rattle.bare.proofs.Vectors.{zero-far}
 use Rattle.image.specs.Image.{bytes_of, image_of}
@@ -68,7 +68,7 @@ lengths-answered = refl
 -- ---- 31: the first word is that of 0 with four flips
 
 far : nearest word24 0x80000F ≡ 4096
-far = word-unreadable 0x80000F (lit< tt) (λ e. omega (arith, e, ap (λ (w : Word). w.number) zero-far))
+far = word-unreadable 0x80000F (lit< tt) (λ e. omega (arith, e, ap (λ (w : WordAnswer). w.number) zero-far))
 
 abbrev fourfold : List ℕ
 fourfold = 0x0F ∷ 0x00 ∷ 0x80 ∷ blank 87

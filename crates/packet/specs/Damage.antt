@@ -18,7 +18,7 @@ use Rattle.image.specs.Image.{header_of, bytes_of}
 use Rattle.words.specs.Protected.{protected, words_of}
 use Rattle.faults.specs.Faults.{unreadables, Numbered}
 use Rattle.packet.specs.Received.{useful_of, written}
-use Rattle.packet.specs.declared.Reading.{Reading}
+use Rattle.packet.specs.Received.{ReadingAnswer}
 
 abbrev pub data_size : Bool → ℕ
 data_size false = 90
@@ -59,5 +59,5 @@ Corrected p most s t = CameBy (Kept 3 p) most s t
 abbrev pub ControlCame : ℕ → List ℕ → List ℕ → Type 0
 ControlCame most s t = CameBy Any most s t
 
-abbrev pub Refused : Reading → Type 0
+abbrev pub Refused : ReadingAnswer → Type 0
 Refused r = Numbered unreadables r.number

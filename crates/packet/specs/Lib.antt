@@ -1,2 +1,3 @@
 pub mod Damage
 pub mod Received
+pub mod Told

@@ -14,9 +14,15 @@ use Rattle.bare.specs.Bare.{header_read, types, type_near}
 use Rattle.golay.specs.Code.{word23}
 use Rattle.image.specs.Image.{header_of, bytes_of, image_of}
 use Rattle.words.specs.Protected.{data_read}
-use Rattle.words.specs.declared.Data.{Data}
+use Rattle.words.specs.Protected.{DataAnswer}
 use Rattle.faults.specs.Faults.{Fault, number, type_unreadable, type_control, type_reserved, type_scrambled, word_unreadable, out_of_step, unreadables, rows_by}
-use Rattle.packet.specs.declared.Reading.{Reading}
+
+-- What a packet is read as: its number, 0 or a refusal's, the place of the word that made it 31, its index, its bytes.
+pub record ReadingAnswer : Type 0 where
+  pub number : ℕ
+  pub place : ℕ
+  pub index : ℕ
+  pub bytes : List ℕ
 
 unfoldable pub type_of : List ℕ → ℕ
 type_of s = type_near types (get_or (bytes_of s) 0 0)
@@ -51,7 +57,7 @@ unfoldable pub filled : ℕ → List ℕ → List ℕ
 filled zero bytes = bytes ++ blank (90 - length bytes)
 filled (suc number) bytes = blank 90
 
-unfoldable pub received : Bool → List ℕ → Reading
+unfoldable pub received : Bool → List ℕ → ReadingAnswer
 received protected s =
     let answer = received_number protected s in
     record {
@@ -62,13 +68,13 @@ received protected s =
     }
 
 -- the three things a packet is read as: refused, plain bytes, protected data
-abbrev pub refused_as : ℕ → ℕ → Reading
+abbrev pub refused_as : ℕ → ℕ → ReadingAnswer
 refused_as number place = record { number = number; place = place; index = 0; bytes = blank 90 }
 
-abbrev pub readable_as : ℕ → List ℕ → Reading
+abbrev pub readable_as : ℕ → List ℕ → ReadingAnswer
 readable_as index bytes = record { number = 0; place = 0; index = index; bytes = filled 0 bytes }
 
-abbrev pub data_as : ℕ → Data → Reading
+abbrev pub data_as : ℕ → DataAnswer → ReadingAnswer
 data_as index d = cond (ltb d.place 30) (refused_as (number word_unreadable) d.place) (readable_as index d.bytes)
 
 -- 4.3.6: header, type byte, useful bytes; the spare bit is 0

@@ -16,12 +16,12 @@ use lib.Dec.{leb, ltb}
 use Rattle.bits.specs.Rows.{row, refusal, given}
 use Rattle.bits.proofs.Rows.{refusal-hit, refusal-miss}
 use Rattle.bare.specs.Bare.{most_flips, header_refused}
-use Rattle.bare.specs.declared.Header.{Header}
+use Rattle.bare.specs.Bare.{HeaderAnswer}
 use Rattle.plain.specs.Plain.{error_patterns, trials, leaving, header_plain}
 use Rattle.plain.proofs.Trying.{none, Flips, found, patterns-only, trial-hit}
 
 -- the answer by a pattern
-unfoldable plain_as : ℕ → ℕ → ℕ → Header
+unfoldable plain_as : ℕ → ℕ → ℕ → HeaderAnswer
 plain_as answer e n = record {
   number = answer;
   address = given answer (bit_xor n e % 1024);

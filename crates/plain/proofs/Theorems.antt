@@ -20,7 +20,7 @@ use Rattle.golay.proofs.Division.{remainder-xor, multiple-remainder}
 use Rattle.golay.proofs.Reading.{corrected-nearest, nearest23-lt}
 use Rattle.golay.proofs.Words.{word23-lt, word23-multiple}
 use Rattle.bare.specs.Bare.{header_read, most_flips, header_within}
-use Rattle.bare.specs.declared.Header.{Header}
+use Rattle.bare.specs.Bare.{HeaderAnswer}
 use Rattle.bare.proofs.Bare.{header-word, header-flips, within-33, within-48, within-49, within-0}
 use Rattle.bare.proofs.Theorems.{header-exactly, within-exactly}
 use Rattle.plain.specs.Plain.{trials, leaving, header_plain}
@@ -70,7 +70,7 @@ module _ (n most : ℕ) (h : n < 2 ^ 23) (l : most ≤ most_flips) where
         ∙ (λ i. record { number = 0; address = bit_xor n e % 1024; index = bit_xor n e / 1024 % 4; flips = ones (xor-cancel n e i) })
 
     same-found : header_plain n most ≡ header_within n most
-    same-found = plain-0 n most h l e refl f ∙ sym read ∙ sym (within-0 n most h l (omega (arith, ap (λ (x : Header). x.flips) read, is.0.few)))
+    same-found = plain-0 n most h l e refl f ∙ sym read ∙ sym (within-0 n most h l (omega (arith, ap (λ (x : HeaderAnswer). x.flips) read, is.0.few)))
 
   -- none is found: the nearest word lies beyond the setting, for otherwise what it differs in would have been tried
   module _ (f : e < none → ⊥) where
@@ -138,7 +138,7 @@ module _ (n most : ℕ) (h : n < 2 ^ 23) (l : most ≤ most_flips) (z : (header_
   within-distance : Distance n (header_within n most).flips ((header_within n most).address + 1024 * (header_within n most).index)
   unfolding i
   within-distance =
-      subst (λ (x : Header). Distance n x.flips (x.address + 1024 * x.index)) (sym reads)
+      subst (λ (x : HeaderAnswer). Distance n x.flips (x.address + 1024 * x.index)) (sym reads)
       (subst (Distance n (flips (word23 i) n)) whole
       (record { information = (header-exactly n h).information; reached = refl; least = nearest-least n h }))
     where
@@ -148,14 +148,14 @@ module _ (n most : ℕ) (h : n < 2 ^ 23) (l : most ≤ most_flips) (z : (header_
 pub plain-distance : (n most : ℕ) → (header_plain n most).number ≡ 0
     → Distance n (header_plain n most).flips ((header_plain n most).address + 1024 * (header_plain n most).index)
 plain-distance n most z =
-    subst (λ (x : Header). Distance n x.flips (x.address + 1024 * x.index)) (sym (plain-is-table n most))
+    subst (λ (x : HeaderAnswer). Distance n x.flips (x.address + 1024 * x.index)) (sym (plain-is-table n most))
     (go (dec_lt n (2 ^ 23)) (dec_le most most_flips))
   where
     z' : (header_within n most).number ≡ 0
-    z' = ap (λ (x : Header). x.number) (sym (plain-is-table n most)) ∙ z
+    z' = ap (λ (x : HeaderAnswer). x.number) (sym (plain-is-table n most)) ∙ z
 
-    number : (x : Header) → header_within n most ≡ x → x.number ≡ 0
-    number x e = ap (λ (y : Header). y.number) (sym e) ∙ z'
+    number : (x : HeaderAnswer) → header_within n most ≡ x → x.number ≡ 0
+    number x e = ap (λ (y : HeaderAnswer). y.number) (sym e) ∙ z'
 
     go : Dec (n < 2 ^ 23) → Dec (most ≤ most_flips)
         → Distance n (header_within n most).flips ((header_within n most).address + 1024 * (header_within n most).index)

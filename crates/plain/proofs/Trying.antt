@@ -4,7 +4,7 @@
 --   found                    what is found is of the list, and leaves a word
 --   patterns-only            the patterns of k flips in b bits: numbers of b bits with k ones
 --   patterns-all             and all of them: where one leaves a word, one is found
---   turn-hit, turn-miss      one turn of the loop over the bits
+--   turn-hit, turn-miss      one turn of the loop over the bits; turn-fits: what it finds is a number of 23 bits
 --   trial-hit, trial-miss    one turn of the loop over the flips
 --   trials-only, trials-all  the same of all patterns with fewer than f flips
 --
@@ -235,11 +235,12 @@ module _ (n k b bits : ℕ) (within : b < bits) (all : bits ≤ 23) (before : le
   abbrev lower : ℕ → ℕ
   lower w = leaving (bit_xor n w) (error_patterns k b)
 
+  lower-fits : lower (2 ^ b) < none → 2 ^ b + lower (2 ^ b) < none
+  lower-fits f =
+      omega (arith, (found (Flips k b) (bit_xor n (2 ^ b)) (error_patterns k b) (patterns-only k b) f).0.bits, pow-suc 2 b, pow_mono {i = suc b} {j = 23} (omega arith))
+
   reached : lower (2 ^ b) < none → leaving n (further k b) < none
-  reached f = subst (λ (v : ℕ). v < none) (sym (set-hit n b (error_patterns k b) (patterns-below k b) f)) fits
-    where
-      fits : 2 ^ b + lower (2 ^ b) < none
-      fits = omega (arith, (found (Flips k b) (bit_xor n (2 ^ b)) (error_patterns k b) (patterns-only k b) f).0.bits, pow-suc 2 b, pow_mono {i = suc b} {j = 23} (omega arith))
+  reached f = subst (λ (v : ℕ). v < none) (sym (set-hit n b (error_patterns k b) (patterns-below k b) f)) (lower-fits f)
 
   module _ (below : ℕ) (e : below ≡ lower (weight b)) where
     e' : below ≡ lower (2 ^ b)
@@ -253,6 +254,9 @@ module _ (n k b bits : ℕ) (within : b < bits) (all : bits ≤ 23) (before : le
       where
         f' : lower (2 ^ b) < none
         f' = subst (λ (v : ℕ). v < none) e' f
+
+    pub turn-fits : below < none → weight b + below < none
+    turn-fits f = omega (arith, is, e', lower-fits (subst (λ (v : ℕ). v < none) e' f))
 
     pub turn-miss : none ≤ below → leaving n (error_patterns (suc k) (b + 1)) ≡ none
     turn-miss f =

@@ -15,7 +15,7 @@ use lib.ListN.{length, get_or}
 use Rattle.bits.specs.Rows.{refusal, given}
 use Rattle.golay.specs.Code.{less, line, divide, remainder}
 use Rattle.bare.specs.Bare.{header_refused}
-use Rattle.bare.specs.declared.Header.{Header}
+use Rattle.bare.specs.Bare.{HeaderAnswer}
 use Rattle.plain.specs.Plain.{error_patterns, trials, leaving, header_plain}
 
 pub counts : map (λ (k : ℕ). length (error_patterns k 23)) (0 ∷ 1 ∷ 2 ∷ 3 ∷ []) ≡ (1 ∷ 23 ∷ 253 ∷ 1771 ∷ [])
@@ -30,7 +30,7 @@ pub order : (error_patterns 2 4 ≡ (3 ∷ 5 ∷ 6 ∷ 9 ∷ 10 ∷ 12 ∷ [])) 
 unfolding error_patterns trials
 order = (refl, refl)
 
-abbrev turned : ℕ → Header
+abbrev turned : ℕ → HeaderAnswer
 turned flips = record { number = 0; address = 17; index = 0; flips = flips }
 
 pub read-each : (map (header_plain 0x75F011) (0 ∷ 3 ∷ []) ≡ (turned 0 ∷ turned 0 ∷ []))

@@ -1,6 +1,6 @@
 -- Laws of the record format.
 --
---   size-two, size_none, size-two-le, size-le    a body's length by its kind, at least, and at most
+--   size_none, size-two-le, size-le    a body's length by its kind, at least, and at most; size-unknown: of no kind
 --   step_end, step-short, step-bad, step_cut, step-record     what stands at a place, by the tests of its bytes
 --   Stands, stands               the same as a choice of four, with what holds of each
 --   Whole, record-whole          what holds of a record: where its body begins and ends
@@ -15,6 +15,9 @@ use native.Mathlib.Decide.{dec_le}
 use borrow.Author.Tests.{lt-ltb, le-ltb, eq-eqb, ne_eqb}
 use lib.Dec.{ltb, eqb, lit≤}
 use lib.ListN.{length, get_or}
+use Rattle.records.specs.Kinds.{kind_number}
+use Rattle.records.specs.declared.kind.Kind.{Kind}
+use Rattle.records.specs.declared.kind.Kind.TheVariants.{Packet, SubframeEnd, Follow, Leave, Ask}
 use Rattle.records.specs.declared.Step.{Step}
 use Rattle.records.specs.declared.Step.TheVariants.{Record, End, More, Bad}
 use Rattle.records.specs.Format.{body_size, good_head, step_at}
@@ -37,14 +40,16 @@ module _ (kind : ℕ) (one : kind ≡ 1 → ⊥) (two : kind ≡ 2 → ⊥) (thr
       (cond (eqb kind 4) 2 (cond (eqb kind 5) 2 65536)))))
       ∙ either (eqb kind 4) (eqb kind 5) 2 65536
 
-  pub size-two : (eqb kind 4 || eqb kind 5) ≡ true → 2 ≡ body_size kind
-  size-two t = sym (size-further ∙ ap (λ (b : Bool). cond b 2 65536) t)
-
   pub size_none : (eqb kind 4 || eqb kind 5) ≡ false → 65536 ≡ body_size kind
   size_none t = sym (size-further ∙ ap (λ (b : Bool). cond b 2 65536) t)
 
   pub size-two-le : 2 ≤ body_size kind
   size-two-le = subst (λ (n : ℕ). 2 ≤ n) (sym size-further) (two-le (eqb kind 4 || eqb kind 5))
+
+-- of a byte that is no kind's
+pub size-unknown : (n : ℕ) → ((kind : Kind) → n ≡ kind_number kind → ⊥) → 65536 ≡ body_size n
+size-unknown n absent =
+    size_none n (absent Packet) (absent SubframeEnd) (absent Follow) (ap₂ ◌||◌ (ne_eqb n 4 (absent Leave)) (ne_eqb n 5 (absent Ask)))
 
 pub size-le : (kind n : ℕ) → n ≡ body_size kind → n ≤ 65536
 unfolding body_size

@@ -1,4 +1,7 @@
 // Records: the format of their bytes, and a place by value that moves forward over them.
+//
+// kind       what a record asks for
+// reading    a reader that keeps the slice
 #![tactic(auto)]
 
 ghost use Rattle.std.specs.Prelude.{◌≡◌, ◌+◌, ◌≤◌, length};
@@ -6,11 +9,14 @@ ghost use Rattle.runs.specs.Numbers.{two_at};
 ghost use Rattle.records.specs.Format.{body_size, good_head, step_at};
 
 use image::Packet;
+pub use kind::Kind;
 
+pub mod kind;
 pub mod reading;
 
-// What stands at a place: a record, with its kind and where its body begins; the end; too few bytes yet; a bad record.
-#[derive(Clone, Copy)]
+// What stands at a place: a record, with its kind's byte and where its body begins; the end; too few bytes yet; a bad record.
+// The kind is the byte: what the definitions say of a record, they say of any byte there.
+#[derive(Clone, Copy, Debug, PartialEq, Eq)]
 pub enum Step {
     Record(u8, usize),
     End,
@@ -18,7 +24,7 @@ pub enum Step {
     Bad,
 }
 
-// Sizes and kinds of records (section 7).
+// Sizes of records (section 7).
 #[derive(Clone, Copy)]
 pub struct Format {}
 
@@ -27,36 +33,21 @@ impl Format {
 
     pub const VERSION: u8 = 1;
 
-    pub const PACKET: u8 = 1;
-
-    pub const SUBFRAME_END: u8 = 2;
-
-    pub const FOLLOW: u8 = 3;
-
-    pub const LEAVE: u8 = 4;
-
-    pub const ASK: u8 = 5;
-
+    // Of no kind: longer than any length can say.
     pub const NONE: usize = 65536;
 }
 
-// How long a kind's body is.
+// How long a kind's body is. It takes the kind's byte, as a record has it: every number is answered.
 pub fn body_size(kind: u8) -> usize
     ensures { result ≡ body_size kind }
 {
-    if kind == Format::PACKET {
-        return Packet::IMAGE;
-    }
-    if kind == Format::SUBFRAME_END {
-        return 0;
-    }
-    if kind == Format::FOLLOW {
-        return 5;
-    }
-    if (kind == Format::LEAVE) | (kind == Format::ASK) {
-        2
-    } else {
-        Format::NONE
+    match Kind::try_from(kind) {
+        Ok(Kind::Packet) => Packet::IMAGE,
+        Ok(Kind::SubframeEnd) => 0,
+        Ok(Kind::Follow) => 5,
+        Ok(Kind::Leave) => 2,
+        Ok(Kind::Ask) => 2,
+        Err(_) => Format::NONE,
     }
 }
 

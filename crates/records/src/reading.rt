@@ -1,4 +1,4 @@
-// The reader that keeps the slice: a struct with the records' bytes and a place in them, and thin functions over the place by value.
+// The reader that keeps the slice: a struct with the records' bytes and a place in them, which its methods hand on by value.
 ghost use Rattle.std.specs.Prelude.{◌≡◌};
 ghost use Rattle.records.specs.Format.{step_at, record_size};
 
@@ -10,39 +10,41 @@ pub struct Reader<'a> {
     pub at: usize,
 }
 
-// A reader at the first record.
-pub fn new<'a>(src: &'a [u8]) -> Reader<'a>
-    ensures { (result.src ≡ src.entry) × (result.at ≡ 0) }
-{
-    Reader { src, at: 0 }
-}
+impl<'a> Reader<'a> {
+    // A reader at the first record.
+    pub fn new(src: &'a [u8]) -> Self
+        ensures { (result.src ≡ src.entry) × (result.at ≡ 0) }
+    {
+        Self { src, at: 0 }
+    }
 
-// What stands at the reader's place.
-pub fn next<'a>(r: Reader<'a>) -> Step
-    ensures { result ≡ step_at r.entry.src.now r.entry.at }
-{
-    crate::next(r.src, r.at)
-}
+    // What stands at the reader's place.
+    pub fn next(self) -> Step
+        ensures { result ≡ step_at self.entry.src.now self.entry.at }
+    {
+        crate::next(self.src, self.at)
+    }
 
-// The same slice, read on from another place.
-pub fn moved<'a>(r: Reader<'a>, at: usize) -> Reader<'a>
-    ensures { (result.src ≡ r.entry.src) × (result.at ≡ at) }
-{
-    Reader { src: r.src, at }
-}
+    // The same slice, read on from another place.
+    pub fn moved(self, at: usize) -> Self
+        ensures { (result.src ≡ self.entry.src) × (result.at ≡ at) }
+    {
+        Self { src: self.src, at }
+    }
 
-// Where the reader stands.
-pub fn place<'a>(r: Reader<'a>) -> usize
-    ensures { result ≡ r.entry.at }
-{
-    r.at
+    // Where the reader stands.
+    pub fn place(self) -> usize
+        ensures { result ≡ self.entry.at }
+    {
+        self.at
+    }
 }
 
 // What stands at a place of a slice, by a reader of its own: for callers that hold a plain slice.
 pub fn looked(s: &[u8], at: usize) -> Step
     ensures { result ≡ step_at s.now at }
 {
-    next(moved(new(s), at))
+    Reader::new(s).moved(at).next()
 }
 
 // How many bytes the record at a place has, head and all; 0 where none stands.

@@ -12,26 +12,43 @@
 // tell     a row's answer against what it awaits, what is printed, and how many rows there were
 #![tactic(auto)]
 
+ghost use Rattle.std.specs.Prelude.{◌<◌, ◌≤◌};
+
+use crate::bytes::Digest;
+
 pub mod bytes;
 pub mod read;
 pub mod tell;
 pub mod text;
 
-// A line after some of its bytes: its number in the text, what its last byte stands in, the word that is open, the digest of its name,
-// or 0 where none came yet; how many arguments it has, known from `=` on, and where its next number goes. Arguments stand from 0 on,
-// what is awaited from WANTED on.
+// What a line's last byte stands in, with the word that is open. Behind a comment's sign, and in a line that is no row, nothing more is
+// read.
+#[derive(Clone, Copy, PartialEq, Eq)]
+pub enum Within {
+    Gap,
+    Name(Digest),
+    Decimal(u64),
+    Hex(u64),
+    Comment,
+    Bad,
+}
+
+// A line after some of its bytes: its number in the text, what its last byte stands in, the digest of its name; how many arguments it
+// has, known from `=` on, and where its next number goes. Arguments stand from 0 on, what is awaited from WANTED on.
+// The name stays a digest, as what is printed may not change: names of one digest are one name.
+// The numbers stay an array with lengths beside it: there is no heap.
 #[derive(Clone, Copy)]
 pub struct Row {
     pub line: u64,
-    pub within: u8,
-    pub word: u64,
-    pub name: u64,
+    pub within: Within,
+    pub name: Option<Digest>,
     pub args: usize,
     pub next: usize,
     pub values: [u64; 24],
 }
 
-// What a row's call answers: how many arguments it takes, how many numbers it gives, and these, with 0 behind them.
+// What a row's call answers: how many arguments it takes, how many numbers it gives, and these, with 0 behind them. A name that is no
+// call's has no answer. The numbers stay an array with a length beside it: there is no heap.
 #[derive(Clone, Copy)]
 pub struct Answer {
     pub args: usize,
@@ -49,58 +66,58 @@ impl Row {
 
     pub const BYTE: u64 = 256;
 
-    // What a byte stands in. From COMMENT on nothing more of a line is read; a line that is no row is BAD.
-    pub const GAP: u8 = 0;
-
-    pub const NAME: u8 = 1;
-
-    pub const DECIMAL: u8 = 2;
-
-    pub const HEX: u8 = 3;
-
-    pub const COMMENT: u8 = 4;
-
-    pub const BAD: u8 = 5;
-
     // A line before its first byte.
     pub fn new(line: u64) -> Self {
         Self {
             line,
-            within: Self::GAP,
-            word: 0,
-            name: 0,
+            within: Within::Gap,
+            name: None,
             args: 0,
             next: 0,
             values: [0; 24],
         }
     }
+
+    // Whether this is the row's name.
+    pub fn is(self, name: &str) -> bool {
+        self.name == Some(Digest::of(name.as_bytes()))
+    }
+
+    // An argument of 32 bits.
+    pub fn wide(self, place: usize) -> u32
+        requires { place < 24 }
+    {
+        (self.values[place] % Self::WIDE) as u32
+    }
+
+    // An argument of 8 bits.
+    pub fn byte(self, place: usize) -> u8
+        requires { place < 24 }
+    {
+        (self.values[place] % Self::BYTE) as u8
+    }
 }
 
 impl Answer {
-    // Of a name that is no call's: no row has so many arguments.
-    pub const UNKNOWN: usize = 99;
-
-    pub fn one(args: usize, value: u64) -> Self {
+    pub fn new<const N: usize>(args: usize, numbers: [u64; N]) -> Self
+        requires { N ≤ 8 }
+    {
+        let mut values = [0; 8];
+        values[..N].copy_from_slice(&numbers);
         Self {
             args,
-            len: 1,
-            values: [value, 0, 0, 0, 0, 0, 0, 0],
+            len: N,
+            values,
         }
     }
 
-    pub fn two(args: usize, number: u8, value: u64) -> Self {
-        Self {
-            args,
-            len: 2,
-            values: [number as u64, value, 0, 0, 0, 0, 0, 0],
-        }
+    // Of a row that changes bytes: their digest.
+    pub fn whole(args: usize, bytes: &[u8]) -> Self {
+        Self::new(args, [Digest::of(bytes).into()])
     }
 
-    pub fn unknown() -> Self {
-        Self {
-            args: Self::UNKNOWN,
-            len: 0,
-            values: [0; 8],
-        }
+    // Of a call that may change bytes: its number, and their digest.
+    pub fn behind(args: usize, number: u8, bytes: &[u8]) -> Self {
+        Self::new(args, [number.into(), Digest::of(bytes).into()])
     }
 }

@@ -1,13 +1,12 @@
 -- Numbers of four and of eight bytes in a run, lowest byte first. `Below 256 s` says that each of s is a byte.
 --
---   four-sets                      four stores in a row are a put
 --   four-length, four_below        four bytes
 --   four_at-part                    the number at a place is that of the part there
 --   four_at-lt                      it has four bytes
 --   four_at-four, four_at-put, four-four_at     each of the two undoes the other
---   gathered, spread               shifts and masks make a number of four bytes, and four bytes of a number
+--   four-written, four_at-read     what the library writes and reads
 --   eight-length, eight-below, eight_at-part, eight_at-eight     the same for eight bytes
---   eight-put                      the two halves of a number, put one after the other
+--   eight-written, eight_at-read
 --
 -- Assumes nothing.
 use mathlib.Core.Path.{◌≡◌, refl, sym, ap, ap₂, ◌∙◌}
@@ -15,24 +14,14 @@ use mathlib.Core.List.{List, [], ◌∷◌, ◌++◌}
 use Prim.Native.Nat.{ℕ, zero, suc, ◌+◌, ◌*◌, ◌/◌, ◌%◌, ◌^◌, ◌≤◌, ◌<◌}
 use native.Mathlib.Omega.{arith}
 use native.Mathlib.Nat.{add-zero, add_assoc}
-use lib.Bits.{bit_and, bit_or, and_mask}
 use lib.Dec.{lit<, lit≤}
-use lib.ListN.{length, drop, get_or, set}
+use lib.ListN.{length, drop, get_or}
 use lib.Pow.{shr-shr}
-use Rattle.bits.proofs.Runs.{Below, below-cat, below-take, below-drop, or_above}
+use Rattle.bits.proofs.Runs.{Below, below-cat, below-take, below-drop}
+use Rattle.std.specs.Int.{w32, w64, to_le_bytes, from_le_bytes}
 use Rattle.runs.specs.Part.{part, put}
 use Rattle.runs.specs.Numbers.{four, four_at, eight, eight_at}
-use Rattle.runs.proofs.Parts.{part_length, get_d_part, part-put, sets-put, put_next}
-
-pub four-sets : (at a b c d : ℕ) (s : List ℕ) → at + 4 ≤ length s
-    → set (set (set (set s at a) (at + 1) b) (at + 2) c) (at + 3) d ≡ put at 4 (a ∷ b ∷ c ∷ d ∷ []) s
-four-sets at a b c d s h =
-    let one : at + 1 ≡ suc at = omega arith in
-    let two : at + 2 ≡ suc (suc at) = omega arith in
-    let three : at + 3 ≡ suc (suc (suc at)) = omega arith in
-    ap₂ (λ (i j : ℕ). set (set (set (set s at a) i b) j c) (at + 3) d) one two
-    ∙ ap (λ (k : ℕ). set (set (set (set s at a) (suc at) b) (suc (suc at)) c) k d) three
-    ∙ sets-put at (a ∷ b ∷ c ∷ d ∷ []) s h
+use Rattle.runs.proofs.Parts.{part_length, get_d_part, part-put}
 
 -- ---- a number as four bytes
 
@@ -107,27 +96,17 @@ four-four_at at s l h =
     ∙ ap four (four_at-part at 0 4 s (lit≤ tt))
     ∙ four-of (part at 4 s) (part_length at 4 s l) (below-take 4 (drop at s) (below-drop at s h))
 
-pub gathered : (at : ℕ) (s : List ℕ) → Below 256 s
-    → bit_or (bit_or (bit_or (get_or s at 0) ((get_or s (at + 1) 0 * 256) % 4294967296)) ((get_or s (at + 2) 0 * 65536) % 4294967296))
-    ((get_or s (at + 3) 0 * 16777216) % 4294967296) ≡ four_at at s
-unfolding four_at
-gathered at s h =
-    let a = get_or s at 0 in
-    let b = get_or s (at + 1) 0 in
-    let c = get_or s (at + 2) 0 in
-    let d = get_or s (at + 3) 0 in
-    ap (λ (x : ℕ). bit_or (bit_or x ((c * 65536) % 4294967296)) ((d * 16777216) % 4294967296))
-    (or_above 8 8 32 a b (h at) (h (at + 1)) (lit≤ tt))
-    ∙ ap (λ (x : ℕ). bit_or x ((d * 16777216) % 4294967296))
-    (or_above 8 16 32 (a + 256 * b) c (omega (arith, h at, h (at + 1))) (h (at + 2)) (lit≤ tt))
-    ∙ or_above 8 24 32 (a + 256 * b + 65536 * c) d (omega (arith, h at, h (at + 1), h (at + 2))) (h (at + 3)) (lit≤ tt)
-
-pub spread : (n : ℕ) → n < 2 ^ 32
-    → bit_and n 255 ∷ bit_and (n / 256) 255 ∷ bit_and (n / 65536) 255 ∷ n / 16777216 ∷ [] ≡ four n
+pub four-written : (n : ℕ) → to_le_bytes w32 n ≡ four n
 unfolding four
-spread n h =
-    let top : n / 16777216 ≡ n / 16777216 % 256 = omega arith in
-    λ i. and_mask n 8 i ∷ and_mask (n / 256) 8 i ∷ and_mask (n / 65536) 8 i ∷ top i ∷ []
+four-written n = refl
+
+pub four_at-read : (at : ℕ) (s : List ℕ) → from_le_bytes w32 (part at 4 s) ≡ four_at at s
+unfolding four_at
+four_at-read at s =
+    let place : (k : ℕ) → k < 4 → get_or (part at 4 s) k 0 ≡ get_or s (at + k) 0 = λ k. get_d_part at 4 k s in
+    let read : from_le_bytes w32 (part at 4 s)
+    ≡ get_or (part at 4 s) 0 0 + get_or (part at 4 s) 1 0 * 256 + get_or (part at 4 s) 2 0 * 65536 + get_or (part at 4 s) 3 0 * 16777216 = refl in
+    read ∙ omega (arith, place 0 (lit< tt), place 1 (lit< tt), place 2 (lit< tt), place 3 (lit< tt), ap (λ (x : ℕ). get_or s x 0) (add-zero at))
 
 -- ---- eight bytes
 
@@ -183,9 +162,19 @@ eight_at-eight n h =
     high n (n / 2 ^ 32) ∙ four_at-four (n / 2 ^ 32) [] (omega arith) in
     ap₂ (λ (x y : ℕ). x + 2 ^ 32 * y) one two ∙ omega arith
 
-pub eight-put : (at n : ℕ) (s mid after : List ℕ) → at + 8 ≤ length s → mid ≡ put at 4 (four (n % 2 ^ 32)) s
-    → after ≡ put (at + 4) 4 (four (n / 2 ^ 32)) mid → after ≡ put at 8 (eight n) s
-unfolding eight
-eight-put at n s mid after l below above =
-    above ∙ ap (λ (x : List ℕ). put (at + 4) 4 (four (n / 2 ^ 32)) x) (below ∙ ap (λ (x : List ℕ). put at 4 x s) (sym (low n)))
-    ∙ put_next at 4 (four n) s 4 (four (n / 2 ^ 32)) (omega arith) (four-length n)
+pub eight-written : (n : ℕ) → to_le_bytes w64 n ≡ eight n
+unfolding eight four
+eight-written n =
+    let q : ℕ = n / 4294967296 in
+    let a : n / 1099511627776 % 256 ≡ q / 256 % 256 = ap (λ (x : ℕ). x % 256) (sym (shr-shr n 32 8)) in
+    let b : n / 281474976710656 % 256 ≡ q / 65536 % 256 = ap (λ (x : ℕ). x % 256) (sym (shr-shr n 32 16)) in
+    let c : n / 72057594037927936 % 256 ≡ q / 16777216 % 256 = ap (λ (x : ℕ). x % 256) (sym (shr-shr n 32 24)) in
+    λ i. n % 256 ∷ n / 256 % 256 ∷ n / 65536 % 256 ∷ n / 16777216 % 256 ∷ q % 256 ∷ a i ∷ b i ∷ c i ∷ []
+
+pub eight_at-read : (at : ℕ) (s : List ℕ) → from_le_bytes w64 (part at 8 s) ≡ eight_at at s
+unfolding eight_at four_at
+eight_at-read at s =
+    let b : ℕ → ℕ = λ k. get_or (part at 8 s) k 0 in
+    let read : from_le_bytes w64 (part at 8 s)
+    ≡ b 0 + b 1 * 256 + b 2 * 65536 + b 3 * 16777216 + b 4 * 4294967296 + b 5 * 1099511627776 + b 6 * 281474976710656 + b 7 * 72057594037927936 = refl in
+    read ∙ omega arith ∙ sym (eight_at-part at s)

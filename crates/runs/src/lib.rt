@@ -4,18 +4,14 @@
 
 ghost use Rattle.std.specs.Prelude.{◌≡◌, ◌+◌, ◌≤◌, length};
 ghost use Rattle.bits.specs.Bits.{blank};
-ghost use Rattle.runs.specs.Part.{put};
+ghost use Rattle.runs.specs.Part.{part, put};
 ghost use Rattle.runs.specs.Numbers.{two_at, four, four_at, eight, eight_at};
 
 // Every byte 0.
 pub fn clear(bytes: &mut [u8])
     ensures { bytes.new ≡ blank (length bytes.old) }
 {
-    let mut k: usize = 0;
-    while k < bytes.len() {
-        bytes[k] = 0;
-        k += 1;
-    }
+    bytes.fill(0);
 }
 
 // Copies a run of bytes to a place.
@@ -23,11 +19,7 @@ pub fn copy(to: &mut [u8], at: usize, from: &[u8])
     requires { at + length from.now ≤ length to.old }
     ensures { to.new ≡ put at (length from.now) from.now to.old }
 {
-    let mut k: usize = 0;
-    while k < from.len() {
-        to[at + k] = from[k];
-        k += 1;
-    }
+    to[at..at + from.len()].copy_from_slice(from);
 }
 
 // Two bytes, highest first.
@@ -35,39 +27,42 @@ pub fn two_at(s: &[u8], at: usize) -> u32
     requires { at + 2 ≤ length s.now }
     ensures { result ≡ two_at at s.now }
 {
-    s[at] as u32 * 256 + s[at + 1] as u32
+    u16::from_be_bytes([s[at], s[at + 1]]) as u32
 }
 
-// A number of four bytes, lowest first.
+// Numbers of four and of eight bytes, lowest first. A trait over the two types would be longer than the two pairs of lines.
 pub fn four_at(s: &[u8], at: usize) -> u32
     requires { at + 4 ≤ length s.now }
     ensures { result ≡ four_at at s.now }
 {
-    s[at] as u32 | (s[at + 1] as u32) << 8 | (s[at + 2] as u32) << 16 | (s[at + 3] as u32) << 24
+    u32::from_le_bytes(array_at(s, at))
 }
 
 pub fn put_four(s: &mut [u8], at: usize, n: u32)
     requires { at + 4 ≤ length s.old }
     ensures { s.new ≡ put at 4 (four n) s.old }
 {
-    s[at] = (n & 255) as u8;
-    s[at + 1] = (n >> 8 & 255) as u8;
-    s[at + 2] = (n >> 16 & 255) as u8;
-    s[at + 3] = (n >> 24) as u8;
+    copy(s, at, &n.to_le_bytes());
 }
 
-// A number of eight bytes, lowest first.
 pub fn eight_at(s: &[u8], at: usize) -> u64
     requires { at + 8 ≤ length s.now }
     ensures { result ≡ eight_at at s.now }
 {
-    four_at(s, at) as u64 + four_at(s, at + 4) as u64 * 4294967296
+    u64::from_le_bytes(array_at(s, at))
 }
 
 pub fn put_eight(s: &mut [u8], at: usize, n: u64)
     requires { at + 8 ≤ length s.old }
     ensures { s.new ≡ put at 8 (eight n) s.old }
 {
-    put_four(s, at, (n % 4294967296) as u32);
-    put_four(s, at + 4, (n / 4294967296) as u32);
+    copy(s, at, &n.to_le_bytes());
+}
+
+// As many bytes as the number wants.
+fn array_at<const N: usize>(s: &[u8], at: usize) -> [u8; N]
+    requires { at + N ≤ length s.now }
+    ensures { result ≡ part at N s.now }
+{
+    s[at..at + N].try_into().unwrap()
 }

@@ -9,6 +9,7 @@ use lib.Seq.{length-take-le}
 use Rattle.bits.proofs.Determined.{determined}
 use Rattle.table.proofs.Determined.{Same, same}
 use Rattle.records.specs.declared.Step.{Step}
+use Rattle.serving.specs.declared.Passed.{Passed}
 use Rattle.serving.specs.Served.{served_answer, served_after, Pass}
 
 pub serve-same : (kind : ℕ) (body t : List ℕ) → Same (served_answer kind body t) (served_after kind body t)
@@ -32,3 +33,9 @@ serve-all-same p r q t u a b m n i j x y =
       sym (length-take-le m a x.room) ∙ ap length answers ∙ length-take-le n b y.room,
       determined x.place y.place,
     )
+
+-- and so is the struct that tells where it came
+pub passed-same : (p : Pass) (r q : Passed) (t u a b : List ℕ) → Allowed p r.last t a r.served r.at → Allowed p q.last u b q.served q.at → r ≡ q
+passed-same p r q t u a b x y =
+    let same = serve-all-same p r.last q.last t u a b r.served q.served r.at q.at x y in
+    λ i. record { last = same.0 i; served = same.3 i; at = same.4 i }

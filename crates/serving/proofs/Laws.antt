@@ -1,7 +1,8 @@
 -- Laws of serving records.
 --
---   served-kind, served-ask      one record's call, by its kind
---   Stops, pass-stop, pass_on    a pass stops, or serves a record and goes on behind it
+--   As, taken-as                 a kind's byte, by the kind that it is taken for
+--   served-ask                   one record's call, where it is ask
+--   Stops, stops-there, pass-stop, pass_on    a pass stops, or serves a record and goes on behind it
 --   Waits                        it stops, and more bytes may come
 --   pass-enough                  a pass that may serve as many records as there are bytes comes to the end, however many more it may
 --   passed, passed_on            such a pass: its first record and the rest
@@ -9,7 +10,7 @@
 --   ahead, loop-turn, loop-end   answers already given: the loop's turn and its end
 --
 -- Assumes nothing.
-use mathlib.Core.Path.{◌≡◌, sym, ap, ◌∙◌}
+use mathlib.Core.Path.{◌≡◌, refl, sym, ap, ◌∙◌, subst}
 use mathlib.Core.Bool.{Bool, false, cond}
 use mathlib.Core.List.{List, [], ◌∷◌, ◌++◌, append-nil}
 use Prim.Native.Nat.{ℕ, zero, suc, ◌+◌, ◌-◌, ◌≤◌, ◌<◌}
@@ -21,6 +22,12 @@ use lib.Seq.{append_snoc, take-suc-set}
 use Rattle.runs.specs.Part.{part}
 use Rattle.runs.proofs.Parts.{part_length}
 use Rattle.asking.specs.Asking.{asked}
+use Rattle.std.specs.Prelude.{Result, Ok, Err}
+use Rattle.std.specs.Result.{result_unwrap_or}
+use Rattle.records.specs.Kinds.{kind_number, HasNumber}
+use Rattle.records.specs.declared.kind.Kind.{Kind}
+use Rattle.records.specs.declared.kind.Kind.TheVariants.{Packet, SubframeEnd, Follow, Leave, Ask}
+use Rattle.records.specs.declared.kind.UnknownKind.{UnknownKind}
 use Rattle.records.specs.declared.Step.{Step}
 use Rattle.records.specs.declared.Step.TheVariants.{Record, End, More, Bad}
 use Rattle.runs.specs.Numbers.{two_at}
@@ -30,16 +37,30 @@ use Rattle.serving.specs.Served.{served_answer, served_after, Pass, stopped, beh
 
 -- ---- one record's call
 
+-- what is known of a kind's byte, where a byte of no kind is taken for ask's
+abbrev pub As : ℕ → Kind → Type 0
+As n Packet = n ≡ 1
+As n SubframeEnd = n ≡ 2
+As n Follow = n ≡ 3
+As n Leave = n ≡ 4
+As n Ask = (n ≡ 1 → ⊥) × (n ≡ 2 → ⊥) × (n ≡ 3 → ⊥) × (n ≡ 4 → ⊥)
+
+pub taken-as : (n : ℕ) (r : Result Kind UnknownKind) (kind : Kind) → HasNumber n r → kind ≡ result_unwrap_or r Ask → As n kind
+taken-as n (Ok k) kind h e = subst (As n) (sym e) (go k h)
+  where
+    go : (k : Kind) → n ≡ kind_number k → As n k
+    go Packet h = h
+    go SubframeEnd h = h
+    go Follow h = h
+    go Leave h = h
+    go Ask h = (λ q. omega (arith, h, q), λ q. omega (arith, h, q), λ q. omega (arith, h, q), λ q. omega (arith, h, q))
+taken-as n (Err unknown) kind h e = subst (As n) (sym e) (h Packet, h SubframeEnd, h Follow, h Leave)
+
 fifth : {A : Type 0} {a b c d : Bool} (v w x y z : A) → a ≡ false → b ≡ false → c ≡ false → d ≡ false
     → cond a v (cond b w (cond c x (cond d y z))) ≡ z
 fifth v w x y z e f g h = λ i. cond (e i) v (cond (f i) w (cond (g i) x (cond (h i) y z)))
 
 module _ (kind : ℕ) (b t : List ℕ) (r : ℕ) (u : List ℕ) where
-  -- a kind by another number of it
-  pub served-kind : (k : ℕ) → kind ≡ k → (r ≡ served_answer k b t) × (u ≡ served_after k b t)
-      → (r ≡ served_answer kind b t) × (u ≡ served_after kind b t)
-  served-kind k e q = (q.0 ∙ ap (λ (x : ℕ). served_answer x b t) (sym e), q.1 ∙ ap (λ (x : ℕ). served_after x b t) (sym e))
-
   pub served-ask : (kind ≡ 1 → ⊥) → (kind ≡ 2 → ⊥) → (kind ≡ 3 → ⊥) → (kind ≡ 4 → ⊥) → r ≡ (asked t (two_at 0 b)).number → u ≡ t
       → (r ≡ served_answer kind b t) × (u ≡ served_after kind b t)
   unfolding served_answer served_after
@@ -64,6 +85,12 @@ Stops (Record kind body) = ⊥
 Stops End = Unit
 Stops More = Unit
 Stops Bad = Unit
+
+pub stops-there : (x : Step) → ((kind body : ℕ) → x ≡ Record kind body → ⊥) → Stops x
+stops-there (Record kind body) h = h kind body refl
+stops-there End h = tt
+stops-there More h = tt
+stops-there Bad h = tt
 
 -- the pass behind a record
 abbrev pub further : ℕ → List ℕ → List ℕ → ℕ → ℕ → Pass
@@ -151,13 +178,13 @@ module _ (p : Pass) (s t given : List ℕ) (count place : ℕ) (inv : p ≡ ahea
       ∙ ap (λ (x : List ℕ). ahead x rest) (sym more)
 
   pub loop-end : (x : Step) → Stops x → step_at s place ≡ x → count ≤ length given → place ≤ length s
-      → (x ≡ p.last) × ((t ≡ p.state) × ((take count given ≡ p.answers)
-      × ((count ≤ length given) × ((place ≡ p.at) × (place ≤ length s)))))
+      → (x ≡ p.last) × (t ≡ p.state) × (take count given ≡ p.answers) × (count ≤ length given) × (place ≡ p.at) × (place ≤ length s)
   loop-end x q stood room within =
       let e : p ≡ ahead (take count given) (stopped t place x) = inv ∙ ap (ahead (take count given)) (pass-stop s place t (length s) x q stood) in (
         sym (ap (λ (y : Pass). y.last) e),
-        (
-          sym (ap (λ (y : Pass). y.state) e),
-          (sym (ap (λ (y : Pass). y.answers) e ∙ append-nil (take count given)), (room, (sym (ap (λ (y : Pass). y.at) e), within))),
-        ),
+        sym (ap (λ (y : Pass). y.state) e),
+        sym (ap (λ (y : Pass). y.answers) e ∙ append-nil (take count given)),
+        room,
+        sym (ap (λ (y : Pass). y.at) e),
+        within,
       )

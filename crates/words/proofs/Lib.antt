@@ -1,3 +1,4 @@
+pub mod Determined
 pub mod Each
 pub mod Packing
 pub mod Vectors

@@ -1,1 +1,2 @@
 pub mod Protected
+pub mod Told

@@ -12,8 +12,17 @@
 use Rattle.std.specs.Prelude.{cond, List, [], ◌∷◌, map, ℕ, suc, ◌+◌, leb, ltb}
 use Rattle.bits.specs.Bits.{flips, sent, numbers_in, blank}
 use Rattle.golay.specs.Code.{word24, nearest}
-use Rattle.words.specs.declared.Data.{Data}
-use Rattle.words.specs.declared.Words.{Words}
+
+-- What thirty words, and 90 bytes, are read as.
+pub record WordsAnswer : Type 0 where
+  pub place : ℕ
+  pub flips : ℕ
+  pub informations : List ℕ
+
+pub record DataAnswer : Type 0 where
+  pub place : ℕ
+  pub flips : ℕ
+  pub bytes : List ℕ
 
 unfoldable pub protected : List ℕ → List ℕ
 protected bytes = numbers_in 8 90 (sent 24 (map word24 (numbers_in 12 30 (sent 8 bytes))))
@@ -36,14 +45,14 @@ unfoldable pub data_of : List ℕ → List ℕ
 data_of is = numbers_in 8 45 (sent 12 is)
 
 -- the place of the first that cannot be read, 30 where all can; where one cannot, flips and informations are 0
-unfoldable pub words_read : List ℕ → Words
+unfoldable pub words_read : List ℕ → WordsAnswer
 words_read ns =
     let place = failed (informations ns) in
     let short = ltb place 30 in
     record { place = place; flips = cond short 0 (turned ns); informations = cond short (blank 30) (informations ns) }
 
 -- the same with the bytes of the informations
-unfoldable pub data_read : List ℕ → Data
+unfoldable pub data_read : List ℕ → DataAnswer
 data_read useful =
     let read = words_read (words_of useful) in
     record { place = read.place; flips = read.flips; bytes = data_of read.informations }

@@ -1,29 +1,32 @@
 // Protected data (7.4.2.1, 8.3.2): 90 bytes are thirty words, 45 bytes are thirty informations of twelve bits.
 #![tactic(auto)]
 
-ghost use Rattle.std.specs.Prelude.{◌≡◌, map, ℕ, ◌<◌, length, get_or};
+ghost use Rattle.std.specs.Prelude.{◌≡◌, map, ℕ, ◌<◌, length, get_or, IfErr};
 ghost use Rattle.bits.specs.Bits.{sent, numbers_in};
 ghost use Rattle.golay.specs.Code.{word24};
 ghost use Rattle.words.specs.Protected.{protected, words_of, data_of, data_read, words_read};
+ghost use Rattle.words.specs.Told.{told_words, told_data};
 
 use bare::Word;
 
-// What 90 protected bytes are read as: the place of the first word that cannot be read, 30 where all can; the flips of
-// all words; the 45 bytes. Flips and bytes are 0 where a word cannot be read.
+// What 90 protected bytes are read as: the flips of all words, and the 45 bytes.
 #[derive(Clone, Copy)]
 pub struct Data {
-    pub place: u8,
     pub flips: u8,
     pub bytes: [u8; Data::BYTES],
 }
 
-// What the words are read as: the place of the first that cannot be read, 30 where all can; the flips of all; their
-// informations. Flips and informations are 0 where one cannot be read.
+// What the words are read as: the flips of all, and their informations.
 #[derive(Clone, Copy)]
 pub struct Words {
-    pub place: u8,
     pub flips: u8,
     pub informations: [u16; Words::COUNT],
+}
+
+// The place of the first word that cannot be read.
+#[derive(Clone, Copy)]
+pub struct Unreadable {
+    pub place: u8,
 }
 
 impl Words {
@@ -38,26 +41,23 @@ impl Words {
 
 impl Data {
     pub const BYTES: usize = 3 * Words::PAIRS;
-
-    // The place that says that every word can be read.
-    pub const ALL: u8 = 30;
 }
 
 // What 90 protected bytes are read as.
-pub fn unprotect(useful: &[u8]) -> Data
+pub fn unprotect(useful: &[u8]) -> Result<Data, Unreadable>
     requires { length useful.now ≡ 90 }
-    ensures { result ≡ data_read useful.now }
+    ensures value { told_data result ≡ data_read useful.now }
+    ensures place { IfErr result (λ e. e.place < 30) }
 {
-    let words = read(useful);
+    let words = read(useful)?;
     let informations = words.informations;
-    Data {
-        place: words.place,
+    Ok(Data {
         flips: words.flips,
         bytes: gathered(informations),
-    }
+    })
 }
 
-// Word w of 90 bytes: three bytes, lowest first.
+// Word w of 90 bytes: three bytes, lowest first. With `from_le_bytes` the compiler loads each byte alone.
 fn word(useful: &[u8], w: usize) -> u32
     requires useful_len { length useful.now ≡ 90 }
     requires w_bound { w < 30 }
@@ -68,32 +68,26 @@ fn word(useful: &[u8], w: usize) -> u32
 }
 
 // The words one by one, up to the first that cannot be read.
-fn read(useful: &[u8]) -> Words
+fn read(useful: &[u8]) -> Result<Words, Unreadable>
     requires { length useful.now ≡ 90 }
-    ensures { result ≡ words_read (words_of useful.now) }
+    ensures value { told_words result ≡ words_read (words_of useful.now) }
+    ensures place { IfErr result (λ e. e.place < 30) }
 {
     let mut flips: u8 = 0;
     let mut informations = [0u16; Words::COUNT];
-    let mut w: usize = 0;
-    while w < Words::COUNT {
+    for w in 0..Words::COUNT {
         let one = bare::judged(word(useful, w));
         let turned = one / Word::INFORMATIONS;
         if Word::CORRECTED < turned {
-            return Words {
-                place: w as u8,
-                flips: 0,
-                informations: [0; Words::COUNT],
-            };
+            return Err(Unreadable { place: w as u8 });
         }
         flips = flips + turned as u8;
         informations[w] = (one % Word::INFORMATIONS) as u16;
-        w += 1;
     }
-    Words {
-        place: Data::ALL,
+    Ok(Words {
         flips,
         informations,
-    }
+    })
 }
 
 // The 45 bytes of thirty informations: two informations are three bytes.
@@ -102,14 +96,12 @@ fn gathered(informations: [u16; Words::COUNT]) -> [u8; Data::BYTES]
     ensures { result ≡ data_of informations }
 {
     let mut bytes = [0u8; Data::BYTES];
-    let mut v: usize = 0;
-    while v < Words::PAIRS {
+    for v in 0..Words::PAIRS {
         let a = informations[v * 2];
         let b = informations[v * 2 + 1];
         bytes[v * 3] = (a & 255) as u8;
         bytes[v * 3 + 1] = (a >> 8) as u8 | ((b & 15) << 4) as u8;
         bytes[v * 3 + 2] = (b >> 4) as u8;
-        v += 1;
     }
     bytes
 }
@@ -128,14 +120,12 @@ fn segments(bytes: &[u8]) -> [u16; Words::COUNT]
     ensures { result ≡ numbers_in 12 30 (sent 8 bytes.now) }
 {
     let mut informations = [0u16; Words::COUNT];
-    let mut v: usize = 0;
-    while v < Words::PAIRS {
+    for v in 0..Words::PAIRS {
         let a = bytes[v * 3] as u16;
         let b = bytes[v * 3 + 1] as u16;
         let c = bytes[v * 3 + 2] as u16;
         informations[v * 2] = a | (b & 15) << 8;
         informations[v * 2 + 1] = b >> 4 | c << 4;
-        v += 1;
     }
     informations
 }
@@ -146,13 +136,11 @@ fn coded(informations: [u16; Words::COUNT]) -> [u8; Words::BYTES]
     ensures { result ≡ numbers_in 8 90 (sent 24 (map word24 informations)) }
 {
     let mut useful = [0u8; Words::BYTES];
-    let mut w: usize = 0;
-    while w < Words::COUNT {
+    for w in 0..Words::COUNT {
         let n = bare::code::data_word(informations[w] as u32);
         useful[w * 3] = (n & 255) as u8;
         useful[w * 3 + 1] = (n >> 8 & 255) as u8;
         useful[w * 3 + 2] = (n >> 16) as u8;
-        w += 1;
     }
     useful
 }
