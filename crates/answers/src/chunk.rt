@@ -11,7 +11,7 @@ use table::Table;
 // The program's values: a state, the buffer that reads fill, how many bytes are kept at its front, room for the lines that are printed,
 // the number of the next record, and whether it goes on. `going` stands beside the rest, since what is kept and the number are also
 // told of a progress that does not go on.
-#[derive(Drop)]
+#[derive(Clone, Copy)]
 pub struct Progress {
     pub state: [u8; Table::SIZE],
     pub buffer: [u8; 4096],

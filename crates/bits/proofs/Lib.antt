@@ -1,3 +1,4 @@
+pub mod Arms
 pub mod Determined
 pub mod Every
 pub mod Flips

@@ -1,5 +1,5 @@
 // A row's answer against what it awaits, and what is printed: nothing of a row that passes.
-ghost use Rattle.std.specs.Prelude.{◌≡◌, ◌≤◌, true};
+ghost use Rattle.std.specs.Prelude.{◌≡◌, ◌≤◌, length, true};
 ghost use Rattle.rows.specs.Passed.{Same};
 
 use crate::{Answer, Row, Within, text};
@@ -76,7 +76,10 @@ impl Progress {
 }
 
 // The bytes that are lent to a row, after a row to which so many were.
-pub fn lend<'a>(row: Row, before: &mut usize, bytes: &'a mut [u8]) -> &'a mut [u8] {
+pub fn lend<'a>(row: Row, before: &mut usize, bytes: &'a mut [u8]) -> &'a mut [u8]
+    ensures bound { before.new ≤ length bytes.old }
+    ensures len { length result.now ≡ before.new }
+{
     let end = lent(row, *before, bytes.len());
     *before = end;
     &mut bytes[..end]

@@ -14,12 +14,15 @@ pub fn clear(bytes: &mut [u8])
     bytes.fill(0);
 }
 
-// Copies a run of bytes to a place.
+// Copies a run of bytes to a place. A loop, since `copy_from_slice` has C's `memmove` do it where the length is not known, which whoever links
+// the library would have to bring.
 pub fn copy(to: &mut [u8], at: usize, from: &[u8])
     requires { at + length from.now ≤ length to.old }
     ensures { to.new ≡ put at (length from.now) from.now to.old }
 {
-    to[at..at + from.len()].copy_from_slice(from);
+    for k in 0..from.len() {
+        to[at + k] = from[k];
+    }
 }
 
 // Two bytes, highest first.

@@ -1,24 +1,30 @@
 -- The rooms, lent and come back.
 --
 --   empty-lent               the unfinished room, lent and come back as 0
---   keep-lent                the first bytes kept, and the rest of the room come back as 0
+--   keep-read, keep-lent     a byte that is still as it was; the first bytes kept, and the rest of the room come back as 0
 --
 -- Assumes nothing.
 use mathlib.Core.Path.{◌≡◌, refl, sym, ap, ap₂, ◌∙◌}
 use mathlib.Core.List.{List, ◌++◌}
-use Prim.Native.Nat.{ℕ, ◌+◌, ◌-◌, ◌≤◌}
+use Prim.Native.Nat.{ℕ, ◌+◌, ◌-◌, ◌≤◌, ◌<◌}
 use native.Mathlib.Omega.{arith}
-use lib.ListN.{length, take, drop, length-drop}
+use native.Mathlib.Nat.{zero-add}
+use lib.ListN.{length, take, drop, get_or, length-drop}
 use lib.Seq.{paste, length-take-le}
 use Rattle.bits.specs.Bits.{blank}
 use Rattle.runs.specs.Part.{part, put}
 use Rattle.slot.specs.Slot.{head_at, room_size, slot_size, whole_at, unfinished, with_unfinished, with_stored, kept_room}
 use Rattle.runs.proofs.Copying.{paste-put}
-use Rattle.runs.proofs.Parts.{part-part, put-length, put_next}
+use Rattle.runs.proofs.Parts.{part-part, put-length, put_next, get_or-put-before}
 
 pub empty-lent : (s b : List ℕ) → length s ≡ slot_size → b ≡ blank (length (take room_size s)) → (b ++ drop room_size s) ≡ with_unfinished (blank room_size) s
 unfolding with_unfinished put
 empty-lent s b l e = ap (λ (x : List ℕ). x ++ drop room_size s) (e ∙ ap blank (length-take-le room_size s (omega arith)))
+
+pub keep-read : (s b : List ℕ) (k : ℕ) → b ≡ paste s whole_at s k → length s ≡ slot_size → k < room_size → get_or b (0 + k) 0 ≡ get_or s k 0
+keep-read s b k e l h =
+    ap₂ (λ (x : List ℕ) (j : ℕ). get_or x j 0) (e ∙ paste-put s whole_at s k) (zero-add k)
+    ∙ get_or-put-before whole_at k (take k s) s k (omega arith) h
 
 -- a part lent and come back, as a put
 lent-put : (x y : List ℕ) (i j : ℕ) → (take j x ++ (y ++ drop i (drop j x))) ≡ put j i y x

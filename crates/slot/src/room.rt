@@ -13,12 +13,15 @@ pub fn empty(slot: &mut [u8])
     runs::clear(&mut slot[Slot::UNFINISHED..Slot::WHOLE]);
 }
 
-// Moves the first bytes of the unfinished room to the whole group's, with 0 behind them.
+// Moves the first bytes of the unfinished room to the whole group's, with 0 behind them. A loop, since `copy_within` has C's `memcpy` do it,
+// which whoever links the library would have to bring.
 pub fn keep(slot: &mut [u8], len: usize)
     requires slot_len { length slot.old ≡ slot_size }
     requires len_le_room_size { len ≤ room_size }
     ensures { slot.new ≡ with_stored (kept_room len (unfinished slot.old)) slot.old }
 {
-    slot.copy_within(Slot::UNFINISHED..Slot::UNFINISHED + len, Slot::WHOLE);
+    for k in 0..len {
+        slot[Slot::WHOLE + k] = slot[Slot::UNFINISHED + k];
+    }
     runs::clear(&mut slot[Slot::WHOLE + len..Slot::HEAD]);
 }
