@@ -27,7 +27,8 @@ pub fn called(row: Row, map: &mut [u8], field: &mut [u8]) -> Option<Answer> {
     }
 }
 
-// What the writer answers where it refuses, otherwise what the map does. In the loop of `idle` all but the frame count is known beforehand.
+// What the writer answers where it refuses, otherwise what the map does. The hint is for the loop of `idle`, where all but the frame count is
+// known beforehand.
 #[inline(always)]
 fn sent(map: &mut [u8], bytes: &mut [u8], field: Field) -> u8 {
     let number = fields::put(field, Field::SIZE, bytes);

@@ -29,7 +29,8 @@ pub fn called(row: Row, bytes: &mut [u8]) -> Option<Answer> {
     }
 }
 
-// The first bytes of a field become a written one. Where a row writes as many fields as it says, all but the frame count is known beforehand.
+// The first bytes of a field become a written one. The hint is for `mapcalls`' row `idle`, which writes fields in a loop with all but the frame
+// count known beforehand.
 #[inline(always)]
 pub fn put(field: Field, out: usize, bytes: &mut [u8]) -> u8 {
     match bytes.get_mut(..out) {
